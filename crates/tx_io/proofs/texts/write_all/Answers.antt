@@ -1,6 +1,6 @@
 use Rattle.std.proofs.Common.{◌+◌, arith, length-take, length-drop}
-use Rattle.script_source.proofs.StreamLemmas.{appends_on_rest}
-use Rattle.script_source.proofs.stream.write_all.Goals as goal
+use Rattle.tx_io.proofs.Appending.{appends_on_rest}
+use Rattle.tx_io.proofs.texts.write_all.Goals as goal
 
 pub loop-at-preserved : goal.loop-at-preserved
 loop-at-preserved g c =

@@ -1,6 +1,6 @@
 use Rattle.std.proofs.Common.{◌++◌, arith, length-append}
 use Rattle.std.proofs.KnownBytes.{Consumes-trans}
-use Rattle.script_source.proofs.stream.read_all.Goals as goal
+use Rattle.tx_io.proofs.texts.read_all.Goals as goal
 
 pub returns-in_err-read_more-clause-amount : goal.returns-in_err-read_more-clause-amount
 returns-in_err-read_more-clause-amount g c =

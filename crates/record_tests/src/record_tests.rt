@@ -1,10 +1,10 @@
 // Bytes that were worked out by hand from the format.
 ghost use Rattle.std.specs.Prelude.{◌≤◌, ◌<◌, ◌^◌};
 
-use super::*;
 use std::alloc::Global;
 use std::test::Fail;
 use tx_events::{Counters, FullMulti, FullXid, IdList, Member, MemberList, Mode, Rec};
+use wal_records::{ReadRec, is_lawful, read_rec, rec_length, write_rec};
 
 fn id(number: u64) -> Result<FullXid, Fail> {
     Ok(FullXid::new(number).ok_or("an id")?)

@@ -1,5 +1,5 @@
 // The rows of the format, and the counts that another program of the same format printed.
-use crate::{Summary, generate};
+use script_gen::{Summary, generate};
 use session_lang::{Item, Items, Script};
 use std::alloc::Global;
 use std::test::Fail;

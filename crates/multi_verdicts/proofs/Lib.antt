@@ -1,0 +1,10 @@
+pub mod Nearness
+pub mod Parted
+pub mod Rising
+pub mod Judging
+pub mod Carrying
+pub mod BaseIds
+pub mod Stays
+pub mod Unseen
+pub mod Between
+pub mod GenPlaces

@@ -8,3 +8,6 @@ pub mod Stays
 pub mod Unseen
 pub mod Between
 pub mod GenPlaces
+pub mod Zips
+pub mod Answering
+pub mod Listing

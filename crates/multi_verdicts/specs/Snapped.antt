@@ -29,13 +29,13 @@ pub record LifeEvents : Type 0 where
   pub first : ℕ
   pub told : By → Option SnapData
 
--- the snapshot that is taken at this place, if one is
+-- the snapshot at this place, which has this mark if it is one
+abbrev pub taken_here : ℕ → Option (Option SnapMark) → Option Taken
+taken_here place (Some (Some mark)) = Some (record { place = place; xmax = mark.xmax })
+taken_here place mark = None
+
 abbrev pub taken_at : List (Option SnapMark) → ℕ → Option Taken
-taken_at snaps place = marked (slice_get snaps place)
-  where
-    marked : Option (Option SnapMark) → Option Taken
-    marked (Some (Some mark)) = Some (record { place = place; xmax = mark.xmax })
-    marked mark = None
+taken_at snaps place = taken_here place (slice_get snaps place)
 
 -- ---- which of them
 

@@ -107,7 +107,7 @@ module _ (base : Counters) (h : List Event) (of : Telling) (by : By) (member : M
   -- with each answer of whether it is below 2^32, and of whether an oldest id past it may be carried
   old_cases : (small carried : Bool) → (small ≡ true → id < 2 ^ 32) → (small ≡ false → 2 ^ 32 ≤ id) → (carried ≡ true → IsCarriedPast base h of.round id) → (IsCarriedPast base h of.round id → carried ≡ true)
       → AreBetween (IsToldBy base h of member (record { id = id; mode = mode; verdict = verdicts.TooOld })) taken (record { from = cond small 0 below; end = cond carried end (cond small below 0) })
-  old_cases true true lt ge yes only = record {
+  old_cases true true lt ge may only = record {
     within = λ i l m. let a = near.within in omega arith;
     each = λ i t e. (
       λ s. (
@@ -120,11 +120,11 @@ module _ (base : Counters) (h : List Event) (of : Telling) (by : By) (member : M
       λ z. (old_each i t).1
           (⊎_elim
           (λ (u : i < below). inr (of_below i t e u, lt refl))
-          (λ (u : below ≤ i). inl (of_end i t e z.1, from_below i t e u, yes refl))
+          (λ (u : below ≤ i). inl (of_end i t e z.1, from_below i t e u, may refl))
           (cases_lt i below)),
     );
   }
-  old_cases true false lt ge yes only = record {
+  old_cases true false lt ge may only = record {
     within = λ i l m. let a = far.within in omega arith;
     each = λ i t e. (
       λ s. (
@@ -137,17 +137,17 @@ module _ (base : Counters) (h : List Event) (of : Telling) (by : By) (member : M
       λ z. (old_each i t).1 (inr (of_below i t e z.1, lt refl)),
     );
   }
-  old_cases false true lt ge yes only = record {
+  old_cases false true lt ge may only = record {
     within = λ i l m. let a = near.within in omega arith;
     each = λ i t e. (
       λ s. ⊎_elim
           (λ (z : (snapshot_xmax base.next (take t.place h) ≤ id + 2 ^ 31) × (id < snapshot_xmax base.next (take t.place h) + 2 ^ 31) × IsCarriedPast base h of.round id). (not_below i t e z.1, before_end i t e z.0))
           (λ (z : (snapshot_xmax base.next (take t.place h) + 2 ^ 31 ≤ id) × (id < 2 ^ 32)). let a = z.1 in let b = ge refl in absurd (omega arith))
           ((old_each i t).0 s),
-      λ z. (old_each i t).1 (inl (of_end i t e z.1, from_below i t e z.0, yes refl)),
+      λ z. (old_each i t).1 (inl (of_end i t e z.1, from_below i t e z.0, may refl)),
     );
   }
-  old_cases false false lt ge yes only = record {
+  old_cases false false lt ge may only = record {
     within = λ i l m. absurd (omega arith);
     each = λ i t e. (
       λ s. ⊎_elim

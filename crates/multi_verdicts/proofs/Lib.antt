@@ -3,8 +3,6 @@ pub mod Parted
 pub mod Rising
 pub mod Judging
 pub mod Carrying
-pub mod BaseIds
-pub mod Stays
 pub mod Unseen
 pub mod Between
 pub mod GenPlaces

@@ -1,7 +1,11 @@
 -- The snapshots at a command's places.
 use Rattle.std.proofs.Common.{◌≡◌, ℕ, suc, zero, ◌+◌, ◌<◌, ◌≤◌, ◌↔◌, List, [], ◌∷◌, ◌++◌, Option, Some, None, Bool, true, false, cond, ◌==◌, length, get_or, map, take, inl, inr, refl, ap, sym, subst, ◌∙◌, arith, ⊎_elim}
-use Rattle.std.specs.List.{AllByRecursion, Contains, cons_option, filter_map, slice_get}
+use Rattle.std.specs.Global.{Vec}
+use Rattle.std.specs.List.{AllByRecursion, Contains, HoldsAt, cons_option, filter_map, slice_get}
 use Rattle.std.specs.Option.{option_map}
+use Rattle.std.proofs.Math.ListN.{get_or-append}
+use Rattle.std.proofs.Math.Seq.{get_or-append_seam}
+use Rattle.std.proofs.lemmas.Bool.{cases_lt}
 use Rattle.std.proofs.lemmas.List.{take_more}
 use Rattle.std.proofs.lemmas.List.Elements.{filter_map-append}
 use Rattle.std.proofs.lemmas.Option.{slice_get-map, slice_get_within}
@@ -15,7 +19,7 @@ use Rattle.tx_events.specs.Snapshots.{snapshot_data, snapshot_xmax}
 use Rattle.tx_events.proofs.Membership.{Has, all_at, contains_has, has_contains, has_filter_map, has_place, place_has}
 use Rattle.life_marks.specs.declared.snaps.SnapMark.{SnapMark}
 use Rattle.life_marks.specs.SnapMarks.{AreSnapMarks, IsMarkOf, IsSnapMark}
-use Rattle.own_events.specs.Lined.{places_from}
+use Rattle.own_events.specs.Lined.{places_from, places_of}
 use Rattle.report_law.specs.Kinds.{IsSnapAt}
 use Rattle.multi_verdicts.specs.declared.taken.Taken.{Taken}
 use Rattle.multi_verdicts.specs.Snapped.{AreTaken, taken_at, taken_here}
@@ -25,6 +29,10 @@ use Rattle.multi_verdicts.specs.Snapped.{AreTaken, taken_at, taken_here}
 pub taken_more : (snaps : List (Option SnapMark)) (places : List ℕ) (n : ℕ) → n < length places → filter_map (taken_at snaps) (take (n + 1) places) ≡ filter_map (taken_at snaps) (take n places) ++ cons_option (taken_at snaps (get_or places n 0)) []
 taken_more snaps places n l =
     ap (λ (t : List ℕ). filter_map (taken_at snaps) t) (take_more places n 0 l) ∙ filter_map-append (taken_at snaps) (take n places) (get_or places n 0 ∷ [])
+
+pub none_here : (o : Option Taken) → ((t : Taken) → o ≡ Some t → ⊥) → cons_option o [] ≡ []
+none_here None never = refl
+none_here (Some t) never = absurd (never t refl)
 
 -- ---- what stands at a place
 
@@ -92,19 +100,20 @@ later snaps least places j t above e =
 
 pub in_order : (snaps : List (Option SnapMark)) (places : List ℕ) → Ascending places → (i j : ℕ) (s t : Taken) → i ≤ j → slice_get (filter_map (taken_at snaps) places) i ≡ Some s → slice_get (filter_map (taken_at snaps) places) j ≡ Some t → s.place ≤ t.place
 in_order snaps [] up i j s t l e f = absurd cc
-in_order snaps (p ∷ places) up i j s t l e f = one (taken_at snaps p) refl i j l e f
+in_order snaps (p ∷ places) up i j s t l e f = one (λ i j l e f. in_order snaps places up.1 i j s t l e f) (taken_at snaps p) refl i j l e f
   where
-    one : (o : Option Taken) → taken_at snaps p ≡ o → (i j : ℕ) → i ≤ j → slice_get (cons_option o (filter_map (taken_at snaps) places)) i ≡ Some s → slice_get (cons_option o (filter_map (taken_at snaps) places)) j ≡ Some t → s.place ≤ t.place
-    one None is i j l e f = in_order snaps places up.1 i j s t l e f
-    one (Some q) is zero zero l e f = let same : s ≡ t = cc in let z : s.place ≡ t.place = ap (λ (x : Taken). x.place) same in omega arith
-    one (Some q) is zero (suc j) l e f =
+    one : ((i j : ℕ) → i ≤ j → slice_get (filter_map (taken_at snaps) places) i ≡ Some s → slice_get (filter_map (taken_at snaps) places) j ≡ Some t → s.place ≤ t.place)
+        → (o : Option Taken) → taken_at snaps p ≡ o → (i j : ℕ) → i ≤ j → slice_get (cons_option o (filter_map (taken_at snaps) places)) i ≡ Some s → slice_get (cons_option o (filter_map (taken_at snaps) places)) j ≡ Some t → s.place ≤ t.place
+    one rest None is i j l e f = rest i j l e f
+    one rest (Some q) is zero zero l e f = let same : s ≡ t = cc in let z : s.place ≡ t.place = ap (λ (x : Taken). x.place) same in omega arith
+    one rest (Some q) is zero (suc j) l e f =
         let k = marked snaps p q is in
         let same : q ≡ s = cc in
         let here : s.place ≡ p = ap (λ (x : Taken). x.place) (sym same ∙ k.is) in
         let r = later snaps p places j t up.0 f in
         omega arith
-    one (Some q) is (suc i) zero l e f = absurd (omega arith)
-    one (Some q) is (suc i) (suc j) l e f = in_order snaps places up.1 i j s t (omega arith) e f
+    one rest (Some q) is (suc i) zero l e f = absurd (omega arith)
+    one rest (Some q) is (suc i) (suc j) l e f = rest i j (omega arith) e f
 
 -- those of a number ascend
 above : (i n m : ℕ) (ks : List ℕ) → m ≤ n → AllByRecursion (λ y. m ≤ y) (places_from i n ks)
@@ -175,3 +184,17 @@ taken_are first h all told snaps by places front are up own = record {
       let q = has_place (filter_map (taken_at snaps) places) t held in
       (q.0, t, q.1, refl);
 }
+
+-- ---- the lists
+
+abbrev pub AreListed : List (Option SnapMark) → List ℕ → List (Vec Taken) → ℕ → Type 0
+AreListed snaps numbers lists n = (k : ℕ) → k < n → HoldsAt (λ (v : Vec Taken). v.items ≡ filter_map (taken_at snaps) (places_of k numbers)) lists k
+
+pub listed_more : (snaps : List (Option SnapMark)) (numbers : List ℕ) (lists : List (Vec Taken)) (n : ℕ) (v : Vec Taken) → length lists ≡ n → AreListed snaps numbers lists n → v.items ≡ filter_map (taken_at snaps) (places_of n numbers) → AreListed snaps numbers (lists ++ v ∷ []) (n + 1)
+listed_more snaps numbers lists n v size before is k l d = ⊎_elim
+    (λ (u : k < n). ap (λ (w : Vec Taken). w.items) (get_or-append lists (v ∷ []) d k (omega arith)) ∙ before k u d)
+    (λ (u : n ≤ k).
+    let at : k ≡ length lists = omega arith in
+    let here : n ≡ k = omega arith in
+    ap (λ (j : ℕ). (get_or (lists ++ v ∷ []) j d).items) at ∙ ap (λ (w : Vec Taken). w.items) (get_or-append_seam lists v [] d) ∙ is ∙ ap (λ (j : ℕ). filter_map (taken_at snaps) (places_of j numbers)) here)
+    (cases_lt k n)

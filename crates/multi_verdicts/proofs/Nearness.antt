@@ -12,11 +12,11 @@ of_some : (n k : ℕ) (b : Bool) → nat_lt n k ≡ b → k ≤ n → cond b Non
 of_some n k true t l = absurd (grind (arith, nat_tests))
 of_some n k false t l = refl
 
-none_of : (n k : ℕ) (b : Bool) → nat_lt n k ≡ b → cond b (None {A = ℕ}) (Some (n - k)) ≡ None → n < k
+none_of : (n k : ℕ) (b : Bool) → nat_lt n k ≡ b → ◌≡◌ {A = Option ℕ} (cond b None (Some (n - k))) None → n < k
 none_of n k true t e = grind (arith, nat_tests)
 none_of n k false t e = absurd cc
 
-of_none : (n k : ℕ) (b : Bool) → nat_lt n k ≡ b → n < k → cond b (None {A = ℕ}) (Some (n - k)) ≡ None
+of_none : (n k : ℕ) (b : Bool) → nat_lt n k ≡ b → n < k → ◌≡◌ {A = Option ℕ} (cond b None (Some (n - k))) None
 of_none n k true t l = refl
 of_none n k false t l = absurd (grind (arith, nat_tests))
 

@@ -9,7 +9,7 @@ use Rattle.tx_events.specs.Visible.{is_visible}
 use Rattle.multi_verdicts.specs.declared.taken.Taken.{Taken}
 use Rattle.multi_verdicts.specs.Snapped.{AreFirst, AreInHistory}
 use Rattle.multi_verdicts.specs.Telling.{IsUnseen}
-use Rattle.multi_verdicts.proofs.Stays.{hidden_before}
+use Rattle.life_marks.proofs.Stays.{hidden_before}
 
 module _ (base : Counters) (ids : List ℕ) (h : List Event) (id : ℕ) (taken : List Taken) where
   abbrev pub AllUnseen : ℕ → Type 0

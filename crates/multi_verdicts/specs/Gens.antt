@@ -5,7 +5,11 @@ use Rattle.tx_events.specs.declared.multi.Member.{Member}
 use Rattle.tx_events.specs.declared.multi.MultiEvent.{MultiEvent}
 use Rattle.tx_events.specs.declared.multi.MultiEvent.TheVariants as multis
 
--- the event there gives the multixact
+-- the event gives a multixact
+abbrev pub IsGen : MultiEvent → Type 0
+IsGen e = (giver : By) × (multi : ℕ) × (offset : ℕ) × (members : List Member) × (e ≡ multis.Gen giver multi offset members)
+
+-- the event there gives this one
 abbrev pub IsGenAt : List MultiEvent → ℕ → ℕ → Type 0
 IsGenAt h multi p = (giver : By) × (offset : ℕ) × (members : List Member) × (slice_get h p ≡ Some (multis.Gen giver multi offset members))
 

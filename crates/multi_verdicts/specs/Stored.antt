@@ -1,18 +1,20 @@
--- Where the lives before have told the members of the multixacts that the log has recorded.
+-- Where the lives before gave the multixacts that the log has recorded.
 use Rattle.std.specs.Prelude.{◌≡◌, ℕ, ◌<◌, List, Some, Contains, length, map, slice_get}
 use Rattle.std.specs.List.{HoldsAt}
+use Rattle.tx_events.specs.declared.event.By.{By}
 use Rattle.tx_events.specs.declared.multi.Member.{Member}
-use Rattle.tx_events.specs.declared.record.Rec.TheVariants as records
+use Rattle.tx_events.specs.declared.multi.MultiEvent.TheVariants as multis
 use Rattle.tx_events.specs.IdLists.{Ascending}
 use Rattle.tx_model.specs.declared.report.LifeReport.{LifeReport}
 use Rattle.report_law.specs.Begun.{Recorded}
 use Rattle.multi_verdicts.specs.declared.homes.Home.{Home}
 
--- the record there tells these members
+-- the event there gives these members
 pub record IsHome (lives : List LifeReport) (home : Home) (members : List Member) : Type 0 where
   pub report : LifeReport
   pub lived : slice_get lives home.life ≡ Some report
-  pub stands : slice_get report.life.recs home.place ≡ Some (records.Multi home.multi home.offset members)
+  pub by : By
+  pub stands : slice_get report.life.multis home.event ≡ Some (multis.Gen by home.multi home.offset members)
 
 -- each recorded multixact has one home, in the order of their numbers
 pub record AreHomes (lives : List LifeReport) (recorded : List Recorded) (homes : List Home) : Type 0 where

@@ -1,18 +1,18 @@
-//! Where the members of a life's recorded multixacts are told.
+//! Where the multixacts that a life finds recorded were given.
 ghost use Rattle.std.specs.Prelude.{IfSome, IfNone, map};
 ghost use Rattle.tx_events.specs.IdLists.{Ascending};
 ghost use Rattle.multi_verdicts.specs.Stored.{IsMissing, IsPlaceOf};
 
 use tx_events::FullMulti;
 
-/// A multixact that the log has recorded before the life, the offset at which its members begin, and where its record
-/// stands: in which of the lives, counted from 0, and at which place of that life's records.
+/// A multixact that the log has recorded before the life, the offset at which its members begin, and where it was given: in
+/// which of the lives, counted from 0, and by which of that life's multixact events.
 #[derive(Clone, Copy, Debug, PartialEq, Eq)]
 pub struct Home {
     pub multi: FullMulti,
     pub offset: u64,
     pub life: u64,
-    pub place: u64,
+    pub event: u64,
 }
 
 /// Where the multixact stands among these, which ascend. None where it doesn't.

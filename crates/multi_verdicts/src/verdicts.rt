@@ -19,7 +19,7 @@ use crate::taken::Taken;
 use history_places::HistoryPlaces;
 use multi_places::MultiPlaces;
 use std::collections::BTreeSet;
-use tx_events::{FullMulti, Member, MultiEvent, Rec};
+use tx_events::{FullMulti, Member, MultiEvent};
 use tx_model::{LifeReport, MemberVerdict};
 
 /// Whether one of the snapshots tells the verdicts so on these members.
@@ -74,7 +74,7 @@ fn tells_given(
     }
 }
 
-/// Whether they are told so on the members that the record at the multixact's home tells.
+/// Whether they are told so on the members that the event at the multixact's home gives.
 fn tells_at_home(
     places: &HistoryPlaces,
     lives: &[LifeReport],
@@ -91,13 +91,15 @@ fn tells_at_home(
     requires home { (members : List Member) × IsHome lives.now home members }
     ensures { (members : List Member) → IsHome lives.now home members → IsTrue result ↔ AreToldSo places.now.base places.now.events of told.now members }
 {
-    match &lives[home.life as usize].life.recs.items()[home.place as usize] {
-        Rec::Multi { members, .. } => tells(places, committed, taken, to, members.items(), told),
+    match &lives[home.life as usize].life.multis.items()[home.event as usize] {
+        MultiEvent::Gen { members, .. } => {
+            tells(places, committed, taken, to, members.items(), told)
+        }
         _ => false,
     }
 }
 
-/// Whether they are told so on the members that the multixact's record tells.
+/// Whether they are told so on the members of the multixact where the log has recorded it before the life.
 fn tells_recorded(
     places: &HistoryPlaces,
     lives: &[LifeReport],
@@ -181,7 +183,7 @@ fn answers(
 
 /// Whether these are the verdicts on the members of a multixact that the command pins, by the snapshot that its session's
 /// command `number` took: these are all the snapshots that it took. `committed` are the ids that the base has as committed,
-/// `homes` tell where in `lives` the base's multixacts are recorded, `pins` are the places of the command's own multixact
+/// `homes` tell where in `lives` the multixacts were given that the base has as recorded, `pins` are the places of the command's own multixact
 /// events, and its round ends at `to`. Both histories are the legal fronts. Takes, for each of the command's own multixact
 /// events, as many steps as verdicts are told, times the square of the logarithm of the life.
 pub fn are_verdicts(

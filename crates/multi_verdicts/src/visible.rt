@@ -1,18 +1,16 @@
 //! Which snapshots an id wasn't visible to yet.
-ghost use Rattle.std.specs.Prelude.{◌≡◌, ◌==◌, ℕ, ◌≤◌, ◌<◌, List, Some, length, slice_get, take};
+ghost use Rattle.std.specs.Prelude.{◌≡◌, ◌==◌, ℕ, List, length};
 ghost use Rattle.std.specs.BTreeSet.{contains};
 ghost use Rattle.std.specs.List.{list_any};
 ghost use Rattle.std.specs.Ordering.{nat_cmp};
 ghost use Rattle.tx_events.specs.Base.{IsBase};
 ghost use Rattle.tx_events.specs.History.{IsLegal};
-ghost use Rattle.tx_events.specs.Visible.{is_visible};
-ghost use Rattle.multi_verdicts.specs.declared.taken.Taken.{Taken};
 ghost use Rattle.multi_verdicts.specs.Snapped.{AreFirst, AreInHistory};
 ghost use Rattle.multi_verdicts.specs.Telling.{IsUnseen};
 
 use crate::taken::Taken;
-use history_check::HistoryReplay;
 use history_places::HistoryPlaces;
+use life_marks::was_visible;
 use std::collections::BTreeSet;
 use tx_events::FullXid;
 
@@ -22,19 +20,6 @@ pub fn legal(places: &HistoryPlaces)
     ensures base { IsBase places.now.base }
 {
     let _events = places.replay().events();
-}
-
-/// Whether the id was visible at this place. These are the ids that the base has as committed.
-fn was_visible(replay: &HistoryReplay, committed: &BTreeSet<u64>, place: u64, x: FullXid) -> bool
-    ghost ids: { List ℕ }
-    requires known { (y : ℕ) → contains nat_cmp committed.now y ≡ list_any (λ z. z == y) ids }
-    requires place { place ≤ length replay.now.events }
-    ensures { result ≡ is_visible ids (take place replay.now.events) x }
-{
-    if committed.contains(&x.number()) {
-        return true;
-    }
-    replay.was_visible(&[], place, x)
 }
 
 /// How many of the snapshots the id wasn't visible to yet.

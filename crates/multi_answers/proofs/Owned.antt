@@ -11,7 +11,6 @@ use Rattle.tx_events.specs.Limits.{down_to_multi, multi_warn_limit, up_to_multi}
 use Rattle.tx_events.specs.Multis.{AreLegalMultis, BaseOffset, multi_by, next_made, oldest_multi}
 use Rattle.report_law.specs.Kinds.{IsPinAt}
 use Rattle.report_law.specs.MultiLines.{IsMultiWarned, IsPinnedOrNext}
-use Rattle.own_places.specs.declared.own.Own.{Own}
 use Rattle.multi_told.specs.Shapes.{AnyPlace, ArePlacesOf}
 use Rattle.multi_told.proofs.Pinning.{any_place, bound_of, its_by, pin_by, stands_at}
 use Rattle.multi_answers.specs.Own.{GivesLate, PinsOrRaises}
@@ -22,9 +21,9 @@ pins_by : (base : Counters) (all : List MultiEvent) (by : By) (multi p : ℕ) �
 pins_by base all by multi p (inl i) = pin_by all by p i
 pins_by base all by multi p (inr z) = its_by all p (multis.Raise by z.0 z.1) z.2
 
-pub pinned_iff : (base : Counters) (all : List MultiEvent) (by : By) (own : List Own) (multi : ℕ) → ArePlacesOf by (map multi_by all) own → AnyPlace (PinsOrRaises base all by multi) own ↔ IsPinnedOrNext base all by multi
-pinned_iff base all by own multi are =
-    let any = any_place (PinsOrRaises base all by multi) by (map multi_by all) own are (λ p z. pins_by base all by multi p z) in (
+pub pinned_iff : (base : Counters) (all : List MultiEvent) (by : By) (places : List ℕ) (multi : ℕ) → ArePlacesOf by (map multi_by all) places → AnyPlace (PinsOrRaises base all by multi) places ↔ IsPinnedOrNext base all by multi
+pinned_iff base all by places multi are =
+    let any = any_place (PinsOrRaises base all by multi) by (map multi_by all) places are (λ p z. pins_by base all by multi p z) in (
       λ a. let z = any.0 a in ⊎_elim (λ (i : IsPinAt all by z.0). inl (z.0, i))
           (λ (r : (raised offset : ℕ) × (slice_get all z.0 ≡ Some (multis.Raise by raised offset)) × (multi ≡ next_made base.multi (take z.0 all))). inr (z.0, r.0, r.1, r.2, r.3)) z.1,
       λ i. any.1 (⊎_elim (λ (z : (place : ℕ) × IsPinAt all by place). (z.0, inl z.1))
@@ -57,9 +56,9 @@ raise_at base all by its multi p raised offset next e mine is raise next_is =
 late_by : (base : Counters) (all : List MultiEvent) (by : By) (multi p : ℕ) → GivesLate base all by multi p → slice_get (map multi_by all) p ≡ Some by
 late_by base all by multi p z = its_by all p (multis.Gen by multi z.0 z.1) z.2
 
-pub warned_iff : (base : Counters) (all : List MultiEvent) (by : By) (own : List Own) (multi : ℕ) → ArePlacesOf by (map multi_by all) own → AnyPlace (GivesLate base all by multi) own ↔ IsMultiWarned base all by multi
-warned_iff base all by own multi are =
-    let any = any_place (GivesLate base all by multi) by (map multi_by all) own are (λ p z. late_by base all by multi p z) in (
+pub warned_iff : (base : Counters) (all : List MultiEvent) (by : By) (places : List ℕ) (multi : ℕ) → ArePlacesOf by (map multi_by all) places → AnyPlace (GivesLate base all by multi) places ↔ IsMultiWarned base all by multi
+warned_iff base all by places multi are =
+    let any = any_place (GivesLate base all by multi) by (map multi_by all) places are (λ p z. late_by base all by multi p z) in (
       λ a. let z = any.0 a in let g = z.1 in record { place = z.0; offset = g.0; members = g.1; given = g.2; late = g.3 },
       λ i. any.1 (i.place, (i.offset, i.members, i.given, i.late)),
     )

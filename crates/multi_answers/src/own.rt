@@ -7,7 +7,6 @@ ghost use Rattle.multi_told.specs.Shapes.{AnyPlace, ArePlacesOf};
 ghost use Rattle.multi_answers.specs.Own.{Owner, PinsOrRaises};
 
 use given_counts::GivenCounts;
-use own_places::Own;
 use tx_events::{FullMulti, MultiEvent};
 
 /// Whether the command pins at this place, where it has an event, or raises there while this multixact is the next one.
@@ -29,7 +28,7 @@ fn pins_or_raises(counts: &GivenCounts, multis: &[MultiEvent], place: u64, multi
 pub fn is_pinned_or_next(
     counts: &GivenCounts,
     multis: &[MultiEvent],
-    places: &[Own],
+    places: &[u64],
     multi: FullMulti,
 ) -> bool
     ghost o: { Owner }
@@ -44,7 +43,7 @@ pub fn is_pinned_or_next(
 fn is_any_place(
     counts: &GivenCounts,
     multis: &[MultiEvent],
-    places: &[Own],
+    places: &[u64],
     multi: FullMulti,
 ) -> bool
     ghost o: { Owner }
@@ -53,8 +52,8 @@ fn is_any_place(
     requires places { ArePlacesOf o.by (map multi_by o.all) places.now }
     ensures { IsTrue result ↔ AnyPlace (PinsOrRaises o.base o.all o.by multi) places.now }
 {
-    for own in places {
-        if pins_or_raises(counts, multis, own.place, multi) {
+    for place in places {
+        if pins_or_raises(counts, multis, *place, multi) {
             return true;
         }
     }

@@ -8,7 +8,6 @@ ghost use Rattle.multi_told.specs.Shapes.{AnyPlace, ArePlacesOf};
 ghost use Rattle.multi_answers.specs.Own.{GivesLate};
 
 use multi_places::MultiPlaces;
-use own_places::Own;
 use tx_events::{FullMulti, MultiEvent};
 
 /// The first number from `n` on whose low half isn't 0.
@@ -54,21 +53,21 @@ fn gives_late(places: &MultiPlaces, place: u64, multi: FullMulti) -> bool
 }
 
 /// Whether the command was given this multixact with a warning. These are the places of its events.
-pub fn is_multi_warned(places: &MultiPlaces, own: &[Own], multi: FullMulti) -> bool
+pub fn is_multi_warned(places: &MultiPlaces, its: &[u64], multi: FullMulti) -> bool
     ghost by: { By }
-    requires { ArePlacesOf by (map multi_by places.now.events) own.now }
+    requires { ArePlacesOf by (map multi_by places.now.events) its.now }
     ensures { IsTrue result ↔ IsMultiWarned places.now.base places.now.events by multi }
 {
-    is_given_late(places, own, multi)
+    is_given_late(places, its, multi)
 }
 
-fn is_given_late(places: &MultiPlaces, own: &[Own], multi: FullMulti) -> bool
+fn is_given_late(places: &MultiPlaces, its: &[u64], multi: FullMulti) -> bool
     ghost by: { By }
-    requires { ArePlacesOf by (map multi_by places.now.events) own.now }
-    ensures { IsTrue result ↔ AnyPlace (GivesLate places.now.base places.now.events by multi) own.now }
+    requires { ArePlacesOf by (map multi_by places.now.events) its.now }
+    ensures { IsTrue result ↔ AnyPlace (GivesLate places.now.base places.now.events by multi) its.now }
 {
-    for o in own {
-        if gives_late(places, o.place, multi) {
+    for place in its {
+        if gives_late(places, *place, multi) {
             return true;
         }
     }

@@ -9,33 +9,24 @@ use Rattle.tx_events.specs.Multis.{multi_by, next_made}
 use Rattle.tx_events.specs.Nearest.{near_id}
 use Rattle.place_columns.specs.Columns.{IsColumn}
 use Rattle.report_law.specs.Kinds.{IsPinAt}
-use Rattle.own_places.specs.declared.own.Own.{Own}
 use Rattle.multi_told.specs.Shapes.{AnyPlace, ArePlacesOf, IsPinNear}
 
 -- ---- places
 
-entry_at : (own : List Own) (i : ℕ) (o : Own) → i < length own → o ≡ get_or own i o → Contains (map (λ (o : Own). o.place) own) o.place
-entry_at [] i o l e = absurd (omega arith)
-entry_at (x ∷ own) zero o l e = (0, omega arith, ap (λ (o : Own). o.place) (sym e))
-entry_at (x ∷ own) (suc i) o l e = let r = entry_at own i o (omega arith) e in let b = r.1 in (suc r.0, omega arith, r.2)
-
-pub place_own : (by : By) (bys : List By) (own : List Own) (i : ℕ) (o : Own) → ArePlacesOf by bys own → i < length own → o ≡ get_or own i o → slice_get bys o.place ≡ Some by
-place_own by bys own i o are l e = (are o.place).1 (entry_at own i o l e)
-
-any_at : (P : ℕ → Type 0) (own : List Own) (k p : ℕ) → k < length (map (λ (o : Own). o.place) own) → get_or (map (λ (o : Own). o.place) own) k p ≡ p → P p → AnyPlace P own
+any_at : (P : ℕ → Type 0) (places : List ℕ) (k p : ℕ) → k < length places → get_or places k p ≡ p → P p → AnyPlace P places
 any_at P [] k p l e y = absurd (omega arith)
-any_at P (o ∷ own) zero p l e y = inl (subst P (sym e) y)
-any_at P (o ∷ own) (suc k) p l e y = inr (any_at P own k p (omega arith) e y)
+any_at P (q ∷ places) zero p l e y = inl (subst P (sym e) y)
+any_at P (q ∷ places) (suc k) p l e y = inr (any_at P places k p (omega arith) e y)
 
-of_any : (P : ℕ → Type 0) (own : List Own) → AnyPlace P own → (p : ℕ) × P p
+of_any : (P : ℕ → Type 0) (places : List ℕ) → AnyPlace P places → (p : ℕ) × P p
 of_any P [] a = absurd a
-of_any P (o ∷ own) (inl y) = (o.place, y)
-of_any P (o ∷ own) (inr a) = of_any P own a
+of_any P (q ∷ places) (inl y) = (q, y)
+of_any P (q ∷ places) (inr a) = of_any P places a
 
-pub any_place : (P : ℕ → Type 0) (by : By) (bys : List By) (own : List Own) → ArePlacesOf by bys own → ((p : ℕ) → P p → slice_get bys p ≡ Some by) → AnyPlace P own ↔ ((p : ℕ) × P p)
-any_place P by bys own are its = (
-  λ a. of_any P own a,
-  λ z. let c = (are z.0).0 (its z.0 z.1) in any_at P own c.0 z.0 c.1 c.2 z.1,
+pub any_place : (P : ℕ → Type 0) (by : By) (bys : List By) (places : List ℕ) → ArePlacesOf by bys places → ((p : ℕ) → P p → slice_get bys p ≡ Some by) → AnyPlace P places ↔ ((p : ℕ) × P p)
+any_place P by bys places are its = (
+  λ a. of_any P places a,
+  λ z. let c = (are z.0).0 (its z.0 z.1) in any_at P places c.0 z.0 c.1 c.2 z.1,
 )
 
 pub bound_of : (all : List MultiEvent) (p : ℕ) (by : By) → slice_get (map multi_by all) p ≡ Some by → p < length all

@@ -1,5 +1,5 @@
 -- Which multixact events a command has, by its reply.
-use Rattle.std.specs.Prelude.{◌≡◌, ◌↔◌, ℕ, ◌==◌, ◌&&◌, ◌⊎◌, cond, Bool, true, false, List, [], ◌∷◌, Some, Contains, map, take, slice_get}
+use Rattle.std.specs.Prelude.{◌≡◌, ◌↔◌, ℕ, ◌==◌, ◌&&◌, ◌⊎◌, cond, Bool, true, false, List, [], ◌∷◌, Some, Contains, take, slice_get}
 use Rattle.tx_events.specs.Nearest.{near_id}
 use Rattle.tx_events.specs.declared.event.By.{By}
 use Rattle.tx_events.specs.declared.event.Event.{Event}
@@ -19,7 +19,6 @@ use Rattle.tx_model.specs.declared.reply.Reply.TheVariants as replies
 use Rattle.tx_model.specs.Replies.{RoundSpan}
 use Rattle.report_law.specs.Kinds.{IsPinAt}
 use Rattle.report_law.specs.MultiLines.{AreGiven, ArePinned, ArePinnedNear, AreRaised, may_have_given}
-use Rattle.own_places.specs.declared.own.Own.{Own}
 use Rattle.multi_told.specs.declared.shape.Shape.{Shape}
 use Rattle.multi_told.specs.declared.shape.Shape.TheVariants as shapes
 
@@ -126,13 +125,13 @@ begins_between es = false
 -- ---- pins
 
 -- these are the places of the command's events
-abbrev pub ArePlacesOf : By → List By → List Own → Type 0
-ArePlacesOf by bys own = (p : ℕ) → (slice_get bys p ≡ Some by) ↔ Contains (map (λ (o : Own). o.place) own) p
+abbrev pub ArePlacesOf : By → List By → List ℕ → Type 0
+ArePlacesOf by bys places = (p : ℕ) → (slice_get bys p ≡ Some by) ↔ Contains places p
 
 -- the command pins there, where the stored half means this multixact
 abbrev pub IsPinNear : Counters → List MultiEvent → By → ℕ → ℕ → ℕ → Type 0
 IsPinNear base all by m multi place = IsPinAt all by place × (near_id (next_made base.multi (take place all)) m ≡ Some multi)
 
-abbrev pub AnyPlace : (ℕ → Type 0) → List Own → Type 0
+abbrev pub AnyPlace : (ℕ → Type 0) → List ℕ → Type 0
 AnyPlace P [] = ⊥
-AnyPlace P (o ∷ own) = P o.place ⊎ AnyPlace P own
+AnyPlace P (p ∷ places) = P p ⊎ AnyPlace P places

@@ -8,7 +8,6 @@ ghost use Rattle.given_counts.specs.Counted.{AreCounts};
 ghost use Rattle.multi_told.specs.Shapes.{AnyPlace, ArePlacesOf, IsPinNear, Teller};
 
 use given_counts::GivenCounts;
-use own_places::Own;
 use tx_events::{FullMulti, MultiEvent, MultiId};
 
 /// Whether the stored half means a multixact near this one.
@@ -67,7 +66,7 @@ fn means_at(
 pub fn is_near_a_pin(
     counts: &GivenCounts,
     multis: &[MultiEvent],
-    places: &[Own],
+    places: &[u64],
     m: MultiId,
 ) -> bool
     ghost t: { Teller }
@@ -76,8 +75,8 @@ pub fn is_near_a_pin(
     requires places { ArePlacesOf t.by (map multi_by t.all) places.now }
     ensures { IsTrue result ↔ AnyPlace (λ place. (multi : ℕ) × IsPinNear t.base t.all t.by m.number multi place) places.now }
 {
-    for own in places {
-        if means_some_at(counts, multis, own.place, m) {
+    for place in places {
+        if means_some_at(counts, multis, *place, m) {
             return true;
         }
     }
@@ -88,7 +87,7 @@ pub fn is_near_a_pin(
 pub fn is_near_pin(
     counts: &GivenCounts,
     multis: &[MultiEvent],
-    places: &[Own],
+    places: &[u64],
     m: MultiId,
     multi: FullMulti,
 ) -> bool
@@ -98,8 +97,8 @@ pub fn is_near_pin(
     requires places { ArePlacesOf t.by (map multi_by t.all) places.now }
     ensures { IsTrue result ↔ AnyPlace (IsPinNear t.base t.all t.by m.number multi) places.now }
 {
-    for own in places {
-        if means_at(counts, multis, own.place, m, multi) {
+    for place in places {
+        if means_at(counts, multis, *place, m, multi) {
             return true;
         }
     }

@@ -19,7 +19,6 @@ use crate::pins::{is_near_a_pin, is_near_pin};
 use crate::reach::Reach;
 use crate::shape::{Shape, may_have_none, shape_of};
 use given_counts::GivenCounts;
-use own_places::Own;
 use tx_events::{By, MemberList, MultiEvent};
 use tx_model::{Command, Line};
 
@@ -87,7 +86,7 @@ fn has_shape(
     counts: &GivenCounts,
     multis: &[MultiEvent],
     own: &[MultiEvent],
-    places: &[Own],
+    places: &[u64],
     line: &Line,
     shape: Shape,
 ) -> bool
@@ -117,7 +116,7 @@ fn is_of_shape(
     counts: &GivenCounts,
     multis: &[MultiEvent],
     own: &[MultiEvent],
-    places: &[Own],
+    places: &[u64],
     line: &Line,
     shape: Shape,
     place: u64,
@@ -162,7 +161,7 @@ pub fn has_first_multis(
     counts: &GivenCounts,
     multis: &[MultiEvent],
     own: &[MultiEvent],
-    places: &[Own],
+    places: &[u64],
     line: &Line,
 ) -> bool
     ghost of: { JudgedRound }
@@ -185,7 +184,7 @@ pub fn is_told_multi(
     counts: &GivenCounts,
     multis: &[MultiEvent],
     own: &[MultiEvent],
-    places: &[Own],
+    places: &[u64],
     line: &Line,
     place: u64,
     e: &MultiEvent,

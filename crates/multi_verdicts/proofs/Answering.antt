@@ -3,7 +3,7 @@ use Rattle.std.proofs.Common.{◌≡◌, ℕ, ◌<◌, ◌≤◌, ◌↔◌, ◌
 use Rattle.std.specs.List.{Contains, slice_get}
 use Rattle.std.specs.Option.{option_map}
 use Rattle.std.proofs.lemmas.List.{get_or_default}
-use Rattle.std.proofs.lemmas.Option.{slice_get-map}
+use Rattle.std.proofs.lemmas.Option.{same_Some, slice_get-map}
 use Rattle.tx_events.specs.declared.event.By.{By}
 use Rattle.tx_events.specs.declared.event.Event.{Event}
 use Rattle.tx_events.specs.declared.multi.Member.{Member}
@@ -23,6 +23,10 @@ use Rattle.multi_verdicts.specs.declared.homes.Home.{Home}
 use Rattle.multi_verdicts.specs.Gens.{IsOnlyGenAt, NoGen}
 use Rattle.multi_verdicts.specs.Stored.{AreHomes, IsHome, IsMissing, IsPlaceOf}
 use Rattle.multi_verdicts.specs.Telling.{AnyOf, AreGivenSo, AreRecordedSo, AreToldSo, IsAnswered, Telling}
+
+-- whose the event is that stands there
+pub whose : (all : List MultiEvent) (p : ℕ) (e : MultiEvent) (by : By) → slice_get all p ≡ Some e → slice_get (map multi_by all) p ≡ Some by → multi_by e ≡ by
+whose all p e by at its = same_Some (multi_by e) by (sym (slice_get-map multi_by all p ∙ ap (option_map multi_by) at) ∙ its)
 
 module _ (base : Counters) (h : List Event) (of : Telling) (told : List MemberVerdict) where
   -- ---- by the event that gave it

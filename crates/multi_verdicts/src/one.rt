@@ -3,6 +3,7 @@ ghost use Rattle.std.specs.Prelude.{◌≡◌, ◌==◌, ℕ, ◌≤◌, ◌<◌
 ghost use Rattle.std.specs.BTreeSet.{contains};
 ghost use Rattle.std.specs.List.{list_any};
 ghost use Rattle.std.specs.Ordering.{nat_cmp};
+ghost use Rattle.tx_events.specs.Ids.{low_half};
 ghost use Rattle.tx_model.specs.Replies.{RoundSpan, taken_by};
 ghost use Rattle.report_law.specs.MultiLines.{MayCarry};
 ghost use Rattle.multi_verdicts.specs.Snapped.{AreBetween, AreTaken};
@@ -16,6 +17,13 @@ use place_columns::Span;
 use std::collections::BTreeSet;
 use tx_events::{FullXid, Member};
 use tx_model::{MemberVerdict, Verdict};
+
+/// Whether the mode and the stored half are the member's.
+fn is_same(member: Member, told: MemberVerdict) -> bool
+    ensures { IsTrue result ↔ ((told.mode ≡ member.mode) × (low_half told.id ≡ low_half member.id)) }
+{
+    told.mode == member.mode && told.id.low() == member.id.low()
+}
 
 /// Whether a command of the round, which ends at `to`, may carry an oldest id above this one.
 fn is_carried_past(places: &HistoryPlaces, to: u64, id: FullXid) -> bool
@@ -61,7 +69,7 @@ fn span_of(
     ensures { AreBetween (IsToldBy places.now.base places.now.events of member told) taken.now result }
 {
     legal(places);
-    if told.mode != member.mode || told.id.low() != member.id.low() {
+    if !is_same(member, told) {
         return Span { from: 0, end: 0 };
     }
     let below = far_below(taken, told.id);

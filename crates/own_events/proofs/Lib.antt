@@ -1,5 +1,6 @@
 pub mod Copying
 pub mod Counting
+pub mod LinePlaces
 pub mod LineSteps
 pub mod Making
 pub mod Numbering

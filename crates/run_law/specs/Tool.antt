@@ -1,5 +1,5 @@
 -- What a run of the tool says.
-use Rattle.std.specs.Prelude.{◌≡◌, ℕ, Bool, ◌<◌, ◌≤◌, ◌⊎◌, List, [], ◌∷◌, Option, Some, Ok, length, codes}
+use Rattle.std.specs.Prelude.{◌≡◌, ℕ, Bool, ◌<◌, ◌⊎◌, List, [], ◌∷◌, Option, Some, Ok, length, codes}
 use Rattle.std.specs.Io.KnownBytes.{Consumes, Appends, IsAtEnd}
 use Rattle.tx_model.specs.declared.report.Report.{Report}
 use Rattle.script_lines.specs.declared.kind.Kind.{Kind}
@@ -15,16 +15,6 @@ use Rattle.run_law.specs.Turns.{IsRunnable}
 pub record IsReportOf (tells : Bool) (s : Script) (r : Report) : Type 0 where
   pub names : r.names ≡ s.names
   pub lives : AreRunLives tells s (parts_of s.items) r.lives
-
--- the most bytes that a run reads: one past the limit of a script
-abbrev pub most_read : ℕ
-most_read = 16777217
-
--- at most so many bytes were read
-pub record ReadsUpTo (most : ℕ) (left left' : Option (List ℕ)) : Type 0 where
-  pub bytes : List ℕ
-  pub read : Consumes left left' bytes
-  pub few : length bytes ≤ most
 
 -- the one list of words that is accepted
 abbrev pub IsRun : List (List ℕ) → Type 0

@@ -5,8 +5,6 @@ mod draws;
 mod generator;
 pub mod laws;
 mod summary;
-#[cfg(test)]
-mod tests;
 mod words;
 mod writer;
 

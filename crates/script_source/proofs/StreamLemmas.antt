@@ -15,26 +15,6 @@ use Rattle.script_source.specs.declared.script.NoScript.{NoScript}
 use Rattle.script_source.specs.declared.script.NoScript.TheVariants as no_scripts
 use Rattle.script_source.specs.Sources.{HasScript, IsNoScriptOf, Refuses, TellsFault}
 
--- a front, and then a front of what is left
-pub appends_on : (a b c : Option (List ℕ)) (xs : List ℕ) (at n : ℕ) → Appends a b (take at xs) → Appends b c (take n (drop at xs)) → Appends a c (take (at + n) xs)
-appends_on a b c xs at n f g = subst (Appends a c) (sym (take-add at n xs)) (Appends-trans a b c (take at xs) (take n (drop at xs)) f g)
-
-pub appends_on_rest : (a b c : Option (List ℕ)) (xs : List ℕ) (at n : ℕ) → Appends a b (take at xs) → Appends b c (take n (between at (length xs) xs)) → Appends a c (take (at + n) xs)
-appends_on_rest a b c xs at n f g = appends_on a b c xs at n f (subst (λ t. Appends b c (take n t)) (between_to_end xs at (length xs) (omega arith)) g)
-
--- a list of one item
-pub only_one : {X : Type 0} (xs : List X) (x : X) → 1 ≤ length xs → length xs < 2 → x ≡ get_or xs 0 x → xs ≡ x ∷ []
-only_one [] x m l e = absurd (omega arith)
-only_one (y ∷ []) x m l e = ap (λ z. z ∷ []) (sym e)
-only_one (y ∷ z ∷ xs) x m l e = absurd (omega arith)
-
-pub one_word : {X : Type 0} (f : X → List ℕ) (xs : List X) (x : X) (w : List ℕ) (b : Type 0) → xs ≡ x ∷ [] → ((b → f x ≡ w) × (f x ≡ w → b)) → ((b → map f xs ≡ w ∷ []) × (map f xs ≡ w ∷ [] → b))
-one_word f xs x w b e h =
-    (λ i. ap (map f) e ∙ ap (λ t. t ∷ []) (h.0 i), λ k. h.1 (head_is (sym (ap (map f) e) ∙ k)))
-  where
-    head_is : f x ∷ [] ≡ w ∷ [] → f x ≡ w
-    head_is k = cc
-
 -- bytes of a script that isn't refused
 pub has_script : (left left' : Option (List ℕ)) (bytes : List ℕ) (r : Result Script NoScript) → Consumes left left' bytes → IsAtEnd left'
     → IfOk r (λ s. (read_script bytes ≡ Ok s) × IsRunnable s) → IfOk r (HasScript left left')

@@ -5,9 +5,7 @@ mod life_text;
 mod other;
 mod script;
 mod source;
-mod stream;
 
 pub use life_text::{LifeText, front_of, put_life};
 pub use script::NoScript;
 pub use source::take_script;
-pub use stream::write_all;

@@ -5,10 +5,9 @@ ghost use Rattle.tx_events.specs.Ids.{IsFullMulti};
 ghost use Rattle.tx_io.specs.Causes.{HasCause};
 ghost use Rattle.run_law.specs.Lives.{IsFrontOf};
 
-use crate::stream::write_all;
 use report_text::{Text, begin_report, put_life_line};
 use std::alloc::Global;
-use tx_io::{Failed, Sink};
+use tx_io::{Failed, Sink, write_all};
 use tx_model::{Counters, Memory};
 
 /// The text of a life: what stands before its steps, and the rest.

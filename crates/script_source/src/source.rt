@@ -2,17 +2,16 @@
 ghost use Rattle.std.specs.Prelude.{◌≡◌, ◌≤◌, IfErr, IfOk, Ok, length};
 ghost use Rattle.session_lang.specs.Script.{read_script};
 ghost use Rattle.run_law.specs.Refusals.{refusal_text};
-ghost use Rattle.run_law.specs.Tool.{ReadsUpTo, most_read};
 ghost use Rattle.run_law.specs.Turns.{HasFewLevels, IsRunnable};
+ghost use Rattle.tx_io.specs.Amounts.{ReadsUpTo, most_read};
 ghost use Rattle.script_source.specs.Sources.{HasScript, IsNoScriptOf, Refuses, TellsFault};
 
 use crate::other::first_other;
 use crate::script::NoScript;
-use crate::stream::{ReadStop, read_all};
 use report_text::Text;
 use session_lang::{Kind, ParseRefusal, Script, line_of, parse};
 use std::alloc::Global;
-use tx_io::Source;
+use tx_io::{ReadStop, Source, read_all};
 use tx_model::Memory;
 
 /// The line that tells at which line of a script a fault is, and its kind.

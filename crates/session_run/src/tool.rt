@@ -2,9 +2,10 @@
 ghost use Rattle.std.specs.Prelude.{◌≡◌, ◌≢◌, ◌≤◌, ◌⊎◌, ◌++◌, ◌∷◌, ℕ, List, Option, [], IsTrue, codes, false, map, string_bytes, take};
 ghost use Rattle.std.specs.Io.KnownBytes.{Appends};
 ghost use Rattle.disk_core.specs.Media.{MayBeFirst};
+ghost use Rattle.tx_io.specs.Amounts.{ReadsUpTo, most_read};
 ghost use Rattle.tx_io.specs.Causes.{Rose};
 ghost use Rattle.engine_life.specs.declared.refusal.NoLife.TheVariants as no_lives;
-ghost use Rattle.run_law.specs.Tool.{IsRefused, IsRun, IsWholeRun, ReadsUpTo, most_read};
+ghost use Rattle.run_law.specs.Tool.{IsRefused, IsRun, IsWholeRun};
 ghost use Rattle.script_gen.specs.Generated.{generated};
 ghost use Rattle.script_gen.specs.Laws.{most_transactions};
 ghost use Rattle.script_gen.specs.Words.{IsGen};
@@ -20,11 +21,11 @@ use disk_core::Media;
 use engine_parts::Gate;
 use script_gen::generate;
 use script_gen::laws::generated_scripts_run;
-use script_source::{take_script, write_all};
+use script_source::take_script;
 use std::alloc::Global;
 use std::sync::Wait;
 use std::thread::Threads;
-use tx_io::{Failed, Sink, Source};
+use tx_io::{Failed, Sink, Source, write_all};
 use tx_model::Memory;
 
 /// Reads the source, runs its script over the media, and makes the report.

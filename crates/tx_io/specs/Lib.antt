@@ -1,3 +1,4 @@
 pub mod Causes
 pub mod Bytes
 pub mod Planned
+pub mod Amounts

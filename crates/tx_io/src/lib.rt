@@ -4,8 +4,10 @@
 mod faults;
 mod memory;
 mod stream;
+mod texts;
 mod traits;
 
 pub use memory::{MemSink, MemSource};
 pub use stream::{StdSink, StdSource};
+pub use texts::{ReadStop, read_all, write_all};
 pub use traits::{Failed, Memory, Sink, Source};

@@ -12,6 +12,3 @@ pub use lawful::is_lawful;
 pub use reading::{ReadRec, read_rec, take_rec};
 pub use stop::Stop;
 pub use writing::{rec_length, write_rec};
-
-#[cfg(test)]
-mod tests;

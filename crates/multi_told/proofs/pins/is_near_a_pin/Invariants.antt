@@ -2,8 +2,8 @@ use Rattle.std.proofs.Common.{◌↔◌, ℕ, drop}
 use Rattle.multi_told.specs.Shapes.{AnyPlace, IsPinNear}
 use Rattle.multi_told.proofs.pins.is_near_a_pin.Given as goal
 
-abbrev pub invariant-loop-own : goal.invariant-loop-own
-invariant-loop-own g l = AnyPlace (λ place. (multi : ℕ) × IsPinNear g.t.base g.t.all g.t.by l.m.number multi place) l.places ↔ AnyPlace (λ place. (multi : ℕ) × IsPinNear g.t.base g.t.all g.t.by l.m.number multi place) (drop l.own-index l.places)
+abbrev pub invariant-loop-place : goal.invariant-loop-place
+invariant-loop-place g l = AnyPlace (λ place. (multi : ℕ) × IsPinNear g.t.base g.t.all g.t.by l.m.number multi place) l.places ↔ AnyPlace (λ place. (multi : ℕ) × IsPinNear g.t.base g.t.all g.t.by l.m.number multi place) (drop l.place-index l.places)
 
 abbrev pub ghost-means_some_at : goal.ghost-means_some_at
 ghost-means_some_at g a = g.t

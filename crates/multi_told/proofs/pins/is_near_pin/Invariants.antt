@@ -2,8 +2,8 @@ use Rattle.std.proofs.Common.{◌↔◌, drop}
 use Rattle.multi_told.specs.Shapes.{AnyPlace, IsPinNear}
 use Rattle.multi_told.proofs.pins.is_near_pin.Given as goal
 
-abbrev pub invariant-loop-own : goal.invariant-loop-own
-invariant-loop-own g l = AnyPlace (IsPinNear g.t.base g.t.all g.t.by l.m.number l.multi) l.places ↔ AnyPlace (IsPinNear g.t.base g.t.all g.t.by l.m.number l.multi) (drop l.own-index l.places)
+abbrev pub invariant-loop-place : goal.invariant-loop-place
+invariant-loop-place g l = AnyPlace (IsPinNear g.t.base g.t.all g.t.by l.m.number l.multi) l.places ↔ AnyPlace (IsPinNear g.t.base g.t.all g.t.by l.m.number l.multi) (drop l.place-index l.places)
 
 abbrev pub ghost-means_at : goal.ghost-means_at
 ghost-means_at g a = g.t

@@ -1,6 +1,6 @@
-use Rattle.std.proofs.Common.{◌≡◌, ◌+◌, ◌-◌, ◌/◌, ◌<◌, ◌≤◌, ℕ, Some, true, false, length, take, refl, ap, sym, ◌∙◌, arith}
+use Rattle.std.proofs.Common.{◌≡◌, ◌+◌, ◌-◌, ◌/◌, ◌<◌, ◌≤◌, ℕ, Some, true, false, length, get_or, take, ap, sym, ◌∙◌, arith}
 use Rattle.std.specs.List.{slice_get}
-use Rattle.std.proofs.lemmas.Option.{slice_get_read}
+use Rattle.std.proofs.lemmas.Option.{slice_get-get_or}
 use Rattle.tx_events.specs.Visible.{is_visible}
 use Rattle.history_check.specs.Replays.{Replayed}
 use Rattle.multi_verdicts.specs.declared.taken.Taken.{Taken}
@@ -10,13 +10,13 @@ use Rattle.multi_verdicts.proofs.visible.unseen.Goals as goal
 pub loop-from-preserved-then-was_visible : goal.loop-from-preserved-then-was_visible
 loop-from-preserved-then-was_visible g c =
     let n : ℕ = c.loop-from.from + (c.loop-from.end - c.loop-from.from) / 2 in
-    let m : Taken = c.index-taken-middle.result in
+    let m : Taken = get_or c.args.taken.now n c.index-taken-middle.result in
     let h = c.args.places.now.events in
     let i = c.loop-from.invariant in
     let order = i.order in
     let within = i.within in
     let low : n < length c.args.taken.now = omega arith in
-    let at : slice_get c.args.taken.now n ≡ Some m = slice_get_read c.args.taken.now (length c.args.taken.now) n m refl low c.index-taken-middle.is in
+    let at : slice_get c.args.taken.now n ≡ Some m = slice_get-get_or c.args.taken.now n c.index-taken-middle.result low in
     let v : is_visible g.ids (take m.place h) c.args.id ≡ true = sym (c.was_visible.ensures ∙ ap (λ (r : Replayed). is_visible g.ids (take m.place r.events) c.args.id) c.replay.ensures) ∙ c.if-was_visible.true in
     record {
       order = omega arith;
@@ -28,13 +28,13 @@ loop-from-preserved-then-was_visible g c =
 pub loop-from-preserved : goal.loop-from-preserved
 loop-from-preserved g c =
     let n : ℕ = c.loop-from.from + (c.loop-from.end - c.loop-from.from) / 2 in
-    let m : Taken = c.index-taken-middle.result in
+    let m : Taken = get_or c.args.taken.now n c.index-taken-middle.result in
     let h = c.args.places.now.events in
     let i = c.loop-from.invariant in
     let order = i.order in
     let within = i.within in
     let low : n < length c.args.taken.now = omega arith in
-    let at : slice_get c.args.taken.now n ≡ Some m = slice_get_read c.args.taken.now (length c.args.taken.now) n m refl low c.index-taken-middle.is in
+    let at : slice_get c.args.taken.now n ≡ Some m = slice_get-get_or c.args.taken.now n c.index-taken-middle.result low in
     let v : is_visible g.ids (take m.place h) c.args.id ≡ false = sym (c.was_visible.ensures ∙ ap (λ (r : Replayed). is_visible g.ids (take m.place r.events) c.args.id) c.replay.ensures) ∙ c.if-was_visible.false in
     record {
       order = omega arith;

@@ -1,0 +1,2 @@
+pub mod GenPlaces
+pub mod Waits

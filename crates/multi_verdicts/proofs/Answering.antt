@@ -72,8 +72,7 @@ module _ (base : Counters) (h : List Event) (of : Telling) (told : List MemberVe
       → ((members : List Member) → IsHome lives home members → Result ↔ AreToldSo base h of told members) → Result ↔ AreRecordedSo base h of told multi
   recorded_iff lives homes multi place home Result are p at each =
       let stands = home_stands homes multi place home p at in
-      let told_it = are.told home stands.0 in
-      (
+      let told_it = are.told home stands.0 in (
         λ r. (home.offset, told_it.0, subst (λ m. Contains of.recorded (m, home.offset, told_it.0)) stands.1 told_it.2, (each told_it.0 told_it.1).0 r),
         λ s.
             let a = are.all multi s.0 s.1 s.2 in

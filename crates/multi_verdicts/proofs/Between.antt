@@ -68,8 +68,7 @@ module _ (base : Counters) (h : List Event) (of : Telling) (by : By) (member : M
   visible_between unseen from u is = record {
     within = λ i l m. let a = near.within in omega arith;
     each = λ i t e.
-        let iff = visible_iff base of.ids h of.round t.place member id mode same_mode same_half in
-        (
+        let iff = visible_iff base of.ids h of.round t.place member id mode same_mode same_half in (
           λ s.
               let z = iff.0 s in
               let a = not_below i t e z.1 in
@@ -87,8 +86,7 @@ module _ (base : Counters) (h : List Event) (of : Telling) (by : By) (member : M
   hidden_between unseen to u is = record {
     within = λ i l m. let a = near.within in omega arith;
     each = λ i t e.
-        let iff = hidden_iff base of.ids h of.round t.place member id mode same_mode same_half in
-        (
+        let iff = hidden_iff base of.ids h of.round t.place member id mode same_mode same_half in (
           λ s.
               let z = iff.0 s in
               let a = before_end i t e z.0 in

@@ -85,8 +85,7 @@ carried_upto base h round oldest legal c =
 
 pub carried_iff : (base : Counters) (h : List Event) (round : RoundSpan) (to id last : ℕ) → IsLegal base h → to ≡ round.to → last ≡ oldest_in base (take to h) → (id < last) ↔ IsCarriedPast base h round id
 carried_iff base h round to id last legal end is =
-    let at : last ≡ oldest_in base (take round.to h) = is ∙ ap (λ n. oldest_in base (take n h)) end in
-    (
+    let at : last ≡ oldest_in base (take round.to h) = is ∙ ap (λ n. oldest_in base (take n h)) end in (
       λ l. (oldest_in base (take round.to h), last_carried base h round, subst (λ n. id < n) at l),
       λ c. let u = carried_upto base h round c.0 legal c.1 in let l = c.2 in omega arith,
     )

@@ -166,8 +166,7 @@ taken_are first h all told snaps by places front are up own = record {
       let place : t.place ≡ m.0 = ap (λ (x : Taken). x.place) k.is in
       let there : slice_get all m.0 ≡ Some v.0 = in_front (length h) all m.0 v.0 (subst (λ (f : List Event). slice_get f m.0 ≡ Some v.0) front v.1) in
       let whose : Some (by_of v.0) ≡ Some by = sym (by_at all v.0 m.0 there) ∙ (own m.0).1 (has_contains places m.0 m.1) in
-      let its : by_of v.0 ≡ by = cc in
-      (
+      let its : by_of v.0 ≡ by = cc in (
         (s.name, ap (slice_get h) place ∙ v.1 ∙ ap Some (s.is ∙ ap (λ (b : By). events.Snap b s.name) its)),
         ap (λ (x : Taken). x.xmax) k.is ∙ s.mark.xmax ∙ ap (λ n. snapshot_xmax first (take n h)) (sym place),
       );

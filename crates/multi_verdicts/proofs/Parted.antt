@@ -29,8 +29,7 @@ module _ (P : Taken → Type 0) (p : Taken → Bool) (yes : (t : Taken) → p t 
     within = bound;
     each = λ i t e.
         let low : i < length taken = slice_get_within taken i t e in
-        let is : get_or taken i t ≡ t = get_or_from_slice_get taken i t t e in
-        (
+        let is : get_or taken i t ≡ t = get_or_from_slice_get taken i t t e in (
           λ holds. ⊎_elim (λ (u : i < end). u) (λ (u : end ≤ i). absurd (no t (sym (ap p is) ∙ behind i t u low) holds)) (cases_lt i end),
           λ u. yes t (sym (ap p is) ∙ front i t (omega arith) u),
         );

@@ -24,13 +24,7 @@ pub fn gen_place(places: &MultiPlaces, multi: FullMulti) -> Option<u64>
     }
     let place = span.end - 1;
     match events.get(place as usize) {
-        Some(e) => {
-            if is_gen(e) {
-                Some(place)
-            } else {
-                None
-            }
-        }
+        Some(e) => { if is_gen(e) { Some(place) } else { None } }
         None => None,
     }
 }

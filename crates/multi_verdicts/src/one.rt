@@ -19,8 +19,8 @@ use tx_events::{FullXid, Member};
 use tx_model::{MemberVerdict, Verdict};
 
 /// Whether the mode and the stored half are the member's.
-fn is_same(member: Member, told: MemberVerdict) -> bool
-    ensures { IsTrue result ↔ ((told.mode ≡ member.mode) × (low_half told.id ≡ low_half member.id)) }
+fn is_same(member: &Member, told: &MemberVerdict) -> bool
+    ensures { IsTrue result ↔ ((told.now.mode ≡ member.now.mode) × (low_half told.now.id ≡ low_half member.now.id)) }
 {
     told.mode == member.mode && told.id.low() == member.id.low()
 }
@@ -69,18 +69,13 @@ fn span_of(
     ensures { AreBetween (IsToldBy places.now.base places.now.events of member told) taken.now result }
 {
     legal(places);
-    if !is_same(member, told) {
+    if !is_same(&member, &told) {
         return Span { from: 0, end: 0 };
     }
     let below = far_below(taken, told.id);
     let end = not_far_above(taken, told.id);
     match told.verdict {
-        Verdict::TooOld => too_old_span(
-            below,
-            end,
-            told.id,
-            is_carried_past(places, to, told.id),
-        ),
+        Verdict::TooOld => too_old_span(below, end, told.id, is_carried_past(places, to, told.id)),
         Verdict::Visible => Span {
             from: below.max(unseen(places, committed, taken, told.id)),
             end,

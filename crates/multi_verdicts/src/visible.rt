@@ -23,7 +23,12 @@ pub fn legal(places: &HistoryPlaces)
 }
 
 /// How many of the snapshots the id wasn't visible to yet.
-pub fn unseen(places: &HistoryPlaces, committed: &BTreeSet<u64>, taken: &[Taken], id: FullXid) -> u64
+pub fn unseen(
+    places: &HistoryPlaces,
+    committed: &BTreeSet<u64>,
+    taken: &[Taken],
+    id: FullXid,
+) -> u64
     ghost ids: { List ℕ }
     requires known { (y : ℕ) → contains nat_cmp committed.now y ≡ list_any (λ z. z == y) ids }
     requires taken { AreInHistory (length places.now.events) taken.now }

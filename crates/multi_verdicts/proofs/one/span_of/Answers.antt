@@ -4,7 +4,7 @@ use Rattle.place_columns.specs.declared.span.Span.{Span}
 use Rattle.tx_model.specs.declared.reply.Verdict.{Verdict}
 use Rattle.tx_model.specs.Replies.{taken_by}
 use Rattle.multi_verdicts.specs.Snapped.{AreBetween}
-use Rattle.multi_verdicts.specs.Telling.{IsToldBy}
+use Rattle.multi_verdicts.specs.Telling.{IsToldBy, too_old_span}
 use Rattle.multi_verdicts.proofs.Between.{hidden_between, none_between, old_between, visible_between}
 use Rattle.multi_verdicts.proofs.Judging.{half_told}
 use Rattle.multi_verdicts.proofs.Rising.{in_history, never_fall}
@@ -29,7 +29,7 @@ returns-in-TooOld g c =
     let told = c.args.told in
     let same = c.is_same.ensures.0 c.if-not-is_same.false in
     subst (λ (s : Span). AreBetween (IsToldBy base h g.of c.args.member told) c.args.taken.now s) (sym c.too_old_span.ensures)
-    (subst (λ (v : Verdict). AreBetween (IsToldBy base h g.of c.args.member (record { id = told.id; mode = told.mode; verdict = v })) c.args.taken.now _) (sym c.in-TooOld.is)
+    (subst (λ (v : Verdict). AreBetween (IsToldBy base h g.of c.args.member (record { id = told.id; mode = told.mode; verdict = v })) c.args.taken.now (too_old_span c.far_below-below.result c.not_far_above-end.result told.id c.is_carried_past.result)) (sym c.in-TooOld.is)
     (old_between base h g.of (taken_by g.of.by g.of.number) c.args.member told.id told.mode c.args.taken.now c.requires.1.0 same.0 same.1 c.far_below-below.result c.not_far_above-end.result c.far_below-below.ensures c.not_far_above-end.ensures c.is_carried_past.result c.is_carried_past.ensures))
 
 pub returns-in-Visible : goal.returns-in-Visible

@@ -20,9 +20,9 @@ returns g c =
     let past = c.loop-line-test.false in
     let same : length c.lines.result.now ≡ length lines = ap (λ (t : List LineAt). length t) c.lines.ensures in
     let low : (i : ℕ) (by : By) → slice_get (bys_of lines) i ≡ Some by → i < c.loop-line.line = λ i by e.
-        let l = slice_get_within (bys_of lines) i by e in
-        let m = length-map lines (λ (l : LineAt). l.by) in
-        omega arith
+    let l = slice_get_within (bys_of lines) i by e in
+    let m = length-map lines (λ (l : LineAt). l.by) in
+    omega arith
     in
     record {
       within = λ i by e. let l = low i by e in omega arith;

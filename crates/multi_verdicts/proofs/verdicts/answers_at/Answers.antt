@@ -22,7 +22,7 @@ returns-then-tells_given g c =
     let is = subst (λ (t : List MultiEvent). e ≡ get_or t place e) c.events.ensures.value c.index-events-place.is in
     let at : slice_get all place ≡ Some (multis.Hold c.in-Hold.by c.in-Hold.multi) = slice_get_read all (length all) place e refl low is ∙ ap (λ (x : MultiEvent). Some x) c.in-Hold.is in
     let i = pinned_iff c.args.places.now.base c.args.places.now.events g.of c.args.told.now all place c.in-Hold.multi c.in-Hold.by at (whose all place (multis.Hold c.in-Hold.by c.in-Hold.multi) g.of.by at its) in
-    (λ t. i.0 (inl (c.tells_given.ensures.0 c.if-tells_given.true)), λ a. refl)
+    (λ t. i.0 (inl (c.tells_given.ensures.0 c.if-tells_given.true)), λ a. c.if-tells_given.true)
 
 pub returns-else-tells_given : goal.returns-else-tells_given
 returns-else-tells_given g c =
@@ -37,8 +37,7 @@ returns-else-tells_given g c =
     let low : place < length all = omega arith in
     let is = subst (λ (t : List MultiEvent). e ≡ get_or t place e) c.events.ensures.value c.index-events-place.is in
     let at : slice_get all place ≡ Some (multis.Hold c.in-Hold.by c.in-Hold.multi) = slice_get_read all (length all) place e refl low is ∙ ap (λ (x : MultiEvent). Some x) c.in-Hold.is in
-    let i = pinned_iff base h g.of c.args.told.now all place c.in-Hold.multi c.in-Hold.by at (whose all place (multis.Hold c.in-Hold.by c.in-Hold.multi) g.of.by at its) in
-    (
+    let i = pinned_iff base h g.of c.args.told.now all place c.in-Hold.multi c.in-Hold.by at (whose all place (multis.Hold c.in-Hold.by c.in-Hold.multi) g.of.by at its) in (
       λ t. i.0 (inr (c.tells_recorded.ensures.0 t)),
       λ a. ⊎_elim
           (λ (s : AreGivenSo base h g.of c.args.told.now all place c.in-Hold.multi). absurd (false≢true (sym c.if-tells_given.false ∙ c.tells_given.ensures.1 s)))
@@ -56,8 +55,7 @@ returns-in_default g c =
     let far = slice_get_within (map multi_by all) place g.of.by its in
     let low : place < length all = omega arith in
     let is = subst (λ (t : List MultiEvent). e ≡ get_or t place e) c.events.ensures.value c.index-events-place.is in
-    let at : slice_get all place ≡ Some e = slice_get_read all (length all) place e refl low is in
-    (
+    let at : slice_get all place ≡ Some e = slice_get_read all (length all) place e refl low is in (
       λ f. absurd (false≢true f),
       λ a. absurd (c.in_default.not-Hold g.of.by a.multi (same_Some e (multis.Hold g.of.by a.multi) (sym at ∙ a.pin))),
     )

@@ -41,8 +41,7 @@ returns-in-Gen g c =
     let low : place < length all = slice_get_within all place (multis.Gen only.0.0 c.args.multi only.0.1 only.0.2) only.0.3 in
     let is = subst (λ (t : List MultiEvent). e ≡ get_or t place e) c.events.ensures.value c.index-events-place.is in
     let at : slice_get all place ≡ Some e = slice_get_read all (length all) place e refl low is in
-    let i = given_iff base h g.of told all c.args.multi place c.args.pinned c.in-Gen.by c.in-Gen.multi c.in-Gen.offset c.in-Gen.members only c.if-place-pinned.false (at ∙ ap (λ (x : MultiEvent). Some x) c.in-Gen.is) in
-    (
+    let i = given_iff base h g.of told all c.args.multi place c.args.pinned c.in-Gen.by c.in-Gen.multi c.in-Gen.offset c.in-Gen.members only c.if-place-pinned.false (at ∙ ap (λ (x : MultiEvent). Some x) c.in-Gen.is) in (
       λ t. i.0 (subst (λ (m : List Member). AreToldSo base h g.of told m) c.items.ensures (c.tells.ensures.0 t)),
       λ s. c.tells.ensures.1 (subst (λ (m : List Member). AreToldSo base h g.of told m) (sym c.items.ensures) (i.1 s)),
     )
@@ -55,8 +54,7 @@ returns-in_default g c =
     let e : MultiEvent = c.index-events-place.result in
     let low : place < length all = slice_get_within all place (multis.Gen only.0.0 c.args.multi only.0.1 only.0.2) only.0.3 in
     let is = subst (λ (t : List MultiEvent). e ≡ get_or t place e) c.events.ensures.value c.index-events-place.is in
-    let at : slice_get all place ≡ Some e = slice_get_read all (length all) place e refl low is in
-    (
+    let at : slice_get all place ≡ Some e = slice_get_read all (length all) place e refl low is in (
       λ f. absurd (false≢true f),
       λ s. absurd (c.in_default.not-Gen only.0.0 c.args.multi only.0.1 only.0.2 (same_Some e (multis.Gen only.0.0 c.args.multi only.0.1 only.0.2) (sym at ∙ only.0.3))),
     )

@@ -1,5 +1,5 @@
 -- Of which members the verdicts are told.
-use Rattle.std.proofs.Common.{◌≡◌, ℕ, ◌<◌, ◌≤◌, ◌↔◌, ◌⊎◌, inl, inr, List, [], ◌∷◌, Some, length, get_or, map, refl, ap, sym, subst, ◌∙◌, arith, ⊎_elim}
+use Rattle.std.proofs.Common.{◌≡◌, ℕ, ◌<◌, ◌≤◌, ◌↔◌, ◌⊎◌, inl, inr, List, [], ◌∷◌, Some, get_or, map, refl, ap, sym, subst, ◌∙◌, arith, ⊎_elim}
 use Rattle.std.specs.List.{Contains, slice_get}
 use Rattle.std.specs.Option.{option_map}
 use Rattle.std.proofs.lemmas.List.{get_or_default}
@@ -15,10 +15,8 @@ use Rattle.tx_events.specs.Multis.{multi_by}
 use Rattle.tx_events.proofs.Membership.{Has, contains_has, has_contains}
 use Rattle.tx_model.specs.declared.reply.MemberVerdict.{MemberVerdict}
 use Rattle.tx_model.specs.declared.report.LifeReport.{LifeReport}
-use Rattle.tx_model.specs.Replies.{RoundSpan}
 use Rattle.history_check.proofs.Searching.{find_at}
-use Rattle.report_law.specs.Begun.{Recorded}
-use Rattle.report_law.specs.MultiLines.{AreVerdicts, HasMembers, IsGenOf}
+use Rattle.report_law.specs.MultiLines.{AreVerdicts, IsGenOf}
 use Rattle.multi_verdicts.specs.declared.homes.Home.{Home}
 use Rattle.multi_verdicts.specs.Gens.{IsOnlyGenAt, NoGen}
 use Rattle.multi_verdicts.specs.Stored.{AreHomes, IsHome, IsMissing, IsPlaceOf}

@@ -1,9 +1,8 @@
 -- Which of the snapshots stand between two numbers of first ones.
-use Rattle.std.proofs.Common.{◌≡◌, ℕ, ◌+◌, ◌^◌, ◌<◌, ◌≤◌, ◌↔◌, ◌⊎◌, inl, inr, max, min, IsTrue, List, [], ◌∷◌, Bool, true, false, cond, nat_lt, Some, None, length, take, refl, ap, sym, subst, ◌∙◌, arith, ⊎_elim}
-use Rattle.std.specs.List.{AllZip, slice_get}
+use Rattle.std.proofs.Common.{◌≡◌, ℕ, ◌+◌, ◌^◌, ◌<◌, ◌≤◌, ◌↔◌, ◌⊎◌, inl, inr, max, min, IsTrue, List, Bool, true, false, cond, nat_lt, Some, take, refl, sym, ◌∙◌, arith, ⊎_elim}
+use Rattle.std.specs.List.{slice_get}
 use Rattle.std.proofs.lemmas.Bool.{cases_Bool, cases_lt, false≢true}
 use Rattle.std.proofs.lemmas.Bool.Decides.{nat_tests}
-use Rattle.std.proofs.lemmas.Option.{slice_get_within}
 use Rattle.tx_events.specs.Ids.{low_half}
 use Rattle.tx_events.specs.declared.event.By.{By}
 use Rattle.tx_events.specs.declared.event.Event.{Event}
@@ -12,14 +11,12 @@ use Rattle.tx_events.specs.declared.multi.Mode.{Mode}
 use Rattle.tx_events.specs.declared.record.Counters.{Counters}
 use Rattle.tx_events.specs.Snapshots.{snapshot_xmax}
 use Rattle.tx_events.specs.Visible.{is_visible}
-use Rattle.tx_model.specs.declared.reply.MemberVerdict.{MemberVerdict}
 use Rattle.tx_model.specs.declared.reply.Verdict.TheVariants as verdicts
-use Rattle.place_columns.specs.declared.span.Span.{Span}
 use Rattle.report_law.specs.MultiLines.{IsTold}
 use Rattle.multi_verdicts.specs.declared.taken.Taken.{Taken}
 use Rattle.multi_verdicts.specs.Snapped.{AreBetween, AreFirst, AreTaken, IsFarBelow, IsNotFarAbove}
 use Rattle.multi_verdicts.specs.Telling.{IsCarriedPast, IsToldBy, IsUnseen, Telling, too_old_span}
-use Rattle.multi_verdicts.proofs.Judging.{half_told, hidden_iff, old_iff, visible_iff}
+use Rattle.multi_verdicts.proofs.Judging.{hidden_iff, old_iff, visible_iff}
 
 lt_yes : (x n : ℕ) → nat_lt x n ≡ true → x < n
 lt_yes x n e = grind (arith, nat_tests)

@@ -1,7 +1,6 @@
 -- When a verdict on a member is so by a snapshot of this xmax.
-use Rattle.std.proofs.Common.{◌≡◌, ℕ, ◌+◌, ◌%◌, ◌^◌, ◌<◌, ◌≤◌, ◌↔◌, ◌⊎◌, inl, inr, List, Option, Some, None, Bool, true, false, length, take, refl, ap, sym, subst, ◌∙◌, arith, ⊎_elim}
+use Rattle.std.proofs.Common.{◌≡◌, ℕ, ◌+◌, ◌%◌, ◌^◌, ◌<◌, ◌≤◌, ◌↔◌, ◌⊎◌, inl, inr, List, Option, Some, None, true, false, take, refl, ap, sym, subst, ◌∙◌, arith, ⊎_elim}
 use Rattle.std.specs.Prelude.{unwrap_or}
-use Rattle.std.proofs.lemmas.Bool.{cases_lt}
 use Rattle.tx_events.specs.Ids.{low_half}
 use Rattle.tx_events.specs.Nearest.{near_id}
 use Rattle.tx_events.specs.declared.event.Event.{Event}
@@ -14,7 +13,7 @@ use Rattle.tx_model.specs.declared.reply.MemberVerdict.{MemberVerdict}
 use Rattle.tx_model.specs.declared.reply.Verdict.{Verdict}
 use Rattle.tx_model.specs.declared.reply.Verdict.TheVariants as verdicts
 use Rattle.tx_model.specs.Replies.{RoundSpan}
-use Rattle.report_law.specs.MultiLines.{IsMemberVerdict, IsTold, MayCarry}
+use Rattle.report_law.specs.MultiLines.{IsMemberVerdict, IsTold}
 use Rattle.multi_verdicts.specs.Telling.{IsCarriedPast}
 use Rattle.multi_verdicts.proofs.Nearness.{near_again, near_is, none_again, none_is}
 

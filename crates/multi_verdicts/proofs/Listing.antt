@@ -20,7 +20,6 @@ use Rattle.tx_events.proofs.Membership.{Has, all_at, contains_has, has_contains,
 use Rattle.life_marks.specs.declared.snaps.SnapMark.{SnapMark}
 use Rattle.life_marks.specs.SnapMarks.{AreSnapMarks, IsMarkOf, IsSnapMark}
 use Rattle.own_events.specs.Lined.{places_from, places_of}
-use Rattle.report_law.specs.Kinds.{IsSnapAt}
 use Rattle.multi_verdicts.specs.declared.taken.Taken.{Taken}
 use Rattle.multi_verdicts.specs.Snapped.{AreTaken, taken_at, taken_here}
 

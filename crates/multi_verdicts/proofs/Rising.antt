@@ -1,6 +1,5 @@
 -- The xmax of snapshots never falls along a history.
-use Rattle.std.proofs.Common.{◌≡◌, ℕ, ◌+◌, ◌-◌, ◌<◌, ◌≤◌, List, [], ◌∷◌, ◌++◌, length, take, drop, not, Some, ap, sym, subst, ◌∙◌, arith, append_assoc, append-nil, Bool, true, false, ⊎_elim}
-use Rattle.std.specs.List.{slice_get}
+use Rattle.std.proofs.Common.{◌≡◌, ℕ, ◌-◌, ◌≤◌, List, [], ◌∷◌, ◌++◌, length, take, drop, not, ap, sym, subst, arith, append_assoc, append-nil, true, false, ⊎_elim}
 use Rattle.std.proofs.lemmas.Bool.{cases_Bool}
 use Rattle.std.proofs.lemmas.Option.{slice_get_within}
 use Rattle.tx_events.specs.declared.event.By.{By}

@@ -1,12 +1,10 @@
-use Rattle.std.proofs.Common.{◌≡◌, true, false, ap, sym, subst, ◌∙◌}
-use Rattle.std.proofs.lemmas.Bool.{false≢true}
+use Rattle.std.proofs.Common.{sym, subst}
 use Rattle.place_columns.specs.declared.span.Span.{Span}
 use Rattle.tx_model.specs.declared.reply.Verdict.{Verdict}
 use Rattle.tx_model.specs.Replies.{taken_by}
 use Rattle.multi_verdicts.specs.Snapped.{AreBetween}
 use Rattle.multi_verdicts.specs.Telling.{IsToldBy, too_old_span}
-use Rattle.multi_verdicts.proofs.Between.{hidden_between, none_between, old_between, visible_between}
-use Rattle.multi_verdicts.proofs.Judging.{half_told}
+use Rattle.multi_verdicts.proofs.Between.{hidden_between, old_between, visible_between}
 use Rattle.multi_verdicts.proofs.Rising.{in_history, never_fall}
 use Rattle.multi_verdicts.proofs.one.span_of.Goals as goal
 

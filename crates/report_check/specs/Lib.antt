@@ -1,2 +1,4 @@
 pub mod Judgement
 pub mod Checks
+pub mod Midst
+pub mod Noting

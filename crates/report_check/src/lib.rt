@@ -3,6 +3,8 @@
 //! docs/SCRIPT-AND-REPORT.md.
 #![tactic(auto)]
 
+mod asked;
+mod checkpoints;
 mod ending;
 mod first;
 mod law;

@@ -1,3 +1,5 @@
 pub mod Judgement
 pub mod Checks
 pub mod Keeping
+pub mod Walked
+pub mod Found

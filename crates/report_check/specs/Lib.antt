@@ -1,4 +1,10 @@
 pub mod Judgement
 pub mod Checks
+<<<<<<< ours
 pub mod Midst
 pub mod Noting
+=======
+pub mod Keeping
+pub mod Walked
+pub mod Found
+>>>>>>> theirs

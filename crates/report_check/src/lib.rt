@@ -7,8 +7,12 @@ mod asked;
 mod checkpoints;
 mod ending;
 mod first;
+mod keep;
 mod law;
+mod life;
+mod lives;
 mod tool;
+mod walked;
 
 pub use first::first_unlawful;
 pub use law::judged_once;

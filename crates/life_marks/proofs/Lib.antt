@@ -4,3 +4,5 @@ pub mod Noted
 pub mod NotedSteps
 pub mod Families
 pub mod Closings
+pub mod BaseIds
+pub mod Stays

@@ -5,7 +5,9 @@
 mod ids;
 mod mark;
 mod snaps;
+mod visible;
 
 pub use ids::{id_marks, was_running};
 pub use mark::IdMark;
 pub use snaps::{SnapMark, snap_mark};
+pub use visible::was_visible;

@@ -9,7 +9,8 @@ use Rattle.report_lines.proofs.Fronts.{same_first, same_rest}
 use Rattle.report_read.specs.Reports.{IsFirstWrong, IsReport}
 use Rattle.report_read.proofs.Reading.{one_report}
 use Rattle.report_law.specs.ReportLines.{IsLawfulAt, IsLawfulReport, IsUnlawful, ReportLine, report_lines}
-use Rattle.report_check.specs.Judgement.{BreaksRule, IsFirstUnlawful, IsJudgedOnce, IsLawfulText, most_bytes}
+use Rattle.tx_io.specs.Amounts.{most_bytes}
+use Rattle.report_check.specs.Judgement.{BreaksRule, IsFirstUnlawful, IsJudgedOnce, IsLawfulText}
 
 -- ---- the first wrong line
 

@@ -2,12 +2,9 @@
 use Rattle.std.specs.Prelude.{◌≡◌, ℕ, ◌<◌, ◌≤◌, ◌+◌, ◌⊎◌, List, length}
 use Rattle.tx_model.specs.declared.report.Report.{Report}
 use Rattle.report_text.specs.ReportText.{report_text}
+use Rattle.tx_io.specs.Amounts.{most_bytes}
 use Rattle.report_read.specs.Reports.{IsFirstWrong, IsReport}
 use Rattle.report_law.specs.ReportLines.{IsLawfulReport, IsUnlawful}
-
--- the length of the longest text that is read, in bytes
-abbrev pub most_bytes : ℕ
-most_bytes = 16777216
 
 -- the text of a lawful report
 pub record IsLawfulText (bytes : List ℕ) : Type 0 where

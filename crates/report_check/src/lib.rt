@@ -3,6 +3,11 @@
 //! docs/SCRIPT-AND-REPORT.md.
 #![tactic(auto)]
 
+mod ending;
+mod first;
 mod law;
+mod tool;
 
+pub use first::first_unlawful;
 pub use law::judged_once;
+pub use tool::check_tool;

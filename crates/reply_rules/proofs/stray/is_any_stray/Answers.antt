@@ -1,6 +1,5 @@
-use Rattle.std.proofs.Common.{refl, take, subst}
+use Rattle.std.proofs.Common.{refl, subst}
 use Rattle.std.specs.List.{AllByRecursion}
-use Rattle.std.proofs.Common.{List}
 use Rattle.tx_events.specs.declared.record.Rec.{Rec}
 use Rattle.reply_rules.specs.Gens.{IsStrayRec}
 use Rattle.reply_rules.proofs.Strays.{all_taken, none_more, none_stray, stray_found}

@@ -5,6 +5,7 @@
 
 mod ending;
 mod first;
+mod keep;
 mod law;
 mod tool;
 

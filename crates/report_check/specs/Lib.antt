@@ -1,3 +1,4 @@
 pub mod Judgement
 pub mod Checks
 pub mod Keeping
+pub mod Known

@@ -6,7 +6,10 @@
 mod ending;
 mod first;
 mod keep;
+mod known;
 mod law;
+mod making;
+mod telling;
 mod tool;
 
 pub use first::first_unlawful;

@@ -5,6 +5,10 @@ pub mod Midst
 pub mod Noting
 =======
 pub mod Keeping
+<<<<<<< ours
 pub mod Walked
 pub mod Found
+>>>>>>> theirs
+=======
+pub mod Known
 >>>>>>> theirs

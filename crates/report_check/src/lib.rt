@@ -8,9 +8,15 @@ mod checkpoints;
 mod ending;
 mod first;
 mod keep;
+mod known;
 mod law;
+<<<<<<< ours
 mod life;
 mod lives;
+=======
+mod making;
+mod telling;
+>>>>>>> theirs
 mod tool;
 mod walked;
 

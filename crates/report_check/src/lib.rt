@@ -10,13 +10,10 @@ mod first;
 mod keep;
 mod known;
 mod law;
-<<<<<<< ours
 mod life;
 mod lives;
-=======
 mod making;
 mod telling;
->>>>>>> theirs
 mod tool;
 mod walked;
 

@@ -1,6 +1,6 @@
 -- Limits in order, and a search of them.
-use Rattle.std.proofs.Common.{◌≡◌, ℕ, zero, suc, ◌+◌, ◌-◌, ◌<◌, ◌≤◌, ◌↔◌, ◌⊎◌, Bool, true, false, ◌==◌, ◌&&◌, ◌||◌, nat_lt, cond, Option, Some, None, Less, Equal, Greater, List, [], ◌∷◌, ◌++◌, length, get_or, take, refl, sym, ap, subst, ◌∙◌, inl, inr, ⊎_elim, arith, eqb-true}
-use Rattle.std.specs.List.{Contains, slice_get, slice_index_or}
+use Rattle.std.proofs.Common.{◌≡◌, ℕ, zero, suc, ◌+◌, ◌-◌, ◌<◌, ◌≤◌, ◌↔◌, ◌⊎◌, Bool, true, false, ◌==◌, ◌&&◌, ◌||◌, nat_lt, cond, Less, Equal, Greater, List, [], ◌∷◌, ◌++◌, length, get_or, take, refl, sym, ap, subst, ◌∙◌, inl, inr, ⊎_elim, arith, eqb-true}
+use Rattle.std.specs.List.{Contains, slice_index_or}
 use Rattle.std.specs.List.Sorted.{IsPermutation, IsSorted}
 use Rattle.std.specs.Ordering.{is_lt, nat_cmp, ordering_then}
 use Rattle.std.specs.declared.cmp.Ordering.{Ordering}
@@ -9,7 +9,6 @@ use Rattle.std.proofs.lemmas.Bool.Decides.{nat_tests}
 use Rattle.std.proofs.lemmas.List.Sorted.{Contains-permutation, IsPermutation-sym}
 use Rattle.std.proofs.Math.ListN.{get_or-append}
 use Rattle.std.proofs.Math.Seq.{get_or-append_seam}
-use Rattle.tx_events.specs.declared.event.By.{By}
 use Rattle.tx_events.specs.declared.multi.MultiEvent.{MultiEvent}
 use Rattle.tx_events.specs.declared.record.Counters.{Counters}
 use Rattle.tx_events.specs.Multis.{pin_limit}
@@ -133,19 +132,9 @@ parted limits n p order i j d l m e = both (slice_index_or limits i d) (slice_in
     both a b (inr u) (inl v) = let w = u.0 in before_is n p a.limit a.place (inl (omega arith))
     both a b (inr u) (inr v) = let w = u.0 in let x = u.1 in let y = v.0 in let z = v.1 in before_is n p a.limit a.place (inr (omega arith, omega arith))
 
-got_at : (limits : List LimitAt) (k : ℕ) (at d : LimitAt) → slice_get limits k ≡ Some at → (k < length limits) × (get_or limits k d ≡ at)
-got_at [] k at d e = absurd cc
-got_at (x ∷ limits) zero at d e = let same : x ≡ at = cc in (omega arith, same)
-got_at (x ∷ limits) (suc k) at d e = let r = got_at limits k at d e in let l = r.0 in (omega arith, r.1)
-
-none_at : (limits : List LimitAt) (k : ℕ) → slice_get limits k ≡ None → length limits ≤ k
-none_at [] k e = omega arith
-none_at (x ∷ limits) zero e = absurd cc
-none_at (x ∷ limits) (suc k) e = let r = none_at limits k e in omega arith
-
 module _ (limits : List LimitAt) (n from to first : ℕ) (order : AreInOrder limits)
-  (below : (k : ℕ) (d : LimitAt) → 0 ≤ k → k < first → is_before n from (slice_index_or limits k d) ≡ true)
-  (behind : (k : ℕ) (d : LimitAt) → first ≤ k → k < length limits → is_before n from (slice_index_or limits k d) ≡ false) where
+    (below : (k : ℕ) (d : LimitAt) → 0 ≤ k → k < first → is_before n from (slice_index_or limits k d) ≡ true)
+    (behind : (k : ℕ) (d : LimitAt) → first ≤ k → k < length limits → is_before n from (slice_index_or limits k d) ≡ false) where
   -- one that is sought isn't before the first
   sought_at : IsLimitWithin limits n from to → (k : ℕ) × (d : LimitAt) × (first ≤ k) × (k < length limits) × ((get_or limits k d).limit ≡ n) × (from ≤ (get_or limits k d).place) × ((get_or limits k d).place ≤ to)
   sought_at z =
@@ -155,28 +144,27 @@ module _ (limits : List LimitAt) (n from to first : ℕ) (order : AreInOrder lim
       let p : (get_or limits k at).place ≡ at.place = ap (λ (x : LimitAt). x.place) same in
       let b = z.3 in let c = z.4 in
       let from_first : first ≤ k = ⊎_elim
-          (λ (u : k < first).
-          let t = before_yes n from (get_or limits k at).limit (get_or limits k at).place (below k at (omega arith) u) in
-          ⊎_elim (λ (v : (get_or limits k at).limit < n). absurd (omega arith)) (λ (v : ((get_or limits k at).limit ≡ n) × ((get_or limits k at).place < from)). let w = v.1 in absurd (omega arith)) t)
-          (λ (u : first ≤ k). u)
-          (cases_lt k first) in
+      (λ (u : k < first).
+      let t = before_yes n from (get_or limits k at).limit (get_or limits k at).place (below k at (omega arith) u) in
+      ⊎_elim (λ (v : (get_or limits k at).limit < n). absurd (omega arith)) (λ (v : ((get_or limits k at).limit ≡ n) × ((get_or limits k at).place < from)). let w = v.1 in absurd (omega arith)) t)
+      (λ (u : first ≤ k). u)
+      (cases_lt k first) in
       (k, at, from_first, z.1.1, a, omega arith, omega arith)
 
-  pub within_iff : (at : LimitAt) → slice_get limits first ≡ Some at → ((at.limit ≡ n) × (at.place ≤ to)) ↔ IsLimitWithin limits n from to
-  within_iff at e =
-      let g = got_at limits first at at e in
-      let out : is_before n from at ≡ false = subst (λ (x : LimitAt). is_before n from x ≡ false) g.1 (behind first at (omega arith) g.0) in (
+  pub within_iff : (at : LimitAt) → first < length limits → ((d : LimitAt) → at ≡ get_or limits first d) → ((at.limit ≡ n) × (at.place ≤ to)) ↔ IsLimitWithin limits n from to
+  within_iff at m is =
+      let out : is_before n from at ≡ false = subst (λ (x : LimitAt). is_before n from x ≡ false) (sym (is at)) (behind first at (omega arith) m) in (
         λ z.
             let l = z.0 in
             let late : from ≤ at.place = ⊎_elim
-                (λ (u : at.place < from). absurd (false≢true (sym out ∙ before_is n from at.limit at.place (inr (l, u)))))
-                (λ (u : from ≤ at.place). u)
-                (cases_lt at.place from) in
-            (at, (first, g.0, g.1), l, late, z.1),
+            (λ (u : at.place < from). absurd (false≢true (sym out ∙ before_is n from at.limit at.place (inr (l, u)))))
+            (λ (u : from ≤ at.place). u)
+            (cases_lt at.place from) in
+            (at, (first, m, sym (is at)), l, late, z.1),
         λ w.
             let s = sought_at w in
             let x = get_or limits s.0 s.1 in
-            let here : get_or limits first s.1 ≡ at = (got_at limits first at s.1 e).1 in
+            let here : get_or limits first s.1 ≡ at = sym (is s.1) in
             let u : IsUpto at x = subst (λ (y : LimitAt). IsUpto y x) here (order first s.0 s.1 s.2 s.3) in
             let a : x.limit ≡ n = s.4 in
             let b = s.6 in
@@ -187,8 +175,8 @@ module _ (limits : List LimitAt) (n from to first : ℕ) (order : AreInOrder lim
       one at x out (inl u) a b = absurd (false≢true (sym out ∙ before_is n from at.limit at.place (inl (omega arith))))
       one at x out (inr u) a b = let c = u.0 in let d = u.1 in (omega arith, omega arith)
 
-  pub not_within : slice_get limits first ≡ None → IsLimitWithin limits n from to → ⊥
-  not_within e w = let s = sought_at w in let l = none_at limits first e in let a = s.2 in let b = s.3 in omega arith
+  pub not_within : length limits ≤ first → IsLimitWithin limits n from to → ⊥
+  not_within l w = let s = sought_at w in let a = s.2 in let b = s.3 in omega arith
 
 -- ---- the rule
 

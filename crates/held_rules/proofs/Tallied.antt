@@ -1,5 +1,5 @@
 -- How often a multixact is pinned, and the least that is.
-use Rattle.std.proofs.Common.{◌≡◌, ℕ, zero, suc, ◌+◌, ◌-◌, ◌^◌, ◌<◌, ◌≤◌, Bool, true, false, ◌==◌, cond, Option, Some, None, List, [], ◌∷◌, ◌++◌, length, get_or, map, min, take, refl, sym, ap, subst, ◌∙◌, inl, inr, ⊎_elim, arith, eqb-true, length-append}
+use Rattle.std.proofs.Common.{◌≡◌, ℕ, zero, suc, ◌+◌, ◌-◌, ◌^◌, ◌<◌, ◌≤◌, Bool, true, false, ◌==◌, cond, Option, Some, List, [], ◌∷◌, ◌++◌, length, get_or, map, min, take, refl, sym, ap, subst, ◌∙◌, inl, inr, ⊎_elim, arith, eqb-true, length-append}
 use Rattle.std.specs.Prelude.{IfSome}
 use Rattle.std.specs.List.{Contains, fold, slice_get}
 use Rattle.std.specs.Ordering.{nat_cmp, is_gt}
@@ -13,11 +13,12 @@ use Rattle.tx_events.specs.declared.multi.MultiEvent.{MultiEvent}
 use Rattle.tx_events.specs.declared.multi.MultiEvent.TheVariants as multis
 use Rattle.tx_events.specs.declared.record.Counters.{Counters}
 use Rattle.tx_events.specs.Multis.{AreLegalMultis, BaseOffset, Pin, pins, pins_after, same_pin, without_pin}
+use Rattle.counted_map.specs.declared.CountedMap.{CountedMap}
 use Rattle.counted_map.specs.Counts.{some_of, with_count}
 use Rattle.counted_map.proofs.Counted.{cmp_eq}
 use Rattle.multi_store.proofs.Counts.{length_without, same_equal, same_refl}
 use Rattle.multi_store.proofs.MadeSteps.{pins_push}
-use Rattle.held_rules.specs.Limits.{LetsGoHeld, pinned}
+use Rattle.held_rules.specs.Limits.{FitsMore, IsTally, LetsGoHeld, pinned}
 
 abbrev one_if : Bool → ℕ
 one_if b = cond b 1 0
@@ -34,16 +35,16 @@ pinned_push ps p m =
 
 pinned_without : (p : Pin) (ps : List Pin) (m : ℕ) → Has ps p → pinned (without_pin p ps) m + one_if (p.1 == m) ≡ pinned ps m
 pinned_without p [] m k = absurd k
-pinned_without p (x ∷ ps) m k = one (same_pin p x) refl
+pinned_without p (x ∷ ps) m k = one (λ t. pinned_without p ps m t) (same_pin p x) refl
   where
-    one : (b : Bool) → same_pin p x ≡ b → pinned (cond b ps (x ∷ without_pin p ps)) m + one_if (p.1 == m) ≡ pinned (x ∷ ps) m
-    one true e =
+    one : (Has ps p → pinned (without_pin p ps) m + one_if (p.1 == m) ≡ pinned ps m) → (b : Bool) → same_pin p x ≡ b → pinned (cond b ps (x ∷ without_pin p ps)) m + one_if (p.1 == m) ≡ pinned (x ∷ ps) m
+    one rest true e =
         let same : one_if (p.1 == m) ≡ one_if (x.1 == m) = ap (λ (q : Pin). one_if (q.1 == m)) (same_equal p x e) in
         let c = pinned_cons x ps m in
         omega arith
-    one false e =
+    one rest false e =
         let there : Has ps p = ⊎_elim (λ (f : x ≡ p). absurd (let t : true ≡ false = sym (ap (same_pin p) f ∙ same_refl p) ∙ e in cc)) (λ t. t) k in
-        let r = pinned_without p ps m there in
+        let r = rest there in
         let c = pinned_cons x ps m in
         let d = pinned_cons x (without_pin p ps) m in
         omega arith
@@ -85,12 +86,16 @@ pinned_most (p ∷ ps) m =
     at_most false = omega arith
 
 -- one more fits
-pub tally_fits : (ps : List Pin) (m : ℕ) (o : Option ℕ) → o ≡ some_of (pinned ps m) → length ps + 1 < 2 ^ 64 → IfSome o (λ n. n + 1 < 2 ^ 64)
-tally_fits ps m o e l = subst (λ (o : Option ℕ). IfSome o (λ n. n + 1 < 2 ^ 64)) (sym e) (one (pinned ps m) (let a = pinned_most ps m in omega arith))
+pub more_fits : (ps : List Pin) (counts : CountedMap ℕ) (e : MultiEvent) → IsTally ps counts → length ps + 1 < 2 ^ 64 → FitsMore counts e
+more_fits ps counts (multis.Gen by multi offset members) t l = tt
+more_fits ps counts (multis.Hold by multi) t l =
+    subst (λ (o : Option ℕ). IfSome o (λ n. n + 1 < 2 ^ 64)) (sym (t multi)) (one (pinned ps multi) (let a = pinned_most ps multi in omega arith))
   where
     one : (n : ℕ) → n + 1 < 2 ^ 64 → IfSome (some_of n) (λ n. n + 1 < 2 ^ 64)
     one zero f = tt
     one (suc n) f = f
+more_fits ps counts (multis.Unhold by multi) t l = tt
+more_fits ps counts (multis.Raise by multi offset) t l = tt
 
 -- ---- the least
 
@@ -105,11 +110,11 @@ has_pinned (p ∷ ps) m k =
 
 pinned_has : (ps : List Pin) (m : ℕ) → 1 ≤ pinned ps m → Has (map (λ (p : Pin). p.1) ps) m
 pinned_has [] m h = absurd (omega arith)
-pinned_has (p ∷ ps) m h = one (p.1 == m) refl (pinned_cons p ps m)
+pinned_has (p ∷ ps) m h = one (λ i. pinned_has ps m i) (p.1 == m) refl (pinned_cons p ps m)
   where
-    one : (b : Bool) → (p.1 == m) ≡ b → pinned (p ∷ ps) m ≡ one_if b + pinned ps m → Has (map (λ (p : Pin). p.1) (p ∷ ps)) m
-    one true e c = inl (eqb-true p.1 m e)
-    one false e c = inr (pinned_has ps m (omega arith))
+    one : (1 ≤ pinned ps m → Has (map (λ (p : Pin). p.1) ps) m) → (b : Bool) → (p.1 == m) ≡ b → pinned (p ∷ ps) m ≡ one_if b + pinned ps m → Has (map (λ (p : Pin). p.1) (p ∷ ps)) m
+    one rest true e c = inl (eqb-true p.1 m e)
+    one rest false e c = inr (rest (omega arith))
 
 pub least_some : (ps : List Pin) (k next : ℕ) → 1 ≤ pinned ps k → ((m : ℕ) → 1 ≤ pinned ps m → is_gt (nat_cmp k m) ≡ false) → fold min next (map (λ (p : Pin). p.1) ps) ≡ min next k
 least_some ps k next here least =

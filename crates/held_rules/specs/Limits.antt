@@ -1,5 +1,6 @@
 -- To which multixact the oldest one could be raised.
-use Rattle.std.specs.Prelude.{◌≡◌, ℕ, ◌<◌, ◌≤◌, ◌↔◌, ◌⊎◌, ◌==◌, ◌&&◌, ◌||◌, nat_lt, Bool, List, Contains, length, take, slice_index_or}
+use Rattle.std.specs.Prelude.{◌≡◌, ℕ, ◌+◌, ◌^◌, ◌<◌, ◌≤◌, ◌↔◌, ◌⊎◌, ◌==◌, ◌&&◌, ◌||◌, nat_lt, Bool, IfSome, List, Contains, length, take, slice_index_or}
+use Rattle.std.specs.BTreeMap.{get}
 use Rattle.std.specs.List.{HoldsAt, count_by}
 use Rattle.std.specs.Ordering.{nat_cmp}
 use Rattle.counted_map.specs.declared.CountedMap.{CountedMap}
@@ -26,6 +27,11 @@ IsTally held counts = Counts nat_cmp (pinned held) counts
 abbrev pub LetsGoHeld : List Pin → MultiEvent → Type 0
 LetsGoHeld held (multis.Unhold by multi) = Contains held (by.session, multi)
 LetsGoHeld held e = Unit {0}
+
+-- one pin more can be counted
+abbrev pub FitsMore : CountedMap ℕ → MultiEvent → Type 0
+FitsMore counts (multis.Hold by multi) = IfSome (get nat_cmp counts.counts multi) (λ n. n + 1 < 2 ^ 64)
+FitsMore counts e = Unit {0}
 
 -- ---- limits
 

@@ -4,8 +4,8 @@ ghost use Rattle.tx_events.specs.Multis.{pins};
 ghost use Rattle.held_rules.specs.Limits.{AreHeldLimits, AreLimitsBelow, IsLimitAt, IsTally};
 
 use crate::pins::{PinCounts, least_pinned, note_event};
-use multi_places::MultiPlaces;
 use counted_map::CountedMap;
+use multi_places::MultiPlaces;
 use std::alloc::Global;
 use tx_events::Memory;
 

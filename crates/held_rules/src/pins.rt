@@ -1,8 +1,8 @@
 //! How often each multixact is pinned.
-ghost use Rattle.std.specs.Prelude.{◌≡◌, ◌+◌, ◌^◌, ◌<◌, List, OnOk, map, min};
+ghost use Rattle.std.specs.Prelude.{◌≡◌, List, OnOk, map, min};
 ghost use Rattle.std.specs.List.{fold};
 ghost use Rattle.tx_events.specs.Multis.{Pin, pins_after};
-ghost use Rattle.held_rules.specs.Limits.{IsTally, LetsGoHeld};
+ghost use Rattle.held_rules.specs.Limits.{FitsMore, IsTally, LetsGoHeld};
 
 use counted_map::CountedMap;
 use tx_events::{FullMulti, Memory, MultiEvent};
@@ -12,11 +12,8 @@ pub type PinCounts = CountedMap<FullMulti>;
 
 /// Counts the pin that the event takes or lets go.
 pub fn note_event(counts: &mut PinCounts, e: &MultiEvent) -> Result<(), Memory>
-    ghost held: { List Pin }
-    requires tally { IsTally held counts.old }
-    requires size { length held + 1 < 2 ^ 64 }
-    requires own { LetsGoHeld held e.now }
-    ensures { OnOk result (IsTally (pins_after held e.now) counts.new) }
+    requires { FitsMore counts.old e.now }
+    ensures { OnOk result ((held : List Pin) → IsTally held counts.old → LetsGoHeld held e.now → IsTally (pins_after held e.now) counts.new) }
 {
     match e {
         MultiEvent::Hold { multi, .. } => {
@@ -33,9 +30,7 @@ pub fn note_event(counts: &mut PinCounts, e: &MultiEvent) -> Result<(), Memory>
 
 /// The least of a number and all pinned multixacts.
 pub fn least_pinned(next: u64, counts: &PinCounts) -> u64
-    ghost held: { List Pin }
-    requires { IsTally held counts.now }
-    ensures { result ≡ fold min next (map (λ p. p.1) held) }
+    ensures { (held : List Pin) → IsTally held counts.now → result ≡ fold min next (map (λ p. p.1) held) }
 {
     match counts.least() {
         Some(multi) => next.min(multi.number()),

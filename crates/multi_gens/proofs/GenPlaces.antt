@@ -1,5 +1,5 @@
 -- In a legal history a multixact is given at the last place at which it is the next one.
-use Rattle.std.proofs.Common.{◌≡◌, ℕ, zero, suc, ◌+◌, ◌-◌, ◌<◌, ◌≤◌, ◌⊎◌, ⊎_elim, Bool, true, false, cond, nat_lt, Option, Some, None, List, [], ◌∷◌, ◌++◌, length, take, get_or, refl, ap, sym, subst, ◌∙◌, arith}
+use Rattle.std.proofs.Common.{◌≡◌, ℕ, zero, suc, ◌+◌, ◌<◌, ◌≤◌, ⊎_elim, Bool, true, false, cond, nat_lt, Some, List, [], ◌∷◌, ◌++◌, length, take, ap, sym, ◌∙◌, arith}
 use Rattle.std.specs.List.{slice_get}
 use Rattle.std.proofs.lemmas.Bool.{cases_lt}
 use Rattle.tx_events.specs.declared.event.By.{By}
@@ -54,12 +54,12 @@ module _ (base : Counters) (known : BaseOffset) (h : List MultiEvent) (legal : A
       let s = (is.each q (omega arith)).0 (sym (next_at multi q g)) in
       let a = s.0 in let b = s.1 in
       let e : q + 1 ≡ span.end = ⊎_elim
-          (λ (u : q + 1 < span.end).
-          let f : span.from ≤ q + 1 = omega arith in
-          let t : next_in base (take (q + 1) h) ≡ multi = (is.each (q + 1) (omega arith)).1 (f, u) in
-          let n = next_behind multi q g in absurd (omega arith))
-          (λ (u : span.end ≤ q + 1). omega arith)
-          (cases_lt (q + 1) span.end) in
+      (λ (u : q + 1 < span.end).
+      let f : span.from ≤ q + 1 = omega arith in
+      let t : next_in base (take (q + 1) h) ≡ multi = (is.each (q + 1) (omega arith)).1 (f, u) in
+      let n = next_behind multi q g in absurd (omega arith))
+      (λ (u : span.end ≤ q + 1). omega arith)
+      (cases_lt (q + 1) span.end) in
       (a, e)
 
   pub only_at : (multi place : ℕ) (span : Span) (g : By) (m offset : ℕ) (members : List Member) → IsWhere (next_in base) h multi span → place + 1 ≡ span.end → span.from ≤ place → slice_get h place ≡ Some (multis.Gen g m offset members) → IsOnlyGenAt h multi place

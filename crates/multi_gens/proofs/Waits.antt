@@ -1,6 +1,6 @@
 -- Which multixacts weren't recorded yet, by the legal front of the history and what is given behind it.
-use Rattle.std.proofs.Common.{◌≡◌, ◌≢◌, ℕ, zero, suc, ◌+◌, ◌-◌, ◌<◌, ◌≤◌, ◌↔◌, ◌⊎◌, ⊎_elim, inl, inr, Bool, true, false, ◌==◌, ◌&&◌, ◌||◌, Option, Some, None, List, [], ◌∷◌, length, map, take, drop, get_or, refl, ap, sym, subst, ◌∙◌, arith}
-use Rattle.std.specs.List.{Contains, list_any, slice_get}
+use Rattle.std.proofs.Common.{◌≡◌, ◌≢◌, ℕ, zero, suc, ◌+◌, ◌-◌, ◌<◌, ◌≤◌, ◌↔◌, ◌⊎◌, ⊎_elim, inl, inr, Bool, true, false, ◌==◌, ◌&&◌, ◌||◌, Some, List, [], ◌∷◌, map, take, drop, get_or, refl, ap, sym, subst, ◌∙◌, arith}
+use Rattle.std.specs.List.{list_any, slice_get}
 use Rattle.std.proofs.lemmas.Bool.{cases_lt, cases_Bool, and_parts, false≢true}
 use Rattle.std.proofs.lemmas.Bool.Decides.{nat_tests}
 use Rattle.tx_events.specs.declared.event.By.{By}
@@ -10,18 +10,17 @@ use Rattle.tx_events.specs.declared.multi.MultiEvent.TheVariants as multis
 use Rattle.tx_events.specs.declared.record.Counters.{Counters}
 use Rattle.tx_events.specs.Multis.{multi_by, next_made}
 use Rattle.report_law.specs.MultiLines.{IsNotYet}
-use Rattle.own_places.specs.declared.own.Own.{Own}
 use Rattle.multi_places.specs.declared.start.Start.{Start}
 use Rattle.multi_told.specs.Shapes.{AnyPlace, ArePlacesOf}
 use Rattle.multi_told.proofs.Pinning.{any_place, bound_of, its_by, stands_at}
-use Rattle.multi_gens.specs.Gens.{AreStartsOf, IsAboveAt, IsRecordedIn, Waiting, WaitsIn, gives, is_ok_gen}
+use Rattle.multi_gens.specs.Gens.{AreStartsOf, IsAboveAt, IsOnlyGenAt, IsRecordedIn, NoGen, Waiting, WaitsIn, is_ok_gen}
 
 -- ---- pins above it
 
 above_by : (base : Counters) (all : List MultiEvent) (by : By) (multi p : ℕ) → IsAboveAt base all by multi p → slice_get (map multi_by all) p ≡ Some by
 above_by base all by multi p z = its_by all p (multis.Hold by z.0) z.1
 
-pub above_iff : (base : Counters) (all : List MultiEvent) (by : By) (own : List Own) (multi : ℕ) → ArePlacesOf by (map multi_by all) own → AnyPlace (IsAboveAt base all by multi) own ↔ ((p : ℕ) × IsAboveAt base all by multi p)
+pub above_iff : (base : Counters) (all : List MultiEvent) (by : By) (own : List ℕ) (multi : ℕ) → ArePlacesOf by (map multi_by all) own → AnyPlace (IsAboveAt base all by multi) own ↔ ((p : ℕ) × IsAboveAt base all by multi p)
 above_iff base all by own multi are = any_place (IsAboveAt base all by multi) by (map multi_by all) own are (λ p z. above_by base all by multi p z)
 
 pub above_at : (base : Counters) (all : List MultiEvent) (by its : By) (multi p held next : ℕ) (e : MultiEvent) → slice_get (map multi_by all) p ≡ Some by → e ≡ get_or all p e → e ≡ multis.Hold its held → next ≡ next_made base.multi (take p all)
@@ -68,11 +67,11 @@ any_of f (y ∷ xs) (suc k) x e t = either (f y) (any_of f xs k x e t)
 
 some_of_any : {X : Type 0} (f : X → Bool) (xs : List X) → list_any f xs ≡ true → (k : ℕ) × (x : X) × (slice_get xs k ≡ Some x) × (f x ≡ true)
 some_of_any f [] t = absurd cc
-some_of_any {X} f (y ∷ xs) t = one (f y) refl t
+some_of_any {X} f (y ∷ xs) t = one (f y) refl (λ r. some_of_any f xs r) t
   where
-    one : (b : Bool) → f y ≡ b → (b || list_any f xs) ≡ true → (k : ℕ) × (x : X) × (slice_get (y ∷ xs) k ≡ Some x) × (f x ≡ true)
-    one true is t = (0, y, refl, is)
-    one false is t = let r = some_of_any f xs t in (suc r.0, r.1, r.2, r.3)
+    one : (b : Bool) → f y ≡ b → (list_any f xs ≡ true → (k : ℕ) × (x : X) × (slice_get xs k ≡ Some x) × (f x ≡ true)) → (b || list_any f xs) ≡ true → (k : ℕ) × (x : X) × (slice_get (y ∷ xs) k ≡ Some x) × (f x ≡ true)
+    one true is rest t = (0, y, refl, is)
+    one false is rest t = let r = rest t in (suc r.0, r.1, r.2, r.3)
 
 -- ---- each command that was given it
 
@@ -148,3 +147,61 @@ waits_unrecorded w starts multi are i b r = let c = (are.each multi).0 r in i.un
 
 pub waits_front : (w : Waiting) (n multi : ℕ) → IsNotYet w.base w.recorded w.all w.round w.ok w.by multi → WaitsIn w.ok w.round.from w.round.to w.by (take n w.all) multi
 waits_front w n multi i = front_of w.ok w.round.from w.round.to n w.by w.all multi (λ place offset members giver e. i.whose place offset members giver e)
+
+-- ---- by the one place
+
+pub wait_none : (ok : By → Bool) (from to : ℕ) (by : By) (h : List MultiEvent) (multi : ℕ) → NoGen h multi → WaitsIn ok from to by h multi
+wait_none ok from to by h multi none place offset members giver e = absurd (none place (giver, offset, members, e))
+
+-- it was given there and nowhere else
+module _ (ok : By → Bool) (from to : ℕ) (by : By) (h : List MultiEvent) (multi place : ℕ) (only : IsOnlyGenAt h multi place) where
+  the_giver : (p offset : ℕ) (members : List Member) (giver : By) → slice_get h p ≡ Some (multis.Gen giver multi offset members) → (p ≡ place) × (giver ≡ only.0.0)
+  the_giver p offset members giver e =
+      let at : p ≡ place = only.1 p (giver, offset, members, e) in
+      let there : slice_get h place ≡ Some (multis.Gen giver multi offset members) = ap (slice_get h) (sym at) ∙ e in
+      let here = only.0.3 in
+      let same : giver ≡ only.0.0 = cc in
+      (at, same)
+
+  pub wait_unanswered : ok only.0.0 ≡ false → WaitsIn ok from to by h multi
+  wait_unanswered f p offset members giver e = inr (ap ok (the_giver p offset members giver e).1 ∙ f)
+
+  pub wait_elsewhere : (only.0.0.session ≢ by.session) × (from ≤ place) × (place < to) → WaitsIn ok from to by h multi
+  wait_elsewhere z p offset members giver e =
+      let s = the_giver p offset members giver e in
+      let other : giver.session ≢ by.session = subst (λ (b : By). b.session ≢ by.session) (sym s.1) z.0 in
+      inl (other, subst (λ k. from ≤ k) (sym s.0) z.1, subst (λ k. k < to) (sym s.0) z.2)
+
+  pub wait_at : WaitsIn ok from to by h multi → ok only.0.0 ≡ true → (only.0.0.session ≢ by.session) × (from ≤ place) × (place < to)
+  wait_at w t = ⊎_elim
+      (λ (z : (only.0.0.session ≢ by.session) × (from ≤ place) × (place < to)). z)
+      (λ (f : ok only.0.0 ≡ false). absurd (false≢true (sym f ∙ t)))
+      (w place only.0.1 only.0.2 only.0.0 only.0.3)
+
+-- what is told of the event of a front
+pub ok_at : (ok : By → Bool) (all h : List MultiEvent) (n place : ℕ) (e : MultiEvent) (oks : List Bool) (d : Bool) → oks ≡ map (λ (e : MultiEvent). ok (multi_by e)) all → h ≡ take n all → slice_get h place ≡ Some e → get_or oks place d ≡ ok (multi_by e)
+ok_at ok all h n place e oks d oks_are front s =
+    let there : slice_get (take n all) place ≡ Some e = ap (λ (xs : List MultiEvent). slice_get xs place) (sym front) ∙ s in
+    let whole : slice_get all place ≡ Some e = sym (at_take all n place (in_take all n place e there)) ∙ there in
+    ap (λ (xs : List Bool). get_or xs place d) oks_are ∙ mapped all place whole
+  where
+    mapped : (all : List MultiEvent) (place : ℕ) → slice_get all place ≡ Some e → get_or (map (λ (e : MultiEvent). ok (multi_by e)) all) place d ≡ ok (multi_by e)
+    mapped [] place s = absurd cc
+    mapped (x ∷ all) zero s = let same : x ≡ e = cc in ap (λ (y : MultiEvent). ok (multi_by y)) same
+    mapped (x ∷ all) (suc place) s = mapped all place s
+
+-- a front and its round under other names
+module _ (w : Waiting) (from to : ℕ) (by : By) (h : List MultiEvent) (n multi : ℕ) (f : from ≡ w.round.from) (t : to ≡ w.round.to) (b : by ≡ w.by) (e : h ≡ take n w.all) where
+  pub waits_named : WaitsIn w.ok from to by h multi → WaitsIn w.ok w.round.from w.round.to w.by (take n w.all) multi
+  waits_named a =
+      subst (λ (x : List MultiEvent). WaitsIn w.ok w.round.from w.round.to w.by x multi) e
+      (subst (λ (x : By). WaitsIn w.ok w.round.from w.round.to x h multi) b
+      (subst (λ (x : ℕ). WaitsIn w.ok w.round.from x by h multi) t
+      (subst (λ (x : ℕ). WaitsIn w.ok x to by h multi) f a)))
+
+  pub named_waits : WaitsIn w.ok w.round.from w.round.to w.by (take n w.all) multi → WaitsIn w.ok from to by h multi
+  named_waits a =
+      subst (λ (x : ℕ). WaitsIn w.ok x to by h multi) (sym f)
+      (subst (λ (x : ℕ). WaitsIn w.ok w.round.from x by h multi) (sym t)
+      (subst (λ (x : By). WaitsIn w.ok w.round.from w.round.to x h multi) (sym b)
+      (subst (λ (x : List MultiEvent). WaitsIn w.ok w.round.from w.round.to w.by x multi) (sym e) a)))

@@ -30,7 +30,11 @@ fn note_gen(multis: &mut BTreeSet<u64>, e: &MultiEvent, ok: bool) -> Result<(), 
 
 /// The multixacts that these events give to commands that were answered `ok` with a multixact: of each event it is told
 /// whether its command was.
-pub fn late_multis(alloc: Global, events: &[MultiEvent], oks: &[bool]) -> Result<BTreeSet<u64>, Memory>
+pub fn late_multis(
+    alloc: Global,
+    events: &[MultiEvent],
+    oks: &[bool],
+) -> Result<BTreeSet<u64>, Memory>
     ghost ok: { By → Bool }
     requires { oks.now ≡ map (λ (e : MultiEvent). ok (multi_by e)) events.now }
     ensures { IfOk result (λ late. (x : ℕ) → contains nat_cmp late x ≡ list_any (is_ok_gen ok x) events.now) }

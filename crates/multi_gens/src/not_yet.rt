@@ -16,7 +16,6 @@ ghost use Rattle.multi_gens.specs.Gens.{AreStartsOf, IsAboveAt, IsRecordedIn, Wa
 use crate::made::gen_place;
 use given_counts::GivenCounts;
 use multi_places::{MultiPlaces, Start};
-use own_places::Own;
 use std::collections::BTreeSet;
 use tx_events::{By, FullMulti, MultiEvent};
 
@@ -65,7 +64,7 @@ fn is_below_at(counts: &GivenCounts, multis: &[MultiEvent], place: u64, multi: F
 fn is_below_a_pin(
     counts: &GivenCounts,
     multis: &[MultiEvent],
-    places: &[Own],
+    places: &[u64],
     multi: FullMulti,
 ) -> bool
     ghost w: { Waiting }
@@ -74,8 +73,8 @@ fn is_below_a_pin(
     requires places { ArePlacesOf w.by (map multi_by w.all) places.now }
     ensures { IsTrue result ↔ AnyPlace (IsAboveAt w.base w.all w.by multi) places.now }
 {
-    for own in places {
-        if is_below_at(counts, multis, own.place, multi) {
+    for place in places {
+        if is_below_at(counts, multis, *place, multi) {
             return true;
         }
     }
@@ -90,7 +89,14 @@ fn is_elsewhere(session: u32, own: u32, place: u64, from: u64, to: u64) -> bool
 }
 
 /// Whether no event of the legal front gave the multixact to a command that may have recorded it.
-fn may_wait(places: &MultiPlaces, oks: &[bool], from: u64, to: u64, by: By, multi: FullMulti) -> bool
+fn may_wait(
+    places: &MultiPlaces,
+    oks: &[bool],
+    from: u64,
+    to: u64,
+    by: By,
+    multi: FullMulti,
+) -> bool
     ghost w: { Waiting }
     requires oks { oks.now ≡ map (λ (e : MultiEvent). w.ok (multi_by e)) w.all }
     requires front { (n : ℕ) × (places.now.events ≡ take n w.all) }
@@ -131,7 +137,7 @@ pub fn is_not_yet(
     oks: &[bool],
     late: &BTreeSet<u64>,
     starts: &[Start],
-    own: &[Own],
+    own: &[u64],
     from: u64,
     to: u64,
     by: By,

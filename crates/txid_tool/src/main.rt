@@ -1,11 +1,12 @@
 //! `txid_tool run`: reads a script from standard input and writes its report to standard output. `txid_tool gen SEED
 //! SIZE`: runs a generated script and writes its counts. `--folder NAME` before these words puts the volumes into a
-//! folder. See `docs/SCRIPT-AND-REPORT.md`.
+//! folder. `txid_tool check`: reads a report, and writes whether it is lawful. See `docs/SCRIPT-AND-REPORT.md`.
 #![tactic(auto)]
 
 use disk_core::MemMedia;
 use disk_folder::FolderMedia;
 use engine_parts::OpenGate;
+use report_check::check_tool;
 use session_run::{RoundThreads, run_tool, say_out_of_memory};
 use std::process::ExitCode;
 use std::thread::{Threads, available_parallelism};
@@ -38,6 +39,14 @@ fn take_folder(words: &mut Vec<String>) -> Option<String> {
     Some(words.remove(0))
 }
 
+/// Whether the words ask for a report's judgement.
+fn is_check(words: &[String]) -> bool {
+    match words {
+        [word] => word.as_str() == "check",
+        _ => false,
+    }
+}
+
 fn main(rt: HostRuntime) -> ExitCode {
     let mut sink = StdSink::new(rt.stdout());
     let mut words = match words(&rt) {
@@ -49,6 +58,9 @@ fn main(rt: HostRuntime) -> ExitCode {
         Err(_) => Vec::new(rt.alloc()),
     };
     let mut source = StdSource::new(rt.stdin());
+    if is_check(words.as_slice()) {
+        return ExitCode::from(check_tool(rt.alloc(), &mut source, &mut sink));
+    }
     let status = match take_folder(&mut words) {
         Some(path) => run_tool(
             &rt,

@@ -1,0 +1,5 @@
+//! Tests of the judgement of reports, from the worked rows of the format (docs/CHECKER.md).
+#![tactic(auto)]
+
+#[cfg(test)]
+mod judge_tests;

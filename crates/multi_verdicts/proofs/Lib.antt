@@ -1,0 +1,11 @@
+pub mod Nearness
+pub mod Parted
+pub mod Rising
+pub mod Judging
+pub mod Carrying
+pub mod Unseen
+pub mod Between
+pub mod GenPlaces
+pub mod Zips
+pub mod Answering
+pub mod Listing

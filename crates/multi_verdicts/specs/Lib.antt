@@ -1,0 +1,4 @@
+pub mod Stored
+pub mod Snapped
+pub mod Telling
+pub mod Gens

@@ -1,0 +1,4 @@
+pub mod Apart
+pub mod Earlier
+pub mod Counting
+pub mod Growing

@@ -1,0 +1,16 @@
+//! The rules of replies on single ids: what a snapshot holds and sees, how an id stands, whether it committed, and which
+//! members a multixact may have. A rule answers false only where no place serves. So a true one is found near where it is
+//! looked for first, and all places are gone through for a false one alone. See docs/CHECKER.md.
+#![tactic(auto)]
+
+mod asked;
+mod did;
+mod members;
+mod nearest;
+mod snapshots;
+mod visible;
+
+pub use asked::{is_future_at, is_status_at, is_warned};
+pub use did::{is_did_at, is_did_too_old};
+pub use members::{is_not_given, is_old_member};
+pub use snapshots::{is_seen, is_snapped, is_too_old_for};

@@ -1,26 +1,23 @@
 //! A life that runs.
 ghost use Rattle.std.specs.Prelude.{◌≡◌, ◌≤◌, [], vec_capacity};
+ghost use Rattle.engine_host.specs.Stores.{Store, volumes_in};
 
 use disk_core::{LogDisk, PageDisk};
-use engine_host::Host;
+use engine_host::{BankVolumes, Host};
 use engine_parts::EngineLaw;
 use hall::Hall;
 
-/// The volumes that no part of the engine uses, those of the multixacts' stores, and room to put those of its banks
-/// into when it is taken apart.
+/// Room to put the volumes of a life's banks into when it is taken apart.
 #[derive(Drop)]
-pub struct Aside<P> {
-    pub(crate) offsets: Vec<P>,
-    pub(crate) members: Vec<P>,
-    pub(crate) xact: Vec<P>,
-    pub(crate) subtrans: Vec<P>,
-    ghost empty: { (xact.items ≡ []) × (subtrans.items ≡ []) },
-    ghost room: { (67 ≤ vec_capacity xact) × (67 ≤ vec_capacity subtrans) },
+pub struct Room<P> {
+    pub(crate) volumes: BankVolumes<P>,
+    ghost empty: { (k : Store) → (volumes_in k volumes).items ≡ [] },
+    ghost room: { (k : Store) → 67 ≤ vec_capacity (volumes_in k volumes) },
 }
 
-/// A life: its lock table with the host, and the volumes that they don't use.
+/// A life: its lock table with the host.
 pub struct OpenLife<L: LogDisk, P: PageDisk> {
     pub hall: Hall<EngineLaw<L, P>>,
     pub host: Host<L, P>,
-    pub aside: Aside<P>,
+    pub room: Room<P>,
 }

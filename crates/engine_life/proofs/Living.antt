@@ -7,7 +7,6 @@ use Rattle.disk_core.specs.Images.{Only}
 use Rattle.engine_host.specs.declared.cluster.Cluster.{Cluster}
 use Rattle.engine_life.specs.declared.refusal.NoLife.{NoLife}
 use Rattle.engine_life.specs.declared.refusal.NoLife.TheVariants as no_lives
-use Rattle.engine_life.specs.Lives.{LeaveMultis}
 use Rattle.engine_life.specs.Refusals.{IsNoLife, IsUnopened}
 
 -- one text behind the other
@@ -29,9 +28,9 @@ of_oks (Err e) P Q R f k m = tt
 
 module _ {L P : Type 0} (l : logs.Ghosts L) (p : disks.Ghosts P) where
   pub unopened : (c : Cluster) (first : ℕ → Volumes L P → Type 0) (before now : ℕ) (gives : Volumes L P → Type 0) (old new : Volumes L P) (r : NoLife)
-      → first c.banks old → Only new gives → LeaveMultis old new → IsNoLife l p c old new r → IsUnopened l p c first before now gives r
-  unopened c first before now gives old new (no_lives.Damaged at) given only leave k = (old, new, given, only, leave, k)
-  unopened c first before now gives old new no_lives.OldLog given only leave k = (old, new, given, only, leave, k)
-  unopened c first before now gives old new no_lives.Device given only leave k = inr (old, new, given, only, leave, k)
-  unopened c first before now gives old new no_lives.Full given only leave k = (old, new, given, only, leave, k)
-  unopened c first before now gives old new no_lives.Memory given only leave k = tt
+      → first c.banks old → Only new gives → IsNoLife l p c old new r → IsUnopened l p c first before now gives r
+  unopened c first before now gives old new (no_lives.Damaged at) given only k = (old, new, given, only, k)
+  unopened c first before now gives old new no_lives.OldLog given only k = (old, new, given, only, k)
+  unopened c first before now gives old new no_lives.Device given only k = inr (old, new, given, only, k)
+  unopened c first before now gives old new no_lives.Full given only k = (old, new, given, only, k)
+  unopened c first before now gives old new no_lives.Memory given only k = tt

@@ -1,7 +1,6 @@
 -- The volumes of an engine that is taken apart are as many as its banks and stand in their order, and each has counted
 -- what its list tells.
 use Rattle.std.proofs.Common.{ℕ, zero, suc, ◌≡◌, ◌≢◌, ◌+◌, ◌-◌, ◌*◌, ◌<◌, ◌≤◌, ◌∷◌, [], ◌∙◌, List, None, Option, Some, ap, arith, drop, length, refl, subst, sym}
-use Rattle.std.proofs.lemmas.List.{length-drop}
 use Rattle.std.proofs.lemmas.Option.{same_Some, slice_get_within}
 use Rattle.std.specs.List.{cons_option, filter_map, slice_get}
 use Rattle.disk_core.specs.declared.log_disk.LogDisk as logs
@@ -81,125 +80,130 @@ module _ {X Y : Type 0} (f : X → Option Y) where
       (λ k z at_z. some (suc k) z (subst (λ m. slice_get all m ≡ Some z) (sym (on k 3)) at_z))
       n r low less)
 
--- what stands behind the first ones, none of which gives anything
-module _ {X Y : Type 0} (f : X → Option Y) where
-  behind_first : (n : ℕ) (xs : List X) → ((i : ℕ) (x : X) → i < n → slice_get xs i ≡ Some x → f x ≡ None) → filter_map f xs ≡ filter_map f (drop n xs)
-  behind_first zero xs none = refl
-  behind_first (suc n) [] none = refl
-  behind_first (suc n) (x ∷ xs) none = passed_by f x xs (none 0 x (omega arith) refl) ∙ behind_first n xs (λ i y low at_y. none (suc i) y (omega (arith, low)) at_y)
+  -- none of the first ones gives anything
+  dropped : (n : ℕ) (xs : List X) → ((i : ℕ) (x : X) → i < n → slice_get xs i ≡ Some x → f x ≡ None) → filter_map f xs ≡ filter_map f (drop n xs)
+  dropped zero xs none = refl
+  dropped (suc n) [] none = refl
+  dropped (suc n) (x ∷ xs) none = passed_by x xs (none 0 x (omega arith) refl) ∙ dropped n xs (λ i y low at_y. none (suc i) y (omega (arith, low)) at_y)
 
-dropped_get : {X : Type 0} (n m : ℕ) (xs : List X) → slice_get (drop n xs) m ≡ slice_get xs (n + m)
-dropped_get zero m xs = let same : m ≡ 0 + m = omega arith in ap (slice_get xs) same
-dropped_get (suc n) m [] = refl
-dropped_get (suc n) m (x ∷ xs) = let same : suc (n + m) ≡ suc n + m = omega arith in dropped_get n m xs ∙ ap (slice_get (x ∷ xs)) same
+drop_at : {X : Type 0} (n : ℕ) (xs : List X) (m : ℕ) → slice_get (drop n xs) m ≡ slice_get xs (n + m)
+drop_at zero xs m = refl
+drop_at (suc n) [] m = refl
+drop_at (suc n) (x ∷ xs) m = drop_at n xs m
+
+drop_long : {X : Type 0} (n : ℕ) (xs : List X) → n ≤ length xs → length (drop n xs) + n ≡ length xs
+drop_long zero xs le = omega arith
+drop_long (suc n) [] le = absurd (omega (arith, le))
+drop_long (suc n) (x ∷ xs) le = let e = drop_long n xs (omega (arith, le)) in omega (arith, e)
 
 -- ---- the parts behind the locks of banks
 
-few_places : (k : Store) → place_of k < 4
-few_places of_xact = omega arith
-few_places of_subtrans = omega arith
-few_places of_offsets = omega arith
-few_places of_members = omega arith
+place_small : (k : Store) → place_of k < 4
+place_small of_xact = omega arith
+place_small of_subtrans = omega arith
+place_small of_offsets = omega arith
+place_small of_members = omega arith
 
-lock_is : (k : Store) (bank : ℕ) → lock_in k bank ≡ place_of k + (3 + 4 * bank)
-lock_is of_xact bank = omega arith
-lock_is of_subtrans bank = omega arith
-lock_is of_offsets bank = omega arith
-lock_is of_members bank = omega arith
+lock_place : (k : Store) (bank : ℕ) → lock_in k bank ≡ place_of k + (3 + 4 * bank)
+lock_place of_xact bank = omega arith
+lock_place of_subtrans bank = omega arith
+lock_place of_offsets bank = omega arith
+lock_place of_members bank = omega arith
 
 module _ {L P : Type 0} {l : logs.Ghosts L} {p : disks.Ghosts P} where
   -- the volume of the part, which has counted what the list tells
-  abbrev HasCounted : Store → Start → ℕ → List Entry → Part L P l p → Type 0
-  HasCounted k start lock es part = (v : P) × (disk_in k part ≡ Some v) × (faults_told start lock es ≤ p.faults v)
+  abbrev HasCounted : (Part L P l p → Option P) → Start → ℕ → List Entry → Part L P l p → Type 0
+  HasCounted disk start lock es part = (v : P) × (disk part ≡ Some v) × (faults_told start lock es ≤ p.faults v)
 
-  here : (k : Store) (start : Start) (bank : ℕ) (es : List Entry) (part : Part L P l p) → PartStands start (lock_in k bank) part es → HasCounted k start (lock_in k bank) es part
-  here of_xact start bank es (parts.Log log) k = absurd (let e = k.0 in omega (arith, e))
-  here of_xact start bank es (parts.Proc table) k = absurd (let e = k.0 in omega (arith, e))
-  here of_xact start bank es (parts.Multi gen) k = absurd (let e = k.0 in omega (arith, e))
-  here of_xact start bank es (parts.Xact store) k =
-      (volume_of store.value, refl, subst (λ n. faults_told start n es ≤ p.faults (volume_of store.value)) (sym k.1) k.2.count)
-  here of_xact start bank es (parts.Subtrans store) k = absurd (let e = k.1 in omega (arith, e))
-  here of_xact start bank es (parts.Offsets store) k = absurd (let e = k.1 in omega (arith, e))
-  here of_xact start bank es (parts.Members store) k = absurd (let e = k.1 in omega (arith, e))
-  here of_subtrans start bank es (parts.Log log) k = absurd (let e = k.0 in omega (arith, e))
-  here of_subtrans start bank es (parts.Proc table) k = absurd (let e = k.0 in omega (arith, e))
-  here of_subtrans start bank es (parts.Multi gen) k = absurd (let e = k.0 in omega (arith, e))
-  here of_subtrans start bank es (parts.Xact store) k = absurd (let e = k.1 in omega (arith, e))
-  here of_subtrans start bank es (parts.Subtrans store) k =
-      (volume_of store.value, refl, subst (λ n. faults_told start n es ≤ p.faults (volume_of store.value)) (sym k.1) k.2.count)
-  here of_subtrans start bank es (parts.Offsets store) k = absurd (let e = k.1 in omega (arith, e))
-  here of_subtrans start bank es (parts.Members store) k = absurd (let e = k.1 in omega (arith, e))
-  here of_offsets start bank es (parts.Log log) k = absurd (let e = k.0 in omega (arith, e))
-  here of_offsets start bank es (parts.Proc table) k = absurd (let e = k.0 in omega (arith, e))
-  here of_offsets start bank es (parts.Multi gen) k = absurd (let e = k.0 in omega (arith, e))
-  here of_offsets start bank es (parts.Xact store) k = absurd (let e = k.1 in omega (arith, e))
-  here of_offsets start bank es (parts.Subtrans store) k = absurd (let e = k.1 in omega (arith, e))
-  here of_offsets start bank es (parts.Offsets store) k =
-      (volume_of store.value, refl, subst (λ n. faults_told start n es ≤ p.faults (volume_of store.value)) (sym k.1) k.2.stands.count)
-  here of_offsets start bank es (parts.Members store) k = absurd (let e = k.1 in omega (arith, e))
-  here of_members start bank es (parts.Log log) k = absurd (let e = k.0 in omega (arith, e))
-  here of_members start bank es (parts.Proc table) k = absurd (let e = k.0 in omega (arith, e))
-  here of_members start bank es (parts.Multi gen) k = absurd (let e = k.0 in omega (arith, e))
-  here of_members start bank es (parts.Xact store) k = absurd (let e = k.1 in omega (arith, e))
-  here of_members start bank es (parts.Subtrans store) k = absurd (let e = k.1 in omega (arith, e))
-  here of_members start bank es (parts.Offsets store) k = absurd (let e = k.1 in omega (arith, e))
-  here of_members start bank es (parts.Members store) k =
-      (volume_of store.value, refl, subst (λ n. faults_told start n es ≤ p.faults (volume_of store.value)) (sym k.1) k.2.stands.count)
+  counted_here : (k : Store) (start : Start) (bank : ℕ) (es : List Entry) (part : Part L P l p) → PartStands start (lock_in k bank) part es → HasCounted (disk_in k) start (lock_in k bank) es part
+  counted_here of_xact start bank es (parts.Log log) s = absurd (let e = s.0 in omega (arith, e))
+  counted_here of_xact start bank es (parts.Proc table) s = absurd (let e = s.0 in omega (arith, e))
+  counted_here of_xact start bank es (parts.Multi gen) s = absurd (let e = s.0 in omega (arith, e))
+  counted_here of_xact start bank es (parts.Xact store) s =
+      (volume_of store.value, refl, subst (λ n. faults_told start n es ≤ p.faults (volume_of store.value)) (sym s.1) s.2.count)
+  counted_here of_xact start bank es (parts.Subtrans store) s = absurd (let e = s.1 in omega (arith, e))
+  counted_here of_xact start bank es (parts.Offsets store) s = absurd (let e = s.1 in omega (arith, e))
+  counted_here of_xact start bank es (parts.Members store) s = absurd (let e = s.1 in omega (arith, e))
+  counted_here of_subtrans start bank es (parts.Log log) s = absurd (let e = s.0 in omega (arith, e))
+  counted_here of_subtrans start bank es (parts.Proc table) s = absurd (let e = s.0 in omega (arith, e))
+  counted_here of_subtrans start bank es (parts.Multi gen) s = absurd (let e = s.0 in omega (arith, e))
+  counted_here of_subtrans start bank es (parts.Xact store) s = absurd (let e = s.1 in omega (arith, e))
+  counted_here of_subtrans start bank es (parts.Subtrans store) s =
+      (volume_of store.value, refl, subst (λ n. faults_told start n es ≤ p.faults (volume_of store.value)) (sym s.1) s.2.count)
+  counted_here of_subtrans start bank es (parts.Offsets store) s = absurd (let e = s.1 in omega (arith, e))
+  counted_here of_subtrans start bank es (parts.Members store) s = absurd (let e = s.1 in omega (arith, e))
+  counted_here of_offsets start bank es (parts.Log log) s = absurd (let e = s.0 in omega (arith, e))
+  counted_here of_offsets start bank es (parts.Proc table) s = absurd (let e = s.0 in omega (arith, e))
+  counted_here of_offsets start bank es (parts.Multi gen) s = absurd (let e = s.0 in omega (arith, e))
+  counted_here of_offsets start bank es (parts.Xact store) s = absurd (let e = s.1 in omega (arith, e))
+  counted_here of_offsets start bank es (parts.Subtrans store) s = absurd (let e = s.1 in omega (arith, e))
+  counted_here of_offsets start bank es (parts.Offsets store) s =
+      (volume_of store.value, refl, subst (λ n. faults_told start n es ≤ p.faults (volume_of store.value)) (sym s.1) s.2.stands.count)
+  counted_here of_offsets start bank es (parts.Members store) s = absurd (let e = s.1 in omega (arith, e))
+  counted_here of_members start bank es (parts.Log log) s = absurd (let e = s.0 in omega (arith, e))
+  counted_here of_members start bank es (parts.Proc table) s = absurd (let e = s.0 in omega (arith, e))
+  counted_here of_members start bank es (parts.Multi gen) s = absurd (let e = s.0 in omega (arith, e))
+  counted_here of_members start bank es (parts.Xact store) s = absurd (let e = s.1 in omega (arith, e))
+  counted_here of_members start bank es (parts.Subtrans store) s = absurd (let e = s.1 in omega (arith, e))
+  counted_here of_members start bank es (parts.Offsets store) s = absurd (let e = s.1 in omega (arith, e))
+  counted_here of_members start bank es (parts.Members store) s =
+      (volume_of store.value, refl, subst (λ n. faults_told start n es ≤ p.faults (volume_of store.value)) (sym s.1) s.2.stands.count)
 
-  none_of : (k : Store) (start : Start) (lock : ℕ) (es : List Entry) (part : Part L P l p) → ((bank : ℕ) → lock ≢ lock_in k bank) → PartStands start lock part es → disk_in k part ≡ None
-  none_of of_xact start lock es (parts.Xact store) other k = absurd (other k.0 k.1)
-  none_of of_xact start lock es part other k = refl
-  none_of of_subtrans start lock es (parts.Subtrans store) other k = absurd (other k.0 k.1)
-  none_of of_subtrans start lock es part other k = refl
-  none_of of_offsets start lock es (parts.Offsets store) other k = absurd (other k.0 k.1)
-  none_of of_offsets start lock es part other k = refl
-  none_of of_members start lock es (parts.Members store) other k = absurd (other k.0 k.1)
-  none_of of_members start lock es part other k = refl
+  none_other : (k : Store) (start : Start) (lock : ℕ) (es : List Entry) (part : Part L P l p) → ((bank : ℕ) → lock ≢ lock_in k bank) → PartStands start lock part es → disk_in k part ≡ None
+  none_other of_xact start lock es (parts.Xact store) other s = absurd (other s.0 s.1)
+  none_other of_xact start lock es part other s = refl
+  none_other of_subtrans start lock es (parts.Subtrans store) other s = absurd (other s.0 s.1)
+  none_other of_subtrans start lock es part other s = refl
+  none_other of_offsets start lock es (parts.Offsets store) other s = absurd (other s.0 s.1)
+  none_other of_offsets start lock es part other s = refl
+  none_other of_members start lock es (parts.Members store) other s = absurd (other s.0 s.1)
+  none_other of_members start lock es part other s = refl
 
-  module _ (k : Store) (start : Start) (lists : List (List Entry)) (locks : List (Part L P l p)) (stand : (lock : ℕ) (part : Part L P l p) → slice_get locks lock ≡ Some part → PartStands start lock part (at lists lock)) where
-    -- from this part on each fourth lock is one of the store's
+  module _ (start : Start) (lists : List (List Entry)) (locks : List (Part L P l p)) (stand : (lock : ℕ) (part : Part L P l p) → slice_get locks lock ≡ Some part → PartStands start lock part (at lists lock)) (k : Store) where
     abbrev rest : List (Part L P l p)
     rest = drop (place_of k) locks
 
-    found_in : (n : ℕ) (q : Part L P l p) → slice_get rest n ≡ Some q → slice_get locks (place_of k + n) ≡ Some q
-    found_in n q at_q = sym (dropped_get (place_of k) n locks) ∙ at_q
+    none_front : (i : ℕ) (q : Part L P l p) → i < place_of k → slice_get locks i ≡ Some q → disk_in k q ≡ None
+    none_front i q low at_q = none_other k start i (at lists i) q (λ b e. let w = lock_place k b in omega (arith, low, e, w)) (stand i q at_q)
 
-    no_others : (j i : ℕ) (q : Part L P l p) → i < 3 → slice_get rest (i + 4 * j) ≡ Some q → disk_in k q ≡ None
-    no_others j i q low at_q =
-        none_of k start (place_of k + (i + 4 * j)) (at lists (place_of k + (i + 4 * j))) q (λ b e. let is = lock_is k b in omega (arith, low, e, is)) (stand (place_of k + (i + 4 * j)) q (found_in (i + 4 * j) q at_q))
+    none_between : (j i : ℕ) (q : Part L P l p) → i < 3 → slice_get rest (i + 4 * j) ≡ Some q → disk_in k q ≡ None
+    none_between j i q low at_q =
+        let n : ℕ = place_of k + (i + 4 * j) in
+        none_other k start n (at lists n) q (λ b e. let w = lock_place k b in omega (arith, low, e, w)) (stand n q (sym (drop_at (place_of k) locks (i + 4 * j)) ∙ at_q))
 
-    at_bank : (bank : ℕ) (q : Part L P l p) → slice_get rest (3 + 4 * bank) ≡ Some q → slice_get locks (lock_in k bank) ≡ Some q
-    at_bank bank q at_q = ap (slice_get locks) (lock_is k bank) ∙ found_in (3 + 4 * bank) q at_q
+    behind : (bank : ℕ) (q : Part L P l p) → slice_get rest (3 + 4 * bank) ≡ Some q → slice_get locks (lock_in k bank) ≡ Some q
+    behind bank q at_q = subst (λ n. slice_get locks n ≡ Some q) (sym (lock_place k bank)) (sym (drop_at (place_of k) locks (3 + 4 * bank)) ∙ at_q)
 
     each_fourth : (bank : ℕ) (q : Part L P l p) → slice_get rest (3 + 4 * bank) ≡ Some q → (v : P) × (disk_in k q ≡ Some v)
-    each_fourth bank q at_q = let h = here k start bank (at lists (lock_in k bank)) q (stand (lock_in k bank) q (at_bank bank q at_q)) in (h.0, h.1)
+    each_fourth bank q at_q = let h = counted_here k start bank (at lists (lock_in k bank)) q (stand (lock_in k bank) q (behind bank q at_q)) in (h.0, h.1)
 
-    none_first : disks_in k locks ≡ disks_in k rest
-    none_first = behind_first (disk_in k) (place_of k) locks (λ i q low at_q. none_of k start i (at lists i) q (λ b e. let is = lock_is k b in let few = few_places k in omega (arith, low, e, is, few)) (stand i q at_q))
-
-    volume_at : (bank : ℕ) (part : Part L P l p) (v : P) → slice_get locks (lock_in k bank) ≡ Some part → disk_in k part ≡ Some v → slice_get (disks_in k locks) bank ≡ Some v
-    volume_at bank part v found is =
-        ap (λ (vs : List P). slice_get vs bank) none_first
-        ∙ fourth (disk_in k) rest no_others each_fourth bank part v (dropped_get (place_of k) (3 + 4 * bank) locks ∙ ap (slice_get locks) (sym (lock_is k bank)) ∙ found) is
+    disk_at : (bank : ℕ) (part : Part L P l p) (v : P) → slice_get locks (lock_in k bank) ≡ Some part → disk_in k part ≡ Some v → slice_get (disks_in k locks) bank ≡ Some v
+    disk_at bank part v found is =
+        ap (λ (vs : List P). slice_get vs bank) (dropped (disk_in k) (place_of k) locks none_front)
+        ∙ fourth (disk_in k) rest none_between each_fourth bank part v
+        (drop_at (place_of k) locks (3 + 4 * bank) ∙ subst (λ n. slice_get locks n ≡ Some part) (lock_place k bank) found) is
 
     -- there are as many as banks
-    pub store_many : (banks : ℕ) (volumes : List P) → start.banks ≡ banks → length locks ≡ 3 + 4 * banks → volumes ≡ disks_in k locks → length volumes ≡ start.banks
-    store_many banks volumes same count is =
-        let few = few_places k in
-        let long = length-drop (place_of k) locks in
-        ap length is ∙ ap length none_first ∙ fourths (disk_in k) rest no_others each_fourth banks (3 - place_of k) (omega arith) (omega (arith, long, count, few)) ∙ sym same
+    pub as_many : (banks : ℕ) (volumes : List P) → start.banks ≡ banks → length locks ≡ 3 + 4 * banks → volumes ≡ disks_in k locks → length volumes ≡ start.banks
+    as_many banks volumes same count is =
+        let small = place_small k in
+        let long = drop_long (place_of k) locks (omega (arith, small, count)) in
+        ap length is
+        ∙ (ap length (dropped (disk_in k) (place_of k) locks none_front)
+        ∙ (fourths (disk_in k) rest none_between each_fourth banks (3 - place_of k) (omega (arith, small)) (omega (arith, small, long, count)) ∙ sym same))
 
     -- each volume is as the part behind its lock has it
-    pub store_behind : (F : ℕ → P → Type 0) → ((bank : ℕ) (part : Part L P l p) → PartStands start (lock_in k bank) part (at lists (lock_in k bank)) → (v : P) × (disk_in k part ≡ Some v) × F bank v)
+    pub each_behind : (F : ℕ → P → Type 0) → ((bank : ℕ) (part : Part L P l p) → PartStands start (lock_in k bank) part (at lists (lock_in k bank)) → (v : P) × (disk_in k part ≡ Some v) × F bank v)
         → (banks : ℕ) (volumes : List P) → start.banks ≡ banks → length locks ≡ 3 + 4 * banks → volumes ≡ disks_in k locks → (bank : ℕ) → bank < start.banks → (v : P) × (slice_get volumes bank ≡ Some v) × F bank v
-    store_behind F each banks volumes same count is bank low =
-        let few = few_places k in let place = lock_is k bank in
-        let q = there locks (lock_in k bank) (omega (arith, low, same, count, few, place)) in
+    each_behind F each banks volumes same count is bank low =
+        let small = place_small k in
+        let w = lock_place k bank in
+        let q = there locks (lock_in k bank) (omega (arith, low, same, count, small, w)) in
         let h = each bank q.0 (stand (lock_in k bank) q.0 q.1) in
-        (h.0, ap (λ (vs : List P). slice_get vs bank) is ∙ volume_at bank q.0 h.0 q.1 h.1, h.2)
+        (h.0, ap (λ (vs : List P). slice_get vs bank) is ∙ disk_at bank q.0 h.0 q.1 h.1, h.2)
 
-    -- each volume has counted what its list tells
-    pub store_told : (banks : ℕ) (volumes : List P) → start.banks ≡ banks → length locks ≡ 3 + 4 * banks → volumes ≡ disks_in k locks → (bank : ℕ) → bank < start.banks
+    -- each has counted what its list tells
+    pub each_told : (banks : ℕ) (volumes : List P) → start.banks ≡ banks → length locks ≡ 3 + 4 * banks → volumes ≡ disks_in k locks → (bank : ℕ) → bank < start.banks
         → (v : P) × (slice_get volumes bank ≡ Some v) × (faults_told start (lock_in k bank) (at lists (lock_in k bank)) ≤ p.faults v)
-    store_told = store_behind (λ bank v. faults_told start (lock_in k bank) (at lists (lock_in k bank)) ≤ p.faults v)
-        (λ bank part. here k start bank (at lists (lock_in k bank)) part)
+    each_told = each_behind (λ bank v. faults_told start (lock_in k bank) (at lists (lock_in k bank)) ≤ p.faults v)
+        (λ bank part. counted_here k start bank (at lists (lock_in k bank)) part)

@@ -61,15 +61,6 @@ number_of_code (suc (suc (suc n))) lt = omega arith
 state_small : (bytes : List ℕ) (place : ℕ) → state_in bytes place < 4
 state_small bytes place = bits_small (slice_index bytes (place / 4)) (place % 4)
 
--- pages that aren't there show no number
-no_offset_byte : (banks x i : ℕ) → byte_held (offsets_on banks (λ bank q. page_bytes None) x) i ≡ 0
-no_offset_byte banks x i = ap (λ n. byte_held (cond (n == 0) None (Some (λ j. slice_index zero_page (word_place_of x + j)))) i) (zero_number (word_place_of x))
-
-no_slot_byte : (banks x i : ℕ) → byte_held (members_on banks (λ bank q. page_bytes None) x) i ≡ 0
-no_slot_byte banks x i =
-    ap (λ n. byte_held (cond (n + slice_index zero_page (mode_place_of x) == 0) None (Some (λ j. slice_index zero_page (slot_place_of x j)))) i) (zero_number (member_place_of x))
-    ∙ ap (λ n. byte_held (cond (0 + n == 0) None (Some (λ j. slice_index zero_page (slot_place_of x j)))) i) (zero_byte (mode_place_of x))
-
 module _ {L P : Type 0} (l : logs.Ghosts L) (p : disks.Ghosts P) where
   -- what reads give of the volumes: a crash may leave just that
   abbrev pages_read : Option P → Pages
@@ -150,28 +141,6 @@ module _ {L P : Type 0} (l : logs.Ghosts L) (p : disks.Ghosts P) where
           sym (ap (λ (t : List ℕ). number_of_state (state_of_code (state_in t (xact_place_of x)))) same ∙ number_of_code (state_in bytes (xact_place_of x)) (state_small bytes (xact_place_of x)));
     }
 
-    -- no recorded multixact is in use
-    pub none_shown : HasNoMultis cluster begins
-    none_shown =
-        let o = clean.offsets in
-        let m = clean.members in
-        record {
-          offsets = record {
-            before = o.before;
-            recorded = λ multi offset members k from i low. sym (no_offset_byte (length xact') multi i) ∙ o.recorded multi offset members k from i low;
-            other = λ multi full from to none. refl;
-            clean = λ x from to. refl;
-          };
-          members = record {
-            before = m.before;
-            in_order = m.in_order;
-            recorded = λ multi offset n ms member k from at i low. sym (no_slot_byte (length xact') (offset + n) i) ∙ m.recorded multi offset n ms member k from at i low;
-            gap = λ multi offset members k from low i few. refl;
-            clean = λ x i from to low. refl;
-            behind = λ x past to. refl;
-          };
-        }
-
     -- the list that a later recovery goes by gives what the life begins with
     pub start_given : GivesStart start r.recovered.later.first r.recovered.later.recs
     start_given =
@@ -214,14 +183,18 @@ module _ {L P : Type 0} (l : logs.Ghosts L) (p : disks.Ghosts P) where
 
 module _ {L P : Type 0} (l : logs.Ghosts L) (p : disks.Ghosts P) where
   -- The counts of a life aren't below those of the volumes before the recovery, in which none fell.
-  pub counted_before : (disk disk' : L) (old new : BankVolumes P) (faults : List ℕ) → ((k : Store) → length (volumes_in k new).items ≡ length (volumes_in k old).items)
-      → l.faults disk ≤ l.faults disk' → ((k : Store) → NoCountFell p (volumes_in k old).items (volumes_in k new).items) → AreCounted l p disk' new faults → AreCounted l p disk old faults
-  counted_before disk disk' old new faults same up all_up have = record {
+  pub counted_before : (disk disk' : L) (states states' parents parents' : List P) (faults : List ℕ) → length states' ≡ length states → length parents' ≡ length parents
+      → l.faults disk ≤ l.faults disk' → NoCountFell p states states' → NoCountFell p parents parents' → AreCounted l p disk' states' parents' faults → AreCounted l p disk states parents faults
+  counted_before disk disk' states states' parents parents' faults some others up states_up parents_up have = record {
     log = let more = have.log in omega (arith, up, more);
-    banks = λ k bank v at.
-        let now = had (volumes_in k new).items (volumes_in k old).items (sym (same k)) bank v at in
-        let more = all_up k bank v now.0 at now.1 in
-        let have_it = have.banks k bank now.0 now.1 in omega (arith, more, have_it);
+    xact = λ bank v at.
+        let now = had states' states (sym some) bank v at in
+        let more = states_up bank v now.0 at now.1 in
+        let have_it = have.xact bank now.0 now.1 in omega (arith, more, have_it);
+    subtrans = λ bank v at.
+        let now = had parents' parents (sym others) bank v at in
+        let more = parents_up bank v now.0 at now.1 in
+        let have_it = have.subtrans bank now.0 now.1 in omega (arith, more, have_it);
   }
 
 -- over volumes that don't tell nothing is committed
@@ -231,11 +204,6 @@ none_before kept from sessions banks counters x k = absurd (contains_has [] x k)
 -- empty pages show nothing
 pub empty_shown : {P : Type 0} (p : disks.Ghosts P) (volumes : List P) → ((disk : P) → p.images disk (p.pages disk)) → AreEmpty p volumes → AllShowNothing p false volumes
 empty_shown p volumes each empty n disk at q small = empty n disk at (p.pages disk) (each disk) q small
-
--- and such volumes are on disk as they are
-pub empty_on_disk : {P : Type 0} (p : disks.Ghosts P) (volumes : List P) → ((disk : P) → p.images disk (p.pages disk)) → AreEmpty p volumes → (n : ℕ) (disk : P) → slice_get volumes n ≡ Some disk
-    → (c : Pages) → p.images disk c → (q : ℕ) → q < 2 ^ 32 → page_bytes (c q) ≡ page_bytes (p.pages disk q)
-empty_on_disk p volumes each empty n disk at c left q small = empty n disk at c left q small ∙ sym (empty n disk at (p.pages disk) (each disk) q small)
 
 pub before_any : (tells : Bool) (kept : KeptLog) (from sessions banks : ℕ) (counters : Counters)
     → (IsTrue tells → AreGivenBefore (life_from (cluster_over counters banks sessions) (behind true kept from) [])) → AreGivenBefore (life_from (cluster_over counters banks sessions) (behind tells kept from) [])

@@ -14,7 +14,6 @@ use Rattle.recoverable.specs.Clusters.{HasFailedAt}
 use Rattle.engine_host.specs.Refused.{HasNoRoom, OpensEmpty}
 use Rattle.engine_life.specs.declared.refusal.NoLife.{NoLife}
 use Rattle.engine_life.specs.declared.refusal.NoLife.TheVariants as no_lives
-use Rattle.engine_host.specs.Stores.{Store, banks_of, volumes_in}
 
 abbrev pub refusal_by : OpenRefusal → NoLife
 refusal_by (refusals.Damaged at) = no_lives.Damaged at
@@ -36,7 +35,10 @@ module _ {L P : Type 0} (l : logs.Ghosts L) (p : disks.Ghosts P) where
   abbrev pub HasVolumeFailed : Volumes L P → Volumes L P → Type 0
   HasVolumeFailed old new =
       HasRisen (l.faults old.log) (l.faults new.log)
-      ⊎ ((k : Store) × (bank : ℕ) × HasFailedAt p.faults bank (volumes_in k (banks_of old)).items (volumes_in k (banks_of new)).items)
+      ⊎ (((bank : ℕ) × HasFailedAt p.faults bank old.xact.items new.xact.items)
+      ⊎ (((bank : ℕ) × HasFailedAt p.faults bank old.subtrans.items new.subtrans.items)
+      ⊎ (((bank : ℕ) × HasFailedAt p.faults bank old.offsets.items new.offsets.items)
+      ⊎ ((bank : ℕ) × HasFailedAt p.faults bank old.members.items new.members.items))))
 
   -- why no life was opened over these volumes, which came back so
   abbrev pub IsNoLife : Cluster → Volumes L P → Volumes L P → NoLife → Type 0

@@ -4,82 +4,76 @@ ghost use Rattle.hall.specs.Calls.{start_of, view};
 ghost use Rattle.notes.specs.Lists.{at};
 ghost use Rattle.tx_core.specs.EngineInvariant.{EngineInvariant};
 ghost use Rattle.tx_core.specs.Entries.{AreFewIds, history};
-ghost use Rattle.tx_core.specs.Locks.{log_lock, multi_lock};
+ghost use Rattle.tx_core.specs.Locks.{log_lock};
 ghost use Rattle.tx_core.specs.MultiEntries.{multi_history};
 ghost use Rattle.recoverable.specs.Whole.{BeganRight};
 ghost use Rattle.engine_parts.specs.Parts.{IsLogOf};
-ghost use Rattle.engine_parts.specs.Stand.{MultiStands};
 ghost use Rattle.engine_host.specs.Hosts.{HoldsAllBut, IsHost};
 ghost use Rattle.engine_life.specs.Lives.{EndFit, HaveCountedTold, HaveFollowed, HaveVolumes, volumes_left};
 
-use crate::life::{OpenLife, Room};
+use crate::life::{Aside, OpenLife};
 use disk_core::{LogDisk, PageDisk, Volumes};
 use engine_host::{BankVolumes, Parts, TakenApart, close, take_apart};
-use multi_store::MultiGen;
 use tx_events::EventList;
 use wal_core::WalLog;
 
-/// What a life leaves: its log, its history, its multixacts, and the other volumes of the media.
+/// What a life leaves: its log, its history, and the other volumes of the media.
 pub struct ClosedLife<L: LogDisk, P> {
     pub log: WalLog<L>,
     pub events: EventList,
-    pub multis: MultiGen,
     xact: Vec<P>,
     subtrans: Vec<P>,
     offsets: Vec<P>,
     members: Vec<P>,
 }
 
-/// Closes a life whose sessions are all dismissed. Its history, its multixacts and its log are those of the lists that the
-/// host has seen, which are all that was done, and of which the engine invariant holds. Each bank has its volumes. Each of
-/// these has counted at least the faults that its list tells, and a crash would leave of each of pg_xact what its list
-/// allows. Takes no memory.
+/// Closes a life whose sessions are all dismissed. Its history and its log are those of the lists that the host has seen,
+/// which are all that was done, and of which the engine invariant holds. Each bank has its four volumes. Each of these has
+/// counted at least the faults that its list tells, and a crash would leave of each of pg_xact what its list allows. Takes
+/// no memory.
 pub fn close_life<L: LogDisk + Drop, P: PageDisk + Drop>(life: OpenLife<L, P>) -> ClosedLife<L, P>
     requires host { IsHost life.hall life.host }
     requires all { HoldsAllBut life.host [] }
     ensures events { result.events ≡ history (view life.host.pass).seen }
     ensures log { IsLogOf (start_of life.hall) result.log (at (view life.host.pass).seen log_lock) }
-    ensures multis { MultiStands (start_of life.hall) result.multis (at (view life.host.pass).seen multi_lock) }
     ensures kept { EngineInvariant (start_of life.hall) (view life.host.pass).seen }
     ensures banks { HaveVolumes (start_of life.hall).banks (volumes_left result) }
     ensures counted { HaveCountedTold L.LogDisk P.PageDisk (start_of life.hall) (view life.host.pass).seen (volumes_left result) }
     // In a life of fewer than 2,900,000 ids.
     ensures states { IsTrue P.tells → AreFewIds (view life.host.pass).seen → HaveFollowed P.PageDisk
         (start_of life.hall) (view life.host.pass).seen (volumes_left result).xact.items }
-    // So a recovery may begin from what it leaves, where it began with a base from which a life may start, and no multixact
-    // was recorded before it or made in it.
+    // So a recovery may begin from what it leaves, where it began with a base from which a life may start, and no multixact,
+    // and made none.
     ensures fit { IsTrue L.tells → IsTrue P.tells → BeganRight (start_of life.hall) → (start_of life.hall).recorded ≡ []
-        → multi_history (view life.host.pass).seen ≡ [] → AreFewIds (view life.host.pass).seen
-        → EndFit L.LogDisk P.PageDisk (start_of life.hall) (view life.host.pass).seen (volumes_left result) }
+        → multi_history (view life.host.pass).seen ≡ [] → AreFewIds (view life.host.pass).seen → EndFit L.LogDisk P.PageDisk (start_of life.hall)
+        (view life.host.pass).seen (volumes_left result) }
 {
-    let OpenLife { hall, host, room } = life;
+    let OpenLife { hall, host, aside } = life;
     let parts = close(hall, host);
     let Parts {
         cluster: _,
         locks,
         start: _,
     } = parts;
-    let Room { volumes } = room;
+    let Aside { room } = aside;
     let TakenApart {
         log,
         table,
-        multis,
+        multis: _,
         volumes,
-    } = take_apart(locks, volumes);
-    let log = Box::into_inner(log);
-    let table = Box::into_inner(table);
-    let multis = Box::into_inner(multis);
-    let (_, events) = table.into_parts();
+    } = take_apart(locks, room);
     let BankVolumes {
         xact,
         subtrans,
         offsets,
         members,
     } = volumes;
+    let log = Box::into_inner(log);
+    let table = Box::into_inner(table);
+    let (_, events) = table.into_parts();
     ClosedLife {
         log,
         events,
-        multis,
         xact,
         subtrans,
         offsets,
@@ -105,7 +99,6 @@ impl<L: LogDisk + Drop, P: PageDisk + Drop> ClosedLife<L, P> {
         let ClosedLife {
             log,
             events: _,
-            multis: _,
             xact,
             subtrans,
             offsets,

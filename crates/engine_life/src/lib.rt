@@ -14,7 +14,7 @@ mod sessions;
 
 pub use closed::{ClosedLife, close_life};
 pub use ending::end_life;
-pub use life::{OpenLife, Room};
+pub use life::{Aside, OpenLife};
 pub use next_life::reopen_life;
 pub use old_parts::open_old;
 pub use opened::open_life;

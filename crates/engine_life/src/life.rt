@@ -7,17 +7,17 @@ use engine_host::{BankVolumes, Host};
 use engine_parts::EngineLaw;
 use hall::Hall;
 
-/// Room to put the volumes of a life's banks into when it is taken apart.
+/// Room to put the volumes of the banks into when an engine is taken apart.
 #[derive(Drop)]
-pub struct Room<P> {
-    pub(crate) volumes: BankVolumes<P>,
-    ghost empty: { (k : Store) → (volumes_in k volumes).items ≡ [] },
-    ghost room: { (k : Store) → 67 ≤ vec_capacity (volumes_in k volumes) },
+pub struct Aside<P> {
+    pub(crate) room: BankVolumes<P>,
+    ghost empty: { (k : Store) → (volumes_in k room).items ≡ [] },
+    ghost many: { (k : Store) → 67 ≤ vec_capacity (volumes_in k room) },
 }
 
-/// A life: its lock table with the host.
+/// A life: its lock table with the host, and room for its volumes.
 pub struct OpenLife<L: LogDisk, P: PageDisk> {
     pub hall: Hall<EngineLaw<L, P>>,
     pub host: Host<L, P>,
-    pub room: Room<P>,
+    pub aside: Aside<P>,
 }

@@ -9,9 +9,9 @@ ghost use Rattle.engine_host.specs.Opening.{AreParts};
 ghost use Rattle.engine_life.specs.Lives.{IsBegun};
 ghost use Rattle.engine_life.specs.NextLives.{GoesOnLife, IsNotReopened, MayGoOn, StayFit, WhenRefused};
 
-use crate::life::{OpenLife, Room};
+use crate::life::{Aside, OpenLife};
 use crate::old_parts::open_old;
-use crate::opened::{begin_life, new_room};
+use crate::opened::{begin_life, new_aside};
 use crate::refusal::NotReopened;
 use disk_core::{LogDisk, Media, MountRefusal, PageDisk, Volumes};
 use engine_host::Parts;
@@ -22,13 +22,13 @@ use std::alloc::Global;
 fn begin_next<L: LogDisk + Drop, P: PageDisk + Drop>(
     alloc: Global,
     parts: Parts<L, P>,
-    room: Room<P>,
+    aside: Aside<P>,
 ) -> Result<OpenLife<L, P>, (Volumes<L, P>, RecoverRefusal)>
     requires parts { AreParts parts }
     ensures life { IfOk result (λ life. IsBegun parts.cluster parts.start.value life) }
     ensures refused { IfErr result (λ e. e.1 ≡ refusals.Memory) }
 {
-    match begin_life(alloc, parts, room) {
+    match begin_life(alloc, parts, aside) {
         Ok(life) => Ok(life),
         Err((volumes, _)) => Err((volumes, RecoverRefusal::Memory)),
     }
@@ -48,11 +48,11 @@ fn reopen_over<L: LogDisk + Drop, P: PageDisk + Drop>(
     ensures again { IsTrue P.tells → IfErr result (λ e. WhenRefused L.LogDisk P.PageDisk kept volumes e.0 e.1) }
     ensures refused { IfErr result (λ e. IsRefusal L.LogDisk P.PageDisk volumes e.0 e.1) }
 {
-    let Ok(room) = new_room(alloc) else {
+    let Ok(aside) = new_aside(alloc) else {
         return Err((volumes, RecoverRefusal::Memory));
     };
     match open_old(alloc, volumes, sessions) {
-        Ok(parts) => begin_next(alloc, parts, room),
+        Ok(parts) => begin_next(alloc, parts, aside),
         Err(refused) => Err(refused),
     }
 }

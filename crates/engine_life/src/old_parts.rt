@@ -11,8 +11,8 @@ ghost use Rattle.replay_core.specs.declared.refusal.RecoverRefusal.TheVariants a
 ghost use Rattle.engine_parts.specs.Sessions.{AreGivenBefore};
 ghost use Rattle.engine_host.specs.Counted.{AreCounted};
 ghost use Rattle.engine_host.specs.Opening.{AreParts, Beginning, MayBeginOver, life_from, new_life};
-ghost use Rattle.engine_host.specs.Stores.{Store, banks_of, volumes_in};
-ghost use Rattle.engine_life.specs.Reopening.{IsBaseAt, KeepsStart, behind, cluster_over, volumes_behind};
+ghost use Rattle.engine_host.specs.Stores.{banks_of};
+ghost use Rattle.engine_life.specs.Reopening.{IsBaseAt, KeepsStart, banks_in, behind, cluster_over};
 
 use crate::opened::is_full_multi;
 use disk_core::{LogDisk, PageDisk, Volumes};
@@ -29,19 +29,22 @@ fn open_recovered<L: LogDisk + Drop, P: PageDisk + Drop>(
     ghost begins: { Beginning }
     requires some { 1 ≤ length recovered.xact.items }
     requires few { length recovered.xact.items ≤ 16 }
-    requires as_many { (k : Store) → length (volumes_in k (volumes_behind recovered)).items ≡ length recovered.xact.items }
+    requires as_many { (length recovered.subtrans.items ≡ length recovered.xact.items)
+        × (length recovered.offsets.items ≡ length recovered.xact.items)
+        × (length recovered.members.items ≡ length recovered.xact.items) }
     requires sessions { sessions ≤ 64 }
     requires log { IsSettled recovered.from recovered.base recovered.log }
     requires number { begins.number ≡ recovered.from }
     requires before { AreGivenBefore (life_from (cluster_over recovered.base (length recovered.xact.items) sessions) begins []) }
-    requires shown { IsTrue P.tells → MayBeginOver P.PageDisk (cluster_over recovered.base (length recovered.xact.items) sessions) begins false 0 (volumes_behind recovered) }
+    requires shown { IsTrue P.tells → MayBeginOver P.PageDisk (cluster_over recovered.base (length recovered.xact.items) sessions) begins false 0 (banks_in recovered) }
     requires past { IsTrue L.tells → IsTrue begins.told → KeepsStart (cluster_over recovered.base (length recovered.xact.items) sessions) begins recovered.log }
     ensures cluster { IfOk result (λ parts. parts.cluster ≡ cluster_over recovered.base (length recovered.xact.items) sessions) }
     ensures parts { IfOk result (λ parts. AreParts parts) }
     ensures start { IfOk result (λ parts. parts.start.value ≡ new_life parts.cluster begins parts.locks.items) }
-    ensures counted { IfOk result (λ parts. AreCounted L.LogDisk P.PageDisk (log_disk recovered.log) (volumes_behind recovered) parts.start.value.faults) }
+    ensures counted { IfOk result (λ parts. AreCounted L.LogDisk P.PageDisk (log_disk recovered.log) (banks_in recovered)
+        parts.start.value.faults) }
     ensures refused { IfErr result (λ e. e.1 ≡ refusals.Memory) }
-    ensures kept { IfErr result (λ e. (e.0.log ≡ log_disk recovered.log) × ((k : Store) → (volumes_in k (banks_of e.0)).items ≡ (volumes_in k (volumes_behind recovered)).items)) }
+    ensures kept { IfErr result (λ e. (e.0.log ≡ log_disk recovered.log) × (e.0.xact.items ≡ recovered.xact.items)) }
 {
     let Recovered {
         log,
@@ -70,8 +73,7 @@ fn open_recovered<L: LogDisk + Drop, P: PageDisk + Drop>(
 }
 
 /// Recovers a cluster and makes its parts (`StartupXLOG` of `xlog.c`, `StartupCLOG` of `clog.c`, `StartupSUBTRANS` of
-/// `subtrans.c`, `StartupMultiXact` of `multixact.c`). There is one volume of each store for each bank, 1 to 16, and there
-/// may be so many sessions, at most 64.
+/// `subtrans.c`). There is one volume of each store for each bank, 1 to 16, and there may be so many sessions, at most 64.
 ///
 /// The volumes fit a log, which contracts alone see. The parts stand for lists without entries, in a life that goes on
 /// from the base at a number of that log, from the flushed one to its end: so what was committed below that number is
@@ -84,7 +86,8 @@ pub fn open_old<L: LogDisk + Drop, P: PageDisk + Drop>(
     ghost kept: { KeptLog }
     requires some { 1 ≤ length volumes.xact.items }
     requires few { length volumes.xact.items ≤ 16 }
-    requires as_many { (k : Store) → length (volumes_in k (banks_of volumes)).items ≡ length volumes.xact.items }
+    requires as_many { (length volumes.subtrans.items ≡ length volumes.xact.items)
+        × (length volumes.offsets.items ≡ length volumes.xact.items) × (length volumes.members.items ≡ length volumes.xact.items) }
     requires sessions { sessions ≤ 64 }
     requires fits { IsTrue P.tells → IsTrue L.tells × Fit L.LogDisk P.PageDisk kept volumes.log volumes.xact.items }
     ensures cluster { IfOk result (λ parts. (parts.cluster.banks ≡ length volumes.xact.items) × (parts.cluster.sessions ≡ sessions)) }
@@ -92,7 +95,8 @@ pub fn open_old<L: LogDisk + Drop, P: PageDisk + Drop>(
     ensures start { IfOk result (λ parts. (number : ℕ)
         × (parts.start.value ≡ new_life parts.cluster (behind P.tells kept number) parts.locks.items)
         × (IsTrue P.tells → IsBaseAt kept number parts.cluster.base)) }
-    ensures counted { IfOk result (λ parts. AreCounted L.LogDisk P.PageDisk volumes.log (banks_of volumes) parts.start.value.faults) }
+    ensures counted { IfOk result (λ parts. AreCounted L.LogDisk P.PageDisk volumes.log (banks_of volumes)
+        parts.start.value.faults) }
     // That is a base from which a life may start, so the laws on its volumes hold of it (`recoverable`).
     ensures right { IsTrue P.tells → IfOk result (λ parts. BeganRight parts.start.value) }
     // After an error the volumes fit what a later recovery may go on from.

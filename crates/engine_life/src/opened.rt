@@ -1,14 +1,15 @@
 //! How a life is opened over the volumes of a media.
-ghost use Rattle.std.specs.Prelude.{◌≡◌, ◌≤◌, ℕ, false, IfErr, IfOk, IsTrue, OnErr, OnOk};
+ghost use Rattle.std.specs.Prelude.{◌≡◌, ◌≤◌, ◌*◌, ℕ, [], false, IfErr, IfOk, IsTrue, OnErr, OnOk, length, vec_capacity};
 ghost use Rattle.disk_core.specs.Media.{HasBanks, MayBeFirst};
 ghost use Rattle.disk_core.specs.declared.media.Volumes.{Volumes as Mounted};
 ghost use Rattle.tx_events.specs.Ids.{IsFullMulti};
 ghost use Rattle.engine_host.specs.Opening.{AreParts, IsCluster};
+ghost use Rattle.engine_host.specs.Stores.{banks_of};
 ghost use Rattle.engine_life.specs.Lives.{IsBegun, IsNewLife};
 ghost use Rattle.engine_life.specs.declared.refusal.NoLife.TheVariants as no_lives;
 ghost use Rattle.engine_life.specs.Refusals.{IsNoLife, IsOfVolumes, IsUnopened};
 
-use crate::life::{OpenLife, Room};
+use crate::life::{Aside, OpenLife};
 use crate::refusal::{NoLife, refusal_of};
 use disk_core::{LogDisk, Media, MountRefusal, PageDisk, Volumes};
 use engine_host::{BankVolumes, Cluster, Parts, TakenApart, make_table, open_new, take_apart};
@@ -21,7 +22,7 @@ const MOST_LOCKS: usize = 67;
 // The volumes of parts that are taken apart.
 fn volumes_of<L: LogDisk + Drop, P: PageDisk + Drop>(
     parts: Parts<L, P>,
-    room: Room<P>,
+    aside: Aside<P>,
 ) -> Volumes<L, P>
     requires { AreParts parts }
 {
@@ -30,13 +31,21 @@ fn volumes_of<L: LogDisk + Drop, P: PageDisk + Drop>(
         locks,
         start: _,
     } = parts;
-    let Room { volumes } = room;
+    let Aside { room } = aside;
     let TakenApart {
         log,
         table: _,
         multis: _,
         volumes,
-    } = take_apart(locks, volumes);
+    } = take_apart(locks, room);
+    with_log(Box::into_inner(log).into_disk(), volumes)
+}
+
+// The volumes of an engine, with its log's.
+pub(crate) fn with_log<L, P>(log: L, volumes: BankVolumes<P>) -> Volumes<L, P>
+    ensures log { result.log ≡ log }
+    ensures banks { banks_of result ≡ volumes }
+{
     let BankVolumes {
         xact,
         subtrans,
@@ -44,7 +53,7 @@ fn volumes_of<L: LogDisk + Drop, P: PageDisk + Drop>(
         members,
     } = volumes;
     Volumes {
-        log: Box::into_inner(log).into_disk(),
+        log,
         xact,
         subtrans,
         offsets,
@@ -56,33 +65,39 @@ fn volumes_of<L: LogDisk + Drop, P: PageDisk + Drop>(
 pub(crate) fn begin_life<L: LogDisk + Drop, P: PageDisk + Drop>(
     alloc: Global,
     parts: Parts<L, P>,
-    room: Room<P>,
+    aside: Aside<P>,
 ) -> Result<OpenLife<L, P>, (Volumes<L, P>, NoLife)>
     requires parts { AreParts parts }
     ensures life { IfOk result (λ life. IsBegun parts.cluster parts.start.value life) }
     ensures refused { IfErr result (λ e. e.1 ≡ no_lives.Memory) }
 {
     match make_table(alloc, parts) {
-        Ok((hall, host)) => Ok(OpenLife { hall, host, room }),
-        Err(parts) => Err((volumes_of(parts, room), NoLife::Memory)),
+        Ok((hall, host)) => Ok(OpenLife { hall, host, aside }),
+        Err(parts) => Err((volumes_of(parts, aside), NoLife::Memory)),
     }
 }
 
-// Room for the volumes of the banks.
-pub(crate) fn new_room<P: Drop>(alloc: Global) -> Result<Room<P>, AllocError>
+// Room for the volumes of the banks of a store.
+fn new_room<P>(alloc: Global) -> Result<Vec<P>, AllocError>
+    ensures empty { IfOk result (λ room. room.items ≡ []) }
+    ensures room { IfOk result (λ room. 67 ≤ vec_capacity room) }
 {
-    let xact = Vec::with_capacity(alloc, MOST_LOCKS)?;
-    let subtrans = Vec::with_capacity(alloc, MOST_LOCKS)?;
-    let offsets = Vec::with_capacity(alloc, MOST_LOCKS)?;
-    let members = Vec::with_capacity(alloc, MOST_LOCKS)?;
-    Ok(Room {
-        volumes: BankVolumes {
-            xact,
-            subtrans,
-            offsets,
-            members,
-        },
-    })
+    Vec::with_capacity(alloc, MOST_LOCKS)
+}
+
+// Room for those of each store.
+pub(crate) fn new_aside<P: Drop>(alloc: Global) -> Result<Aside<P>, AllocError> {
+    let xact = new_room(alloc)?;
+    let subtrans = new_room(alloc)?;
+    let offsets = new_room(alloc)?;
+    let members = new_room(alloc)?;
+    let room = BankVolumes {
+        xact,
+        subtrans,
+        offsets,
+        members,
+    };
+    Ok(Aside { room })
 }
 
 // The next multixact of counters is one.
@@ -104,11 +119,11 @@ fn open_over<L: LogDisk + Drop, P: PageDisk + Drop>(
     ensures refused { IfErr result (λ e. IsNoLife L.LogDisk P.PageDisk cluster volumes e.0 e.1) }
 {
     is_full_multi(&cluster.base);
-    let Ok(room) = new_room(alloc) else {
+    let Ok(aside) = new_aside(alloc) else {
         return Err((volumes, NoLife::Memory));
     };
     match open_new(alloc, volumes, cluster) {
-        Ok(parts) => begin_life(alloc, parts, room),
+        Ok(parts) => begin_life(alloc, parts, aside),
         Err((volumes, refusal)) => Err((volumes, refusal_of(refusal))),
     }
 }

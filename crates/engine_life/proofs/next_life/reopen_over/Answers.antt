@@ -1,4 +1,4 @@
-use Rattle.std.proofs.Common.{length, map, rules, subst, sym, ◌≡◌}
+use Rattle.std.proofs.Common.{map, rules, subst, sym}
 use Rattle.std.proofs.lemmas.Result.{IfOk-weaker}
 use Rattle.recoverable.specs.Whole.{BeganRight}
 use Rattle.replay_core.specs.Refused.{IsRefusal}
@@ -6,8 +6,7 @@ use Rattle.replay_core.specs.declared.refusal.RecoverRefusal.{RecoverRefusal}
 use Rattle.tx_core.specs.declared.entry.Start.{Start}
 use Rattle.engine_host.specs.Counted.{AreCounted}
 use Rattle.engine_host.specs.Opening.{faults_behind}
-use Rattle.engine_host.specs.Stores.{banks_of, volumes_in}
-use Rattle.engine_host.proofs.Refusing.{each_store}
+use Rattle.engine_host.specs.Stores.{banks_of}
 use Rattle.engine_life.specs.Lives.{IsBegun}
 use Rattle.engine_life.specs.NextLives.{WhenRefused}
 use Rattle.engine_life.proofs.GoingOn.{when_fits}
@@ -21,7 +20,7 @@ open_old-requires g c =
     let h = c.requires.1.1.0 in
     let some = h.some in
     let few = h.few in
-    let as_many = each_store (λ k. length (volumes_in k (banks_of c.args.volumes)).items ≡ length c.args.volumes.xact.items) h.xact h.subtrans h.offsets h.members in
+    let as_many = (h.subtrans, (h.offsets, h.members)) in
     let sessions = c.requires.1.1.1.0 in
     let fits = c.requires.1.1.1.1 in
     search (rules, some, few, as_many, sessions, fits)
@@ -51,5 +50,8 @@ pub returns-in-Ok-open_old-clause-refused : goal.returns-in-Ok-open_old-clause-r
 returns-in-Ok-open_old-clause-refused g c =
     of_err c.begin_next.result _ _ (λ e memory. subst (λ (r : RecoverRefusal). IsRefusal g.L.LogDisk g.P.PageDisk c.args.volumes e.0 r) (sym memory) tt) c.begin_next.ensures.refused
 
+-- no parts were made
+
 pub returns-in-Err-clause-again : goal.returns-in-Err-clause-again
-returns-in-Err-clause-again g c told = when_fits g.L.LogDisk g.P.PageDisk g.kept c.args.volumes c.in-Err.refused.0 c.in-Err.refused.1 (c.in-Err.ensures.again told)
+returns-in-Err-clause-again g c told =
+    when_fits g.L.LogDisk g.P.PageDisk g.kept c.args.volumes c.in-Err.refused.0 c.in-Err.refused.1 (c.in-Err.ensures.again told)

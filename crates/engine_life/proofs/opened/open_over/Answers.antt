@@ -1,15 +1,14 @@
-use Rattle.std.proofs.Common.{length, map, refl, subst, sym, ◌≡◌}
+use Rattle.std.proofs.Common.{map, refl, subst, sym}
 use Rattle.std.proofs.lemmas.Result.{IfOk-weaker}
 use Rattle.recoverable.proofs.NewBegins.{new_begins}
 use Rattle.tx_core.specs.declared.entry.Start.{Start}
 use Rattle.engine_host.specs.declared.cluster.Cluster.{Cluster}
 use Rattle.engine_host.specs.Counted.{AreCounted}
 use Rattle.engine_host.specs.Opening.{faults_behind, life_of}
+use Rattle.engine_host.specs.Stores.{banks_of}
 use Rattle.engine_life.specs.declared.refusal.NoLife.{NoLife}
 use Rattle.engine_life.specs.Lives.{IsBegun}
 use Rattle.engine_life.specs.Refusals.{IsNoLife}
-use Rattle.engine_host.specs.Stores.{banks_of, volumes_in}
-use Rattle.engine_host.proofs.Refusing.{each_store}
 use Rattle.engine_life.proofs.Living.{of_err}
 use Rattle.engine_life.proofs.opened.open_over.Goals as goal
 
@@ -25,11 +24,6 @@ returns-in-Ok-open_new-clause-life g c =
       begun = subst (λ (s : Start). IsBegun c.args.cluster s life) k.start (subst (λ (d : Cluster). IsBegun d parts.start.value life) k.cluster begun);
       right = (new_begins (life_of c.args.cluster (map faults_behind parts.locks.items)) refl c.is_full_multi.ensures c.requires.cluster.base refl refl).right;
     }) c.begin_life.ensures.life
-
-pub open_new-requires : goal.open_new-requires
-open_new-requires g c =
-    let b = c.requires.banks in
-    record { cluster = c.requires.cluster; volumes = each_store (λ k. length (volumes_in k (banks_of c.args.volumes)).items ≡ c.args.cluster.banks) b.xact b.subtrans b.offsets b.members }
 
 pub returns-in-Ok-open_new-clause-refused : goal.returns-in-Ok-open_new-clause-refused
 returns-in-Ok-open_new-clause-refused g c =

@@ -87,9 +87,11 @@ module _ {X Y : Type 0} (f : X → Option Y) where
   dropped (suc n) (x ∷ xs) none = passed_by x xs (none 0 x (omega arith) refl) ∙ dropped n xs (λ i y low at_y. none (suc i) y (omega (arith, low)) at_y)
 
 drop_at : {X : Type 0} (n : ℕ) (xs : List X) (m : ℕ) → slice_get (drop n xs) m ≡ slice_get xs (n + m)
-drop_at zero xs m = refl
+drop_at zero xs m = ap (λ j. slice_get xs j) (omega arith)
 drop_at (suc n) [] m = refl
-drop_at (suc n) (x ∷ xs) m = drop_at n xs m
+drop_at (suc n) (x ∷ xs) m =
+    let on : suc (n + m) ≡ suc n + m = omega arith in
+    drop_at n xs m ∙ ap (λ j. slice_get (x ∷ xs) j) on
 
 drop_long : {X : Type 0} (n : ℕ) (xs : List X) → n ≤ length xs → length (drop n xs) + n ≡ length xs
 drop_long zero xs le = omega arith

@@ -1,4 +1,4 @@
-use Rattle.std.proofs.Common.{map, rules, subst, sym}
+use Rattle.std.proofs.Common.{length, map, rules, subst, sym, ◌≡◌}
 use Rattle.std.proofs.lemmas.Result.{IfOk-weaker}
 use Rattle.recoverable.specs.Whole.{BeganRight}
 use Rattle.replay_core.specs.Refused.{IsRefusal}
@@ -20,7 +20,8 @@ open_old-requires g c =
     let h = c.requires.1.1.0 in
     let some = h.some in
     let few = h.few in
-    let as_many = (h.subtrans, (h.offsets, h.members)) in
+    let v = c.args.volumes in
+    let as_many : (length v.subtrans.items ≡ length v.xact.items) × (length v.offsets.items ≡ length v.xact.items) × (length v.members.items ≡ length v.xact.items) = (h.subtrans, h.offsets, h.members) in
     let sessions = c.requires.1.1.1.0 in
     let fits = c.requires.1.1.1.1 in
     search (rules, some, few, as_many, sessions, fits)

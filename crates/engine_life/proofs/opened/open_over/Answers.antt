@@ -9,7 +9,7 @@ use Rattle.engine_host.specs.Stores.{banks_of}
 use Rattle.engine_life.specs.declared.refusal.NoLife.{NoLife}
 use Rattle.engine_life.specs.Lives.{IsBegun}
 use Rattle.engine_life.specs.Refusals.{IsNoLife}
-use Rattle.engine_life.proofs.Living.{of_err}
+use Rattle.engine_life.proofs.Living.{no_life, of_err}
 use Rattle.engine_life.proofs.opened.open_over.Goals as goal
 
 pub returns-in-Ok-open_new-clause-life : goal.returns-in-Ok-open_new-clause-life
@@ -28,3 +28,8 @@ returns-in-Ok-open_new-clause-life g c =
 pub returns-in-Ok-open_new-clause-refused : goal.returns-in-Ok-open_new-clause-refused
 returns-in-Ok-open_new-clause-refused g c =
     of_err c.begin_life.result _ _ (λ e memory. subst (λ (r : NoLife). IsNoLife g.L.LogDisk g.P.PageDisk c.args.cluster c.args.volumes e.0 r) (sym memory) tt) c.begin_life.ensures.refused
+
+pub returns-in-Err-clause-refused : goal.returns-in-Err-clause-refused
+returns-in-Err-clause-refused g c =
+    subst (IsNoLife g.L.LogDisk g.P.PageDisk c.args.cluster c.args.volumes c.in-Err.volumes) (sym c.refusal_of.ensures)
+    (no_life g.L.LogDisk g.P.PageDisk c.args.cluster c.args.volumes c.in-Err.volumes c.in-Err.refusal c.in-Err.ensures.refused)

@@ -178,7 +178,7 @@ a save
 a abort
 ",
         Which::Subtrans(0),
-        8,
+        9,
         &[
             "device\n",
             "
@@ -269,8 +269,8 @@ fn many_subtransactions(alloc: Global) -> Result<String, Fail> {
 }
 
 /// A page of pg_subtrans has the parents of 2,048 ids, so that of 32,768 is the seventeenth, and one that was changed must
-/// be written for it. Two calls pass at the opening, which asks for pages and syncs, and one reads the first page. The
-/// write keeps the ids that it gave, and the commit names them.
+/// be written for it. Two calls pass at the opening, and one reads the first page. The write keeps the ids that it gave,
+/// and the commit names them.
 #[test]
 fn a_fault_of_pg_subtrans_stops_a_write_halfway(rt: HostRuntime) -> Result<(), Fail> {
     let script = many_subtransactions(rt.alloc())?;
@@ -306,7 +306,7 @@ a write
 a commit
 ",
         Which::Subtrans(0),
-        4,
+        5,
         &[
             "device\n",
             "

@@ -258,7 +258,7 @@ b snap s
 b see s 4
 ",
         Which::Subtrans(0),
-        8,
+        9,
         &[
             "device\n",
             "

@@ -32,7 +32,7 @@ fn a_life_is_not_opened_over_a_log_that_fails(rt: HostRuntime) -> Result<(), Fai
     Ok(())
 }
 
-/// A new cluster asks each bank of the four stores for its pages, and then syncs it.
+/// A new cluster asks each bank of the four stores for its pages.
 #[test]
 fn a_life_is_not_opened_over_a_bank_that_fails(rt: HostRuntime) -> Result<(), Fail> {
     for bank in 0..4 {
@@ -42,11 +42,9 @@ fn a_life_is_not_opened_over_a_bank_that_fails(rt: HostRuntime) -> Result<(), Fa
             Which::Offsets(bank),
             Which::Members(bank),
         ] {
-            for passes in 0..2 {
-                let (status, held) = run_fused(&rt, "a begin\n", at, passes, 1)?;
-                assert_eq!(rt; held.as_str(), "device\n", "{at:?}, {passes} calls");
-                assert_eq!(rt; status, 5, "{at:?}, {passes} calls");
-            }
+            let (status, held) = run_fused(&rt, "a begin\n", at, 0, 1)?;
+            assert_eq!(rt; held.as_str(), "device\n", "{at:?}");
+            assert_eq!(rt; status, 5, "{at:?}");
         }
     }
     Ok(())

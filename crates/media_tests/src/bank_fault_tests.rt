@@ -178,7 +178,7 @@ a save
 a abort
 ",
         Which::Subtrans(0),
-        8,
+        9,
         &[
             "device\n",
             "
@@ -269,12 +269,12 @@ fn many_subtransactions(alloc: Global) -> Result<String, Fail> {
 }
 
 /// A page of pg_subtrans has the parents of 2,048 ids, so that of 32,768 is the seventeenth, and one that was changed must
-/// be written for it. One call passes at the opening, and one reads the first page. The write keeps the ids that it gave,
+/// be written for it. Two calls pass at the opening, and one reads the first page. The write keeps the ids that it gave,
 /// and the commit names them.
 #[test]
 fn a_fault_of_pg_subtrans_stops_a_write_halfway(rt: HostRuntime) -> Result<(), Fail> {
     let script = many_subtransactions(rt.alloc())?;
-    let (status, report) = run_fused(&rt, script.as_str(), Which::Subtrans(0), 2, 1)?;
+    let (status, report) = run_fused(&rt, script.as_str(), Which::Subtrans(0), 3, 1)?;
     assert_eq!(rt; status, 0);
     for part in [
         "
@@ -306,7 +306,7 @@ a write
 a commit
 ",
         Which::Subtrans(0),
-        4,
+        5,
         &[
             "device\n",
             "

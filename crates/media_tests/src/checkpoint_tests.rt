@@ -214,13 +214,15 @@ checkpoint -> ok
     )
 }
 
-/// Each bank of both stores is synced, also one that has no page.
+/// Each bank of the four stores is synced, also one that has no page.
 #[test]
 fn a_checkpoint_syncs_each_bank(rt: HostRuntime) -> Result<(), Fail> {
     for bank in 0..4 {
         for (at, name) in [
             (Which::Xact(bank), "xact"),
             (Which::Subtrans(bank), "subtrans"),
+            (Which::Offsets(bank), "offsets"),
+            (Which::Members(bank), "members"),
         ] {
             let fault = format!(in rt.alloc();
                 "
@@ -256,7 +258,7 @@ b snap s
 b see s 4
 ",
         Which::Subtrans(0),
-        8,
+        9,
         &[
             "device\n",
             "

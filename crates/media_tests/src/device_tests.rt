@@ -32,11 +32,16 @@ fn a_life_is_not_opened_over_a_log_that_fails(rt: HostRuntime) -> Result<(), Fai
     Ok(())
 }
 
-/// A new cluster asks each bank of the two stores for its pages.
+/// A new cluster asks each bank of the four stores for its pages.
 #[test]
 fn a_life_is_not_opened_over_a_bank_that_fails(rt: HostRuntime) -> Result<(), Fail> {
     for bank in 0..4 {
-        for at in [Which::Xact(bank), Which::Subtrans(bank)] {
+        for at in [
+            Which::Xact(bank),
+            Which::Subtrans(bank),
+            Which::Offsets(bank),
+            Which::Members(bank),
+        ] {
             let (status, held) = run_fused(&rt, "a begin\n", at, 0, 1)?;
             assert_eq!(rt; held.as_str(), "device\n", "{at:?}");
             assert_eq!(rt; status, 5, "{at:?}");

@@ -1,0 +1,5 @@
+pub mod Steps
+pub mod Leavings
+pub mod Takings
+pub mod Pinnings
+pub mod Raisings

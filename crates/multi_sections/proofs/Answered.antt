@@ -1,5 +1,5 @@
 -- What the generator answered, said of the history.
-use Rattle.std.proofs.Common.{◌≡◌, ◌↔◌, ◌⊎◌, ⊎_elim, inl, ℕ, ◌+◌, ◌<◌, ◌≤◌, Contains, List, [], ◌∷◌, ◌++◌, MatchOption, None, Option, Some, length, refl, sym, subst, ap, ◌∙◌, arith}
+use Rattle.std.proofs.Common.{◌≡◌, ⊎_elim, inl, ℕ, ◌+◌, ◌<◌, ◌≤◌, Contains, List, [], ◌∷◌, ◌++◌, MatchOption, None, Option, Some, length, refl, sym, subst}
 use Rattle.std.proofs.lemmas.List.Sums.{fold_push}
 use Rattle.notes.specs.Lists.{at}
 use Rattle.tx_events.specs.declared.event.By.{By}
@@ -20,7 +20,6 @@ use Rattle.tx_core.specs.MultiEntries.{multi_history}
 use Rattle.engine_parts.specs.Holds.{Knowledge}
 use Rattle.engine_parts.specs.Stand.{MultiStands}
 use Rattle.multi_sections.specs.Pinnings.{IsNotPinned, IsPinned}
-use Rattle.multi_sections.specs.Steps.{IsLast}
 use Rattle.multi_sections.specs.Takings.{IsNotTaken, IsTaken}
 
 -- the generator as the history gives it

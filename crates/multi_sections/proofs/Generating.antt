@@ -1,5 +1,5 @@
 -- What a critical section of the generator leaves.
-use Rattle.std.proofs.Common.{List, None, [], ap, append-nil, arith, cond, length, refl, subst, sym, ℕ, ◌++◌, ◌+◌, ◌*◌, ◌<◌, ◌≤◌, ◌==◌, ◌∙◌, ◌∷◌, ◌≡◌}
+use Rattle.std.proofs.Common.{List, None, [], ap, append-nil, arith, cond, length, refl, subst, sym, ℕ, ◌++◌, ◌<◌, ◌==◌, ◌∙◌, ◌∷◌, ◌≡◌}
 use Rattle.std.proofs.lemmas.List.Elements.{filter-append, filter_map-append}
 use Rattle.std.specs.List.{cons_option, filter}
 use Rattle.notes.specs.Lists.{Knows, add, at}

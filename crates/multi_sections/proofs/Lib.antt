@@ -1,3 +1,4 @@
 pub mod Answered
+pub mod Beginning
 pub mod Generating
 pub mod Readying

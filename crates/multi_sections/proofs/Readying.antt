@@ -1,9 +1,8 @@
 -- How a session stands behind an event of a multixact.
-use Rattle.std.proofs.Common.{◌≡◌, ℕ, ◌+◌, ◌*◌, ◌<◌, ◌≤◌, Contains, IfSome, List, None, Option, Some, [], ap, arith, false, inl, inr, length, refl, subst, sym, true, ⊎_elim, ◌++◌, ◌∙◌, ◌∷◌, ◌⊎◌}
+use Rattle.std.proofs.Common.{◌≡◌, ℕ, ◌<◌, ◌≤◌, Contains, IfSome, List, None, Option, Some, [], ap, arith, false, inl, inr, length, refl, subst, sym, ⊎_elim, ◌++◌, ◌∙◌, ◌∷◌, ◌⊎◌}
 use Rattle.std.proofs.lemmas.Bool.{false≢true}
 use Rattle.std.proofs.lemmas.List.Elements.{Contains-push}
 use Rattle.notes.specs.Lists.{Grows, at}
-use Rattle.tx_events.specs.declared.event.By.{By}
 use Rattle.tx_events.specs.declared.event.Event.{Event}
 use Rattle.tx_events.specs.declared.multi.Member.{Member}
 use Rattle.tx_events.specs.declared.multi.MultiEvent.{MultiEvent}
@@ -19,7 +18,7 @@ use Rattle.tx_core.specs.declared.entry.Entry.{Entry}
 use Rattle.tx_core.specs.declared.entry.Kind.TheVariants as kinds
 use Rattle.tx_core.specs.declared.entry.Start.{Start}
 use Rattle.tx_core.specs.EngineInvariant.{EngineInvariant}
-use Rattle.tx_core.specs.Entries.{IsAppended, appended, history}
+use Rattle.tx_core.specs.Entries.{IsAppended, history}
 use Rattle.tx_core.specs.Locks.{log_lock, multi_lock}
 use Rattle.tx_core.specs.MultiEntries.{multi_history}
 use Rattle.tx_core.specs.RecordsFollow.{IsGenOf, NeedsNamed}
@@ -36,7 +35,7 @@ use Rattle.session_levels.specs.Stands.{Stands}
 use Rattle.engine_parts.specs.declared.session.Making.{Making}
 use Rattle.engine_parts.specs.declared.session.Session.{Session}
 use Rattle.engine_parts.specs.Holds.{Knowledge, Leaves}
-use Rattle.engine_parts.specs.Makings.{IsMakingOf, Makes, pending_multi}
+use Rattle.engine_parts.specs.Makings.{IsMakingOf, Makes}
 use Rattle.engine_parts.specs.Sessions.{IsAt, IsReady, by_at}
 use Rattle.engine_parts.proofs.Leaving.{at_left, clear_same, filed_left, grown_left, history_same, no_abort, unaborted_same}
 use Rattle.multi_sections.specs.Leavings.{GivesNone}
@@ -71,8 +70,12 @@ module _ (start : Start) (v w : Knowledge) (n : ℕ) (event : MultiEvent) (insid
       (appended_cases v.seen multi_lock (entry_of event) n (records.Multi multi offset members) inside (subst (λ (z : List (List Entry)). IsAppended z n (records.Multi multi offset members)) l.seen a))
 
   gen_more : (multi offset : ℕ) (members : List Member) → IsGenOf v.seen n multi offset members → IsGenOf w.seen n multi offset members
-  gen_more multi offset members g = (g.0, g.1, has_contains (multi_history w.seen) (multis.Gen g.0 multi offset members)
-      (subst (λ (h : List MultiEvent). Has h (multis.Gen g.0 multi offset members)) (sym added) (has_left (multi_history v.seen) (event ∷ []) (multis.Gen g.0 multi offset members) (contains_has (multi_history v.seen) (multis.Gen g.0 multi offset members) g.2))))
+  gen_more multi offset members g = (
+    g.0,
+    g.1,
+    has_contains (multi_history w.seen) (multis.Gen g.0 multi offset members)
+        (subst (λ (h : List MultiEvent). Has h (multis.Gen g.0 multi offset members)) (sym added) (has_left (multi_history v.seen) (event ∷ []) (multis.Gen g.0 multi offset members) (contains_has (multi_history v.seen) (multis.Gen g.0 multi offset members) g.2))),
+  )
 
   gen_cases : (multi offset : ℕ) (members : List Member) → (g : IsGenOf w.seen n multi offset members) → IsGenOf v.seen n multi offset members ⊎ (event ≡ multis.Gen g.0 multi offset members)
   gen_cases multi offset members g =

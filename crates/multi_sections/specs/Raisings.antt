@@ -1,12 +1,14 @@
 -- What a freeze leaves: the next multixact becomes the oldest one at once, an older one is pinned first.
-use Rattle.std.specs.Prelude.{◌≡◌, ℕ, ◌<◌, ◌≤◌, IsTrue, List, [], ◌∷◌, Result, Ok, Err}
+use Rattle.std.specs.Prelude.{◌≡◌, ℕ, ◌<◌, ◌≤◌, List, [], ◌∷◌, Result, Ok, Err}
 use Rattle.tx_events.specs.Ids.{low_half}
+use Rattle.tx_events.specs.declared.event.By.{By}
 use Rattle.tx_events.specs.declared.multi.MultiEvent.{MultiEvent}
 use Rattle.tx_events.specs.declared.multi.MultiEvent.TheVariants as events
 use Rattle.tx_events.specs.declared.record.Counters.{Counters}
 use Rattle.tx_events.specs.declared.refusal.Refusal.{Refusal}
 use Rattle.tx_events.specs.declared.refusal.Refusal.TheVariants as refusals
-use Rattle.tx_events.specs.Multis.{InBase, IsRaised, free_offset, next_made, oldest_multi, pin_limit}
+use Rattle.tx_events.specs.Multis.{InBase, IsRaised, next_made, oldest_multi, pin_limit}
+use Rattle.multi_store.specs.Generator.{Adds, Generator, IsHeld, free_of, limit_of, next_of, oldest_of}
 use Rattle.tx_core.specs.declared.entry.Entry.{Entry}
 use Rattle.tx_core.specs.declared.entry.Start.{Start}
 use Rattle.tx_core.specs.MultiEntries.{multi_history}
@@ -20,6 +22,17 @@ use Rattle.multi_sections.specs.Steps.{IsLast}
 
 abbrev pub raise_event : ℕ → Session → ℕ → ℕ → MultiEvent
 raise_event n s multi offset = events.Raise (by_at n s.levels.commands) multi offset
+
+-- the event of each way
+abbrev pub frozen_event : By → ℕ → Freezing → MultiEvent
+frozen_event by multi (freezings.Raised offset) = events.Raise by multi offset
+frozen_event by multi (freezings.Pinned h) = events.Hold by h.multi
+
+-- what it leaves of the generator: the next one is raised, an older one is pinned
+abbrev pub IsFrozenAs : Generator → Generator → By → ℕ → Freezing → Type 0
+IsFrozenAs old new by multi (freezings.Raised offset) =
+    (multi ≡ next_of old) × (offset ≡ free_of old) × (oldest_of old ≤ multi) × (multi ≤ limit_of old) × Adds old new (events.Raise by multi offset)
+IsFrozenAs old new by multi (freezings.Pinned h) = IsHeld old new by (low_half multi) h × (h.multi ≡ multi)
 
 -- what each way begins with
 abbrev pub freezing_event : ℕ → Session → ℕ → Freezing → MultiEvent

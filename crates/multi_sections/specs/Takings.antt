@@ -1,6 +1,5 @@
 -- What the taking of a multixact leaves.
-use Rattle.std.specs.Prelude.{◌≡◌, ℕ, ◌+◌, ◌<◌, ◌≤◌, ◌↔◌, IsTrue, List, [], ◌∷◌, length, Result, Ok, Err}
-use Rattle.tx_events.specs.declared.event.By.{By}
+use Rattle.std.specs.Prelude.{◌≡◌, ℕ, ◌+◌, ◌<◌, ◌≤◌, ◌↔◌, IsTrue, List, [], ◌∷◌, length, Result, Ok, Err, Some, false}
 use Rattle.tx_events.specs.declared.multi.Member.{Member}
 use Rattle.tx_events.specs.declared.multi.MultiEvent.{MultiEvent}
 use Rattle.tx_events.specs.declared.multi.MultiEvent.TheVariants as events
@@ -43,3 +42,8 @@ Takes start n s members lists more (Ok g) =
     WentMulti n (taken_event n s members g ∷ []) lists more
     × (before : List MultiEvent) × IsLast before (taken_event n s members g) more × IsTaken start.base before members g
 Takes start n s members lists more (Err r) = WentMulti n [] lists more × IsNotTaken start.base (multi_history more) (length members) r
+
+-- the session makes what it took
+abbrev pub session_taken : Session → List Member → Result MultiGiven Refusal → Session
+session_taken s members (Ok g) = record s { making = Some (record { multi = g.multi; offset = g.offset; members = members; logged = false }) }
+session_taken s members (Err r) = s

@@ -1,4 +1,4 @@
-use Rattle.std.proofs.Common.{◌≡◌, ℕ, ◌<◌, length, ap, arith, subst, sym, ◌∙◌}
+use Rattle.std.proofs.Common.{ℕ, ◌<◌, length, ap, arith, subst, sym, ◌∙◌}
 use Rattle.hall.specs.Calls.{view, start_of}
 use Rattle.notes.specs.Lists.{at}
 use Rattle.tx_events.specs.declared.event.By.{By}
@@ -8,7 +8,6 @@ use Rattle.tx_core.specs.Locks.{multi_lock}
 use Rattle.engine_parts.specs.declared.session.Session.{Session}
 use Rattle.engine_parts.specs.Holds.{Leaves}
 use Rattle.engine_parts.specs.Sessions.{IsReady, by_at}
-use Rattle.multi_sections.specs.Steps.{entry_of}
 use Rattle.multi_sections.proofs.Generating.{made_stands, may_make}
 use Rattle.multi_sections.proofs.Readying.{makes_quiet, ready_multi}
 use Rattle.multi_sections.proofs.leaving.leave_made.Goals as goal

@@ -1,4 +1,4 @@
-use Rattle.std.proofs.Common.{subst, sym, refl, ap, ◌∙◌, arith}
+use Rattle.std.proofs.Common.{subst, sym, refl, ap, ◌∙◌}
 use Rattle.hall.specs.Calls.{view, start_of}
 use Rattle.notes.specs.Lists.{at}
 use Rattle.tx_events.specs.Multis.{multi_counters}

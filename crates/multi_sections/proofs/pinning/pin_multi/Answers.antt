@@ -1,4 +1,4 @@
-use Rattle.std.proofs.Common.{◌≡◌, ◌++◌, ◌∷◌, [], Contains, List, refl, sym, ap, subst, ◌∙◌, arith}
+use Rattle.std.proofs.Common.{◌≡◌, Contains, List, refl, sym, ap, subst, ◌∙◌}
 use Rattle.hall.specs.Calls.{view, start_of}
 use Rattle.notes.specs.Lists.{at}
 use Rattle.tx_events.specs.declared.event.By.{By}
@@ -14,8 +14,7 @@ use Rattle.engine_parts.specs.Sessions.{by_at, look_by}
 use Rattle.engine_parts.specs.Stand.{MultiStands}
 use Rattle.engine_parts.proofs.Multing.{multi_looks}
 use Rattle.engine_parts.proofs.Sectioning.{same_command, section_of}
-use Rattle.multi_sections.specs.Leavings.{Made}
-use Rattle.multi_sections.specs.Steps.{IsLast, entry_of}
+use Rattle.multi_sections.specs.Steps.{entry_of}
 use Rattle.multi_sections.specs.Pinnings.{IsNotPinned}
 use Rattle.multi_sections.proofs.Answered.{is_pinned, is_seen, not_pinned, pinned_now}
 use Rattle.multi_sections.proofs.Generating.{is_laid, looked_multi, multis_left, multis_looked, went_multi}

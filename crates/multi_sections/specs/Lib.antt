@@ -3,3 +3,4 @@ pub mod Leavings
 pub mod Takings
 pub mod Pinnings
 pub mod Raisings
+pub mod Raised

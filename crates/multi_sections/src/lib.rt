@@ -7,9 +7,11 @@ mod leaving;
 mod looking;
 mod pinning;
 mod raising;
+mod settling;
 mod taking;
 
-pub use looking::read_multis;
+pub use looking::{few_given, read_multis};
 pub use pinning::{pin_multi, unpin_multi};
 pub use raising::{Freezing, start_freeze};
+pub use settling::{Raising, raise_multi};
 pub use taking::take_multi;

@@ -26,7 +26,7 @@ pub enum Freezing {
 }
 
 /// The event that the oldest multixact was raised.
-fn raise_note(by: By, multi: FullMulti, offset: u64) -> Note<MultiEvent>
+pub(crate) fn raise_note(by: By, multi: FullMulti, offset: u64) -> Note<MultiEvent>
     ensures { result.value ≡ events.Raise by multi offset }
 {
     Note::by(&(by, multi, offset))

@@ -11,6 +11,7 @@ use Rattle.tx_core.specs.declared.entry.Entry.{Entry}
 use Rattle.tx_core.specs.declared.entry.Start.{Start}
 use Rattle.tx_core.specs.EngineInvariant.{EngineInvariant}
 use Rattle.tx_core.specs.Locks.{members_lock, offsets_lock, xact_lock}
+use Rattle.tx_core.specs.MultiEntries.{multi_history}
 use Rattle.recoverable.specs.Fit.{KeptLog}
 use Rattle.recoverable.specs.MemberImages.{CleanMembers}
 use Rattle.recoverable.specs.OffsetImages.{CleanOffsets}
@@ -20,8 +21,8 @@ use Rattle.recoverable.proofs.LifeBases.{list_fits}
 use Rattle.recoverable.proofs.NewBegins.{new_begins}
 use Rattle.recoverable.proofs.Whole.{image_fits}
 use Rattle.bank_follows.proofs.Stores.{images_follow}
-use Rattle.bank_follows.proofs.Unmade.{nothing, unmade_members, unmade_offsets}
-use Rattle.bank_follows.specs.Ends.{ClusterFits, ClusterHolds, IsOnlySynced}
+use Rattle.bank_follows.proofs.Unmade.{nothing, offsets_unset, slots_unset, unmade_members, unmade_offsets}
+use Rattle.bank_follows.specs.Ends.{ClusterFits, ClusterHolds}
 use Rattle.recoverable.specs.Clusters.{IsLeft}
 
 get_at : {X : Type 0} (xs : List X) (n : ℕ) → n < length xs → (x : X) × (slice_get xs n ≡ Some x)
@@ -46,20 +47,20 @@ module _ (start : Start) (right : BeganRight start) (none : start.recorded ≡ [
       let k = (new_begins bare right.told right.full right.base.counters refl none).members in
       record { before = k.before; in_order = k.in_order; recorded = k.recorded; gap = k.gap; clean = k.clean; behind = k.behind }
 
-  -- of a bank to which nothing was done but that it was synced
-  module _ (bank : ℕ) (es : List Entry) (synced : IsOnlySynced es) (c : Pages) (absent : (q : ℕ) → c q ≡ None) where
-    offsets_left : OffsetsLeft start bank es c
+  -- of a bank in which none was set
+  module _ (lists : List (List Entry)) (k : EngineInvariant start lists) (quiet : multi_history lists ≡ []) (bank lock : ℕ) (c : Pages) (absent : (q : ℕ) → c q ≡ None) where
+    offsets_left : OffsetsLeft start bank (at lists lock) c
     offsets_left = record {
       shown = nothing;
       clean = clean_offsets;
-      follows = (images_follow start bank es c).1 nothing (unmade_offsets start bank es c synced absent);
+      follows = (images_follow start bank (at lists lock) c).1 nothing (unmade_offsets start bank (at lists lock) c (offsets_unset start lists k quiet lock) absent);
     }
 
-    members_left : MembersLeft start bank es c
+    members_left : MembersLeft start bank (at lists lock) c
     members_left = record {
       shown = nothing;
       clean = clean_members;
-      follows = (images_follow start bank es c).2 nothing (unmade_members start bank es c synced absent);
+      follows = (images_follow start bank (at lists lock) c).2 nothing (unmade_members start bank (at lists lock) c (slots_unset start lists k quiet lock) absent);
       tails = λ q i small past. ap (λ (b : List ℕ). slice_index b i) (ap page_bytes (absent q)) ∙ zero_byte i;
     }
 
@@ -78,8 +79,8 @@ module _ {L P : Type 0} (l : logs.Ghosts L) (p : disks.Ghosts P) where
     follows = record {
       log_image = record { kept = first; opens = holds.log_holds.keeps.each left.log is.log_image; forgotten = holds.log_holds.beginning };
       states = states_left;
-      offsets_are = λ bank inside. offsets_left start right holds.recorded bank (at lists (offsets_lock bank)) (holds.offsets bank inside) (left.offsets bank) (is.no_offsets bank);
-      members_are = λ bank inside. members_left start right holds.recorded bank (at lists (members_lock bank)) (holds.members bank inside) (left.members bank) (is.no_members bank);
+      offsets_are = λ bank inside. offsets_left start right holds.recorded lists k holds.unmade bank (offsets_lock bank) (left.offsets bank) (is.no_offsets bank);
+      members_are = λ bank inside. members_left start right holds.recorded lists k holds.unmade bank (members_lock bank) (left.members bank) (is.no_members bank);
     }
 
     fits : ImageFits start.banks kept left

@@ -1,5 +1,5 @@
 -- The counters as they stand are those of a base, and a checkpoint of them may come next in the log.
-use Rattle.std.proofs.Common.{◌≡◌, ℕ, ◌+◌, ◌-◌, ◌<◌, ◌≤◌, ◌^◌, ⊎_elim, List, [], length, inl, inr, refl, sym, ap, subst, arith}
+use Rattle.std.proofs.Common.{◌≡◌, ℕ, ◌+◌, ◌-◌, ◌<◌, ◌≤◌, ◌^◌, ◌∙◌, ⊎_elim, List, [], length, inl, inr, refl, sym, ap, subst, arith}
 use Rattle.std.proofs.lemmas.List.{length-map}
 use Rattle.notes.specs.Lists.{at}
 use Rattle.tx_events.specs.Ids.{IsFullId}
@@ -30,7 +30,7 @@ use Rattle.tx_core.proofs.Posting.{oldest_by_places}
 use Rattle.tx_core.proofs.RecordNext.{announced_given}
 use Rattle.tx_core.proofs.StopLimits.{found_announced, next_within, stop_upto}
 use Rattle.wal_records.specs.Spelling.{AreCounters}
-use Rattle.host_sections.specs.HostEntries.{HaveForms, next_number}
+use Rattle.host_sections.specs.HostEntries.{HaveForms, counters_with, next_number}
 
 least : (n : ℕ) → IsFullId n → 3 ≤ n
 least n full = omega arith
@@ -40,6 +40,10 @@ multi_upto oldest = omega arith
 
 offset_upto : (oldest : ℕ) → member_stop oldest ≤ 2 ^ 63 - 1
 offset_upto oldest = omega arith
+
+-- those that are read, where no multixact was made
+pub read_behind : (start : Start) (lists : List (List Entry)) (c : Counters) → c ≡ counters_with start.base (history lists) (multi_history lists) → multi_history lists ≡ [] → c ≡ counters_behind start.base (history lists)
+read_behind start lists c q none = q ∙ ap (counters_with start.base (history lists)) none
 
 module _ (start : Start) (lists : List (List Entry)) (k : EngineInvariant start lists) (is : IsBase start.base) where
   abbrev now : Counters

@@ -1,5 +1,6 @@
 -- What a checkpoint did, by where it ended.
 use Rattle.std.proofs.Common.{◌≡◌, ℕ, ◌+◌, ◌*◌, ◌<◌, List, [], ◌∷◌, ◌++◌, Err, Ok, Some, append-nil, append_assoc, length, inl, inr, refl, sym, ap, subst, ◌∙◌, arith, ⊎_elim}
+use Rattle.std.proofs.lemmas.List.{length-append}
 use Rattle.std.proofs.lemmas.Option.{same_Some}
 use Rattle.disk_core.specs.Faults.{HasRisen}
 use Rattle.notes.specs.Lists.{at}
@@ -12,6 +13,7 @@ use Rattle.tx_events.specs.declared.refusal.Lock.{Lock}
 use Rattle.tx_events.specs.declared.refusal.Lock.TheVariants as locks
 use Rattle.tx_events.specs.declared.refusal.Refusal.{Refusal}
 use Rattle.tx_events.specs.declared.refusal.Refusal.TheVariants as refusals
+use Rattle.tx_events.proofs.Membership.{Has, has_contains, has_right}
 use Rattle.tx_events.proofs.PlaceLemmas.{each_place_last}
 use Rattle.tx_model.specs.declared.reply.Reply.{Reply}
 use Rattle.tx_model.specs.declared.reply.Reply.TheVariants as replies
@@ -33,7 +35,9 @@ use Rattle.engine_parts.proofs.Logging.{recs_same, up_more}
 use Rattle.host_sections.specs.HostEntries.{AddsFlush, flush_by, forget_by, forget_fault_by, next_number, sync_by}
 use Rattle.log_sections.specs.LogSections.{IsRefusalOf}
 use Rattle.session_promise.specs.Causes.{failed_volume}
-use Rattle.session_promise.specs.Checkpoints.{AddsFor}
+use Rattle.session_promise.specs.Checkpoints.{AddsFor, IsFlushedBelow}
+use Rattle.session_promise.specs.Promise.{recs_of}
+use Rattle.session_promise.proofs.CheckpointRecords.{recs_append}
 use Rattle.engine_checkpoints.specs.Added.{AddsAt, AddsSyncs, FailsAt, IsBuiltBank, WritesCheckpoint, checkpoint_now, host_by}
 use Rattle.engine_checkpoints.specs.Made.{HasFailed, IsBuilt, IsOfUpLog, IsUntouched, IsWholeCheckpoint, Went}
 use Rattle.engine_checkpoints.proofs.Adding.{adds_one}
@@ -46,8 +50,8 @@ up_before start es e new k is =
     each_place_last Rule es e (subst (λ (t : List Entry). EachPlace t Rule) is (k.down.each.each log_lock))
 
 -- the log's list went on so, the ProcArray's didn't
-went_so : (start : Start) (old new : List (List Entry)) (added : List Entry) (reply : Reply) → AddsHosts start old new → at new log_lock ≡ at old log_lock ++ added → AreHosts start added → at new proc_lock ≡ at old proc_lock → AddsFor start old added reply → Went start old new reply
-went_so start old new added reply hosts log theirs proc adds = record {
+went_so : (start : Start) (old new : List (List Entry)) (added : List Entry) (reply : Reply) → AddsHosts start old new → at new log_lock ≡ at old log_lock ++ added → AreHosts start added → at new proc_lock ≡ at old proc_lock → AddsFor start old added reply → (reply ≡ replies.Done → IsFlushedBelow new (start.from + length (recs_of new))) → Went start old new reply
+went_so start old new added reply hosts log theirs proc adds flushed = record {
   grows = hosts_grow start old new hosts;
   idle = hosts_idle start old new hosts;
   same_history = ap events_in proc;
@@ -55,6 +59,7 @@ went_so start old new added reply hosts log theirs proc adds = record {
   log = log;
   theirs = theirs;
   adds = adds;
+  flushed = flushed;
 }
 
 bank_of : (banks : ℕ) (lock : Lock) → IsBuiltBank banks lock → IsBank banks lock
@@ -63,8 +68,8 @@ bank_of banks (locks.Subtrans bank) low = low
 bank_of banks locks.Log low = absurd low
 bank_of banks locks.Proc low = absurd low
 bank_of banks locks.Multi low = absurd low
-bank_of banks (locks.Offsets bank) low = absurd low
-bank_of banks (locks.Members bank) low = absurd low
+bank_of banks (locks.Offsets bank) low = low
+bank_of banks (locks.Members bank) low = low
 
 built_of : (banks : ℕ) (lock : Lock) → IsBuiltBank banks lock → IsBuilt banks lock
 built_of banks (locks.Xact bank) low = low
@@ -72,8 +77,8 @@ built_of banks (locks.Subtrans bank) low = low
 built_of banks locks.Log low = absurd low
 built_of banks locks.Proc low = absurd low
 built_of banks locks.Multi low = absurd low
-built_of banks (locks.Offsets bank) low = absurd low
-built_of banks (locks.Members bank) low = absurd low
+built_of banks (locks.Offsets bank) low = low
+built_of banks (locks.Members bank) low = low
 
 -- a list that ends so tells this count
 told_last : (start : Start) (lock count : ℕ) (es : List Entry) (e : Entry) → count_in e.kind ≡ Some count → HasRisen (faults_told start lock es) count → HasRisen (faults_told start lock es) (faults_told start lock (es ++ e ∷ []))
@@ -112,7 +117,7 @@ module _ (start : Start) (by : By) (old : List (List Entry)) (his : by.session �
       let one = adds_one log_lock fault old new inside a.adds in
       subst (λ (q : Refusal). Told start old new (replies.Refused q)) (sym is) (record {
         went = went_so start old new (fault ∷ []) (replies.Refused refusals.LogFault) (hosts_at start log_lock (fault ∷ []) old new (his, tt) one) one.here (his, tt) (one.others proc_lock (λ q. omega (arith, q)))
-            (inl (record { recs_are = refl; faults_are = refl }));
+            (inl (record { recs_are = refl; faults_are = refl })) (λ q. absurd cc);
         fault = log_failed new es fault a.count refl refl a.risen one.here;
         up = up_before start es fault new k one.here refl;
         untouched = tt;
@@ -120,7 +125,7 @@ module _ (start : Start) (by : By) (old : List (List Entry)) (his : by.session �
   flush_told T new (refused.LogDown down) r k a is =
       subst (λ (q : Refusal). Told start old new (replies.Refused q)) (sym is) (record {
         went = went_so start old new [] (replies.Refused (refusals.LogDown down)) (hosts_none start old new a.same) (ap (λ (z : List (List Entry)). at z log_lock) a.same ∙ sym (append-nil es)) tt (ap (λ (z : List (List Entry)). at z proc_lock) a.same)
-            (refl, a.is_down);
+            (refl, a.is_down) (λ q. absurd cc);
         fault = λ lock q. absurd cc;
         up = tt;
         untouched = a.same;
@@ -150,7 +155,7 @@ module _ (start : Start) (by : By) (old : List (List Entry)) (his : by.session �
         let here : at new m ≡ at old m ++ fault ∷ [] = a.fails.here ∙ ap (λ (t : List Entry). t ++ fault ∷ []) (a.synced.others m (λ b c. omega (arith, c)) ∙ f.others m (λ q. omega (arith, q, low))) in
         record {
           went = went_so start old new (flush ∷ []) (replies.Refused (refusals.DiskFault lock)) hosts (same log_lock (omega arith) ∙ f.here) (his, tt) (same proc_lock (omega arith) ∙ f.others proc_lock (λ q. omega (arith, q)))
-              (bank_of start.banks lock a.built, record { recs_are = refl; faults_are = refl });
+              (bank_of start.banks lock a.built, record { recs_are = refl; faults_are = refl }) (λ q. absurd cc);
           fault = λ other named. subst (HasFailed start old new) (same_Some lock other named) (record {
             built = built_of start.banks lock a.built;
             risen = subst (λ (t : List Entry). HasRisen (faults_told start m (at old m)) (faults_told start m t)) (sym here)
@@ -172,7 +177,7 @@ module _ (start : Start) (by : By) (old : List (List Entry)) (his : by.session �
       proc_late : at late proc_lock ≡ at old proc_lock
       proc_late = first_three proc_lock (omega arith) ∙ f.others proc_lock (λ q. omega (arith, q))
 
-      multis_late : at late multi_lock ≡ at old multi_lock
+      pub multis_late : at late multi_lock ≡ at old multi_lock
       multis_late = first_three multi_lock (omega arith) ∙ f.others multi_lock (λ q. omega (arith, q))
 
       hosts_late : AddsHosts start old late
@@ -206,14 +211,14 @@ module _ (start : Start) (by : By) (old : List (List Entry)) (his : by.session �
       behind : (new : List (List Entry)) (more : List Entry) → AddsAt log_lock more late new → at new log_lock ≡ es ++ flush ∷ more
       behind new more a = a.here ∙ (ap (λ (t : List Entry). t ++ more) log_late ∙ append_assoc es (flush ∷ []) more)
 
-      went_late : (new : List (List Entry)) (more : List Entry) (reply : Reply) → AreHosts start more → AddsAt log_lock more late new → AddsFor start old (flush ∷ more) reply → Went start old new reply
-      went_late new more reply theirs a adds =
-          went_so start old new (flush ∷ more) reply (hosts_then start old late new hosts_late (hosts_at start log_lock more late new theirs a)) (behind new more a) (his, theirs) (a.others proc_lock (λ q. omega (arith, q)) ∙ proc_late) adds
+      went_late : (new : List (List Entry)) (more : List Entry) (reply : Reply) → AreHosts start more → AddsAt log_lock more late new → AddsFor start old (flush ∷ more) reply → (reply ≡ replies.Done → IsFlushedBelow new (start.from + length (recs_of new))) → Went start old new reply
+      went_late new more reply theirs a adds flushed =
+          went_so start old new (flush ∷ more) reply (hosts_then start old late new hosts_late (hosts_at start log_lock more late new theirs a)) (behind new more a) (his, theirs) (a.others proc_lock (λ q. omega (arith, q)) ∙ proc_late) adds flushed
 
       -- nothing more was done
       stopped : (new : List (List Entry)) (r : Refusal) → new ≡ late → AddsFor start old (flush ∷ []) (replies.Refused r) → ((lock : Lock) → failed_volume (replies.Refused r) ≡ Some lock → ⊥) → IsOfUpLog old (replies.Refused r) → IsUntouched old new (replies.Refused r) → Told start old new (replies.Refused r)
       stopped new r same adds other up quiet = record {
-        went = subst (λ (z : List (List Entry)). Went start old z (replies.Refused r)) (sym same) (went_so start old late (flush ∷ []) (replies.Refused r) hosts_late log_late (his, tt) proc_late adds);
+        went = subst (λ (z : List (List Entry)). Went start old z (replies.Refused r)) (sym same) (went_so start old late (flush ∷ []) (replies.Refused r) hosts_late log_late (his, tt) proc_late adds (λ q. absurd cc));
         fault = λ lock q. absurd (other lock q);
         up = up;
         untouched = quiet;
@@ -223,7 +228,7 @@ module _ (start : Start) (by : By) (old : List (List Entry)) (his : by.session �
       failed : (new : List (List Entry)) (before : List Entry) (fault : Entry) (count : ℕ) → AreHosts start (before ++ fault ∷ []) → count_in fault.kind ≡ Some count → AddsAt log_lock (before ++ fault ∷ []) late new → faults_told start log_lock (es ++ flush ∷ before) ≡ faults_told start log_lock es
           → HasRisen (faults_told start log_lock (at late log_lock)) count → AddsFor start old (flush ∷ before ++ fault ∷ []) (replies.Refused refusals.LogFault) → Told start old new (replies.Refused refusals.LogFault)
       failed new before fault count theirs is a same risen adds = record {
-        went = went_late new (before ++ fault ∷ []) (replies.Refused refusals.LogFault) theirs a adds;
+        went = went_late new (before ++ fault ∷ []) (replies.Refused refusals.LogFault) theirs a adds (λ q. absurd cc);
         fault = log_failed new (es ++ flush ∷ before) fault count is same (subst (λ m. HasRisen m count) (ap (faults_told start log_lock) log_late ∙ told_flush) risen) (behind new (before ++ fault ∷ []) a ∙ sym (append_assoc es (flush ∷ before) (fault ∷ [])));
         up = was_up;
         untouched = tt;
@@ -254,7 +259,13 @@ module _ (start : Start) (by : By) (old : List (List Entry)) (his : by.session �
       whole new a = subst (λ (z : Entry × ℕ). AddsAt log_lock (z.0 ∷ flush_by by (z.1 + 1) ∷ forget_by by z.1 ∷ []) late new) (λ j. (mark_late j, next_late j)) a
 
       pub done_told : {T : Type 0} (new : List (List Entry)) (done : T) → WritesCheckpoint start by late new (Ok done) → Went start old new replies.Done
-      done_told new done a = went_late new (mark ∷ again ∷ forget_by by n ∷ []) replies.Done (his, (his, (his, tt))) (whole new a) (record { recs_are = refl; faults_are = refl })
+      done_told new done a = went_late new (mark ∷ again ∷ forget_by by n ∷ []) replies.Done (his, (his, (his, tt))) (whole new a) (record { recs_are = refl; faults_are = refl }) (λ q.
+          let here : at new log_lock ≡ es ++ flush ∷ mark ∷ again ∷ forget_by by n ∷ [] = behind new (mark ∷ again ∷ forget_by by n ∷ []) (whole new a) in
+          let recs : recs_of new ≡ recs_in es ++ recs_in (flush ∷ mark ∷ again ∷ forget_by by n ∷ []) = ap recs_in here ∙ recs_append es (flush ∷ mark ∷ again ∷ forget_by by n ∷ []) in
+          let long = ap length recs ∙ length-append (recs_in es) (recs_in (flush ∷ mark ∷ again ∷ forget_by by n ∷ [])) in
+          let number : n + 1 ≡ start.from + length (recs_of new) = omega (arith, long) in
+          let stands : Has (es ++ flush ∷ mark ∷ again ∷ forget_by by n ∷ []) again = has_right es (flush ∷ mark ∷ again ∷ forget_by by n ∷ []) again (inr (inr (inl refl))) in
+          subst (IsFlushedBelow new) number (by, has_contains (at new log_lock) again (subst (λ (t : List Entry). Has t again) (sym here) stands)))
 
       pub done_whole : {T : Type 0} (new : List (List Entry)) (done : T) → by.command ≡ 0 → WritesCheckpoint start by late new (Ok done) → IsWholeCheckpoint start old new
       done_whole new done none a =

@@ -56,4 +56,5 @@ module _ {H L P : Type 0} {l : logs.Ghosts L} {p : disks.Ghosts P} where
         log = sym (append-nil _);
         theirs = tt;
         adds = refl;
+        flushed = λ q. absurd cc;
       }

@@ -32,10 +32,12 @@ pub record AddsSyncs (by : By) (from upto : ℕ) (old new : List (List Entry)) :
   pub here : (lock : ℕ) → from ≤ lock → lock < upto → at new lock ≡ at old lock ++ sync_by by ∷ []
   pub others : (lock : ℕ) → (from ≤ lock → lock < upto → ⊥) → at new lock ≡ at old lock
 
--- the volume of a bank of pg_xact or pg_subtrans
+-- the volume of a bank of one of the four stores
 abbrev pub IsBuiltBank : ℕ → Lock → Type 0
 IsBuiltBank banks (locks.Xact bank) = bank < banks
 IsBuiltBank banks (locks.Subtrans bank) = bank < banks
+IsBuiltBank banks (locks.Offsets bank) = bank < banks
+IsBuiltBank banks (locks.Members bank) = bank < banks
 IsBuiltBank banks lock = ⊥
 
 -- the banks before this one were synced, and its volume failed

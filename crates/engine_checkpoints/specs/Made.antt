@@ -1,5 +1,5 @@
 -- What a checkpoint did, by what it was answered.
-use Rattle.std.specs.Prelude.{◌≡◌, ℕ, ◌+◌, ◌*◌, ◌<◌, ◌≤◌, List, [], ◌∷◌, ◌++◌}
+use Rattle.std.specs.Prelude.{◌≡◌, ℕ, ◌+◌, ◌*◌, ◌<◌, ◌≤◌, List, [], ◌∷◌, ◌++◌, length}
 use Rattle.std.specs.List.{AllByRecursion}
 use Rattle.disk_core.specs.Faults.{HasRisen}
 use Rattle.notes.specs.Lists.{Grows, Knows, at}
@@ -17,7 +17,8 @@ use Rattle.tx_core.specs.StaysDown.{IsUp}
 use Rattle.engine_parts.specs.declared.session.Session.{Session}
 use Rattle.host_sections.specs.HostEntries.{flush_by, forget_by, next_number, sync_by}
 pub use Rattle.session_promise.specs.Causes.{failed_volume}
-use Rattle.session_promise.specs.Checkpoints.{AddsFor, IsCommitting}
+use Rattle.session_promise.specs.Checkpoints.{AddsFor, IsCommitting, IsFlushedBelow}
+use Rattle.session_promise.specs.Promise.{recs_of}
 use Rattle.engine_checkpoints.specs.Added.{IsBuiltBank, checkpoint_now, host_by}
 
 abbrev pub IsNoneCommitting : List Session → Type 0
@@ -29,7 +30,7 @@ IsFirstCommitting sessions session =
     IsCommitting sessions session × ((n : ℕ) → n < session → IsCommitting sessions n → ⊥)
 
 -- What a checkpoint that was answered so added, where none is in the midst of a commit: to the log's list what the reply
--- says, to none of the history, and nothing of the life's sessions.
+-- says, to none of the history, and nothing of the life's sessions. One that is done was flushed.
 pub record Went (start : Start) (before after : List (List Entry)) (reply : Reply) : Type 0 where
   pub grows : Grows before after
   pub idle : (n : ℕ) → n < start.sessions → Knows session_of n before after
@@ -38,6 +39,7 @@ pub record Went (start : Start) (before after : List (List Entry)) (reply : Repl
   pub log : at after log_lock ≡ at before log_lock ++ added
   pub theirs : AllByRecursion (λ e. e.by.session ≡ start.sessions) added
   pub adds : AddsFor start before added reply
+  pub flushed : reply ≡ replies.Done → IsFlushedBelow after (start.from + length (recs_of after))
 
 -- The whole of one that is done: the records were flushed, all banks of the four stores synced, the checkpoint appended
 -- and flushed, and the log forgotten before it. Nothing else was added.

@@ -1,10 +1,11 @@
 //! The steps of a checkpoint, one after the other.
-ghost use Rattle.std.specs.Prelude.{◌≡◌, Some};
+ghost use Rattle.std.specs.Prelude.{◌≡◌, Some, []};
 ghost use Rattle.hall.specs.Calls.{start_of, view};
 ghost use Rattle.tx_events.specs.declared.refusal.Lock.{Lock};
 ghost use Rattle.tx_events.specs.Base.{IsBase};
 ghost use Rattle.tx_model.specs.declared.reply.Reply.TheVariants as replies;
 ghost use Rattle.tx_core.specs.EngineInvariant.{EngineInvariant};
+ghost use Rattle.tx_core.specs.MultiEntries.{multi_history};
 ghost use Rattle.tx_core.specs.ProgramOrder.{IsHostsTurn};
 ghost use Rattle.engine_parts.specs.Alone.{IsAlone};
 ghost use Rattle.session_promise.specs.Causes.{failed_volume};
@@ -34,10 +35,10 @@ pub(crate) fn make_checkpoint<R: Wait, L: LogDisk, P: PageDisk>(
 ) -> Reply
     requires alone { IsAlone hall.now pass.old }
     requires turn { IsHostsTurn (start_of hall.now) by }
-    requires base { cluster.base ≡ (start_of hall.now).base }
     requires lawful { IsBase (start_of hall.now).base }
     requires banks { cluster.banks ≡ (start_of hall.now).banks }
     requires none { IsNoneWaiting (start_of hall.now) (view pass.old).seen }
+    requires quiet { multi_history (view pass.old).seen ≡ [] }
     ensures alone { IsAlone hall.now pass.new }
     ensures holds { (view pass.new).holds ≡ (view pass.old).holds }
     ensures kept { EngineInvariant (start_of hall.now) (view pass.new).seen }
@@ -52,7 +53,7 @@ pub(crate) fn make_checkpoint<R: Wait, L: LogDisk, P: PageDisk>(
 {
     match flush_records(rt, hall, pass, by) {
         Ok(()) => match sync_all(rt, hall, pass, by, cluster.banks) {
-            Ok(()) => match write_checkpoint(rt, hall, pass, by, cluster.base) {
+            Ok(()) => match write_checkpoint(rt, hall, pass, by) {
                 Ok(()) => Reply::Done,
                 Err(refusal) => Reply::Refused {
                     refusal: refusal_of(refusal),

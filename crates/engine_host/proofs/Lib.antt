@@ -1,6 +1,7 @@
 pub mod Starting
 pub mod Hosting
 pub mod Parking
-mod Refusing
+mod Multis
+pub mod Refusing
 mod Counting
 pub mod Homing

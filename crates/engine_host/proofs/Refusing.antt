@@ -1,6 +1,7 @@
 -- Why no engine was opened, and what its volumes are then.
-use Rattle.std.proofs.Common.{Box, Global, ℕ, zero, suc, ◌≡◌, ◌≢◌, ◌⊎◌, ◌+◌, ◌<◌, ◌≤◌, ◌++◌, ◌∷◌, [], ◌∙◌, ⊎_elim, Bool, IsNone, IsSome, IsTrue, List, None, Ok, Err, Option, Some, ap, append-nil, append_assoc, arith, drop, false, length, length-append, refl, remove, subst, sym, true}
+use Rattle.std.proofs.Common.{Box, Global, ℕ, zero, suc, ◌≡◌, ◌≢◌, ◌⊎◌, ◌+◌, ◌<◌, ◌≤◌, ◌++◌, ◌∷◌, [], ◌∙◌, ⊎_elim, Bool, IsNone, IsSome, IsTrue, List, None, Ok, Err, Option, Some, ap, append-nil, append_assoc, arith, drop, false, inl, inr, length, length-append, refl, remove, subst, sym, true}
 use Rattle.std.proofs.lemmas.List.Elements.{filter_map-append}
+use Rattle.std.proofs.lemmas.Option.{same_Some}
 use Rattle.std.specs.List.{cons_option, filter_map, slice_get, slice_index_or}
 use Rattle.disk_core.specs.Faults.{HasRisen}
 use Rattle.disk_core.specs.Volume.{Volume}
@@ -10,7 +11,10 @@ use Rattle.tx_core.proofs.FaultCounts.{risen_past}
 use Rattle.tx_events.specs.declared.record.Counters.{Counters}
 use Rattle.tx_events.specs.declared.record.Rec.{Rec}
 use Rattle.tx_events.specs.declared.record.Rec.TheVariants as records
-use Rattle.tx_events.specs.declared.refusal.Lock.TheVariants as locks
+use Rattle.tx_events.specs.declared.refusal.Lock.{Lock}
+use Rattle.store_pages.specs.declared.page_rule.PageRule as rules
+use Rattle.slru_bank.specs.Calls.{faults_of, volume_of}
+use Rattle.slru_bank.specs.declared.bank.SlruBank.{SlruBank}
 use Rattle.wal_core.specs.declared.refusal.LogRefusal.{LogRefusal}
 use Rattle.wal_core.specs.declared.refusal.LogRefusal.TheVariants as log_refusals
 use Rattle.wal_core.specs.declared.wal_log.WalLog.{WalLog}
@@ -26,11 +30,16 @@ use Rattle.engine_parts.specs.Parts.{PartStands}
 use Rattle.engine_parts.specs.declared.part.Part.{Part}
 use Rattle.engine_parts.specs.declared.part.Part.TheVariants as parts
 use Rattle.engine_host.specs.declared.cluster.Cluster.{Cluster}
-use Rattle.recoverable.specs.declared.cluster.ClusterVolumes.{ClusterVolumes}
+use Rattle.disk_core.specs.declared.media.Volumes.{Volumes}
 use Rattle.recoverable.specs.Clusters.{HasFailedAt}
 use Rattle.engine_host.specs.declared.refusal.OpenRefusal.{OpenRefusal}
 use Rattle.engine_host.specs.declared.refusal.OpenRefusal.TheVariants as refusals
-use Rattle.engine_host.specs.Refused.{AreInPlace, HaveDisks, IsBankRefusal, IsBeginRefusal, IsRefusal, IsStartRefusal, OpensEmpty, refusal_by, subtrans_disk, subtrans_disks, xact_disk, xact_disks}
+use Rattle.engine_host.specs.Refused.{AreInPlace, HaveDisks, IsBack, IsBankRefusal, IsBeginRefusal, IsFailed, IsRefusal, IsStartRefusal, OpensEmpty, OpensFirst, refusal_by}
+use Rattle.std.specs.Global.{Vec}
+use Rattle.std.specs.Prelude.{vec_capacity}
+use Rattle.engine_host.specs.Stores.{HaveEach, Store, banks_of, disk_in, disks_in, lock_named, of_members, of_offsets, of_subtrans, of_xact, volumes_in}
+use Rattle.engine_host.specs.declared.cluster.BankVolumes.{BankVolumes}
+use Rattle.multi_store.specs.declared.generator.MultiGen.{MultiGen}
 
 -- ---- what was popped, or is put at the end
 
@@ -64,24 +73,24 @@ module _ {X Y : Type 0} (f : X → Option Y) where
       → length (filter_map f old) ≡ length (filter_map f new)
   passed_length old new x e is = ap length (with_none old new x e is)
 
-  -- four more, of which the first has one, or the second: it was the first of those that were left
-  pub kept_first : (xs whole : List X) (a b v w : X) (y : Y) (old rest : List Y) → whole ≡ (((xs ++ a ∷ []) ++ b ∷ []) ++ v ∷ []) ++ w ∷ [] → f a ≡ Some y → f b ≡ None → f v ≡ None → f w ≡ None → old ≡ y ∷ rest
-      → filter_map f whole ++ rest ≡ filter_map f xs ++ old
-  kept_first xs whole a b v w y old rest is fa fb fv fw front =
-      let ys : List X = xs ++ a ∷ [] in
-      let zs : List X = ys ++ b ∷ [] in
-      let vs : List X = zs ++ v ∷ [] in
-      let all : filter_map f whole ≡ filter_map f xs ++ y ∷ [] = with_none whole vs w is fw ∙ (with_none vs zs v refl fv ∙ (with_none zs ys b refl fb ∙ with_one ys xs a y refl fa)) in
-      ap (λ (l : List Y). l ++ rest) all ∙ (append_assoc (filter_map f xs) (y ∷ []) rest ∙ ap (λ (l : List Y). filter_map f xs ++ l) (sym front))
+  -- so there is room as before
+  pub still_room : (old new : List X) (x : X) (rest room : ℕ) → old ≡ new ++ x ∷ [] → f x ≡ None → length (filter_map f old) + rest ≤ room → length (filter_map f new) + rest ≤ room
+  still_room old new x rest room e is le = let l = passed_length old new x e is in omega (arith, l, le)
 
-  pub kept_second : (xs whole : List X) (a b v w : X) (y : Y) (old rest : List Y) → whole ≡ (((xs ++ a ∷ []) ++ b ∷ []) ++ v ∷ []) ++ w ∷ [] → f a ≡ None → f b ≡ Some y → f v ≡ None → f w ≡ None → old ≡ y ∷ rest
+  -- the first ones, of which none has one
+  pub first_off : (old rest : List X) (x : X) → old ≡ x ∷ rest → f x ≡ None → filter_map f old ≡ filter_map f rest
+  first_off old rest x e is = ap (filter_map f) e ∙ ap (λ (o : Option Y). cons_option o (filter_map f rest)) is
+
+  -- the parts of a bank more
+  pub with_four : (xs whole : List X) (a b v w : X) → whole ≡ xs ++ a ∷ b ∷ v ∷ w ∷ [] → filter_map f whole ≡ filter_map f xs ++ filter_map f (a ∷ b ∷ v ∷ w ∷ [])
+  with_four xs whole a b v w is = ap (filter_map f) is ∙ filter_map-append f xs (a ∷ b ∷ v ∷ w ∷ [])
+
+  -- one of which has what was the first of those that were left
+  pub kept_one : (xs whole : List X) (a b v w : X) (y : Y) (old rest : List Y) → whole ≡ xs ++ a ∷ b ∷ v ∷ w ∷ [] → filter_map f (a ∷ b ∷ v ∷ w ∷ []) ≡ y ∷ [] → old ≡ y ∷ rest
       → filter_map f whole ++ rest ≡ filter_map f xs ++ old
-  kept_second xs whole a b v w y old rest is fa fb fv fw front =
-      let ys : List X = xs ++ a ∷ [] in
-      let zs : List X = ys ++ b ∷ [] in
-      let vs : List X = zs ++ v ∷ [] in
-      let all : filter_map f whole ≡ filter_map f xs ++ y ∷ [] = with_none whole vs w is fw ∙ (with_none vs zs v refl fv ∙ (with_one zs ys b y refl fb ∙ ap (λ (l : List Y). l ++ y ∷ []) (with_none ys xs a refl fa))) in
-      ap (λ (l : List Y). l ++ rest) all ∙ (append_assoc (filter_map f xs) (y ∷ []) rest ∙ ap (λ (l : List Y). filter_map f xs ++ l) (sym front))
+  kept_one xs whole a b v w y old rest is one front =
+      ap (λ (l : List Y). l ++ rest) (with_four xs whole a b v w is ∙ ap (λ (l : List Y). filter_map f xs ++ l) one)
+      ∙ (append_assoc (filter_map f xs) (y ∷ []) rest ∙ ap (λ (l : List Y). filter_map f xs ++ l) (sym front))
 
   few_step : (x : X) (xs : List X) (o : Option Y) → f x ≡ o → length (filter_map f xs) ≤ length xs
       → length (cons_option o (filter_map f xs)) ≤ suc (length xs)
@@ -117,6 +126,12 @@ second_is [] ys x l e is = absurd (omega arith)
 second_is (y ∷ []) ys x l e is = absurd (omega arith)
 second_is {X} (y ∷ z ∷ xs) ys x l e is = ap (λ (v : X). Some v) (sym (is ∙ ap (λ (l : List X). slice_index_or l 0 x) e))
 
+pub third_is : {X : Type 0} (xs ys zs : List X) (x : X) → 3 ≤ length xs → ys ≡ remove xs 0 → zs ≡ remove ys 0 → x ≡ slice_index_or zs 0 x → slice_get xs 2 ≡ Some x
+third_is [] ys zs x l e f is = absurd (omega arith)
+third_is {X} (y ∷ xs) ys zs x l e f is =
+    let long : length ys ≡ length xs = ap length e in
+    ap (λ (l : List X). slice_get l 1) (sym e) ∙ second_is ys zs x (omega (arith, l, long)) f is
+
 pub no_longer : {X : Type 0} (xs ys : List X) → ys ≡ remove xs 0 → length ys ≤ length xs
 no_longer [] ys e = omega (arith, ap length e)
 no_longer (x ∷ xs) ys e = omega (arith, ap length e)
@@ -135,6 +150,31 @@ drop_next zero [] = refl
 drop_next zero (x ∷ xs) = refl
 drop_next (suc n) [] = refl
 drop_next (suc n) (x ∷ xs) = drop_next n xs
+
+-- four that were pushed one by one
+pub pushed_four : {X : Type 0} (xs one two three four : List X) (a b v w : X) → one ≡ xs ++ a ∷ [] → two ≡ one ++ b ∷ [] → three ≡ two ++ v ∷ [] → four ≡ three ++ w ∷ []
+    → four ≡ (((xs ++ a ∷ []) ++ b ∷ []) ++ v ∷ []) ++ w ∷ []
+pushed_four {X} xs one two three four a b v w e f g h =
+    h ∙ ap (λ (l : List X). l ++ w ∷ []) (g ∙ ap (λ (l : List X). l ++ v ∷ []) (f ∙ ap (λ (l : List X). l ++ b ∷ []) e))
+
+pub four_more : {X : Type 0} (xs : List X) (a b v w : X) → (((xs ++ a ∷ []) ++ b ∷ []) ++ v ∷ []) ++ w ∷ [] ≡ xs ++ a ∷ b ∷ v ∷ w ∷ []
+four_more xs a b v w =
+    append_assoc ((xs ++ a ∷ []) ++ b ∷ []) (v ∷ []) (w ∷ [])
+    ∙ (append_assoc (xs ++ a ∷ []) (b ∷ []) (v ∷ w ∷ []) ∙ append_assoc xs (a ∷ []) (b ∷ v ∷ w ∷ []))
+
+-- what is given for each of the four stores
+abbrev pub by_store : {X : Type 0} → X → X → X → X → Store → X
+by_store a b c d of_xact = a
+by_store a b c d of_subtrans = b
+by_store a b c d of_offsets = c
+by_store a b c d of_members = d
+
+-- of each of the four stores
+pub each_store : (F : Store → Type 0) → F of_xact → F of_subtrans → F of_offsets → F of_members → (k : Store) → F k
+each_store F a b c d of_xact = a
+each_store F a b c d of_subtrans = b
+each_store F a b c d of_offsets = c
+each_store F a b c d of_members = d
 
 -- ---- the log
 
@@ -193,19 +233,30 @@ module _ {P : Type 0} (p : disks.Ghosts P) where
     risen = up;
   }
 
-  pub xact_refused : (bank : ℕ) (xs xs' ys ys' rest : List P) (d q : P) (r : OpenRefusal) → 0 < length xs → d ≡ slice_index_or xs 0 d → xs' ≡ q ∷ rest
-      → (r ≡ refusals.Memory) ⊎ ((r ≡ refusals.DiskFault (locks.Xact bank)) × HasRisen (p.faults d) (p.faults q))
-      → IsBankRefusal p bank xs xs' ys ys' r
-  xact_refused bank xs xs' ys ys' rest d q r some was is why = ⊎_elim
-      (λ (m : r ≡ refusals.Memory). subst (IsBankRefusal p bank xs xs' ys ys') (sym m) tt)
-      (λ k. subst (IsBankRefusal p bank xs xs' ys ys') (sym k.0) (refl, first_failed xs xs' rest d q some was is k.1)) why
+  -- the volume that was taken failed, and was put back
+  pub store_failed : (lock : Lock) (xs xs' rest : List P) (d q : P) (r : OpenRefusal) → 0 < length xs → d ≡ slice_index_or xs 0 d → xs' ≡ q ∷ rest
+      → (r ≡ refusals.Memory) ⊎ ((r ≡ refusals.DiskFault lock) × HasRisen (p.faults d) (p.faults q)) → IsFailed p lock xs xs' r
+  store_failed lock xs xs' rest d q r some was is why = ⊎_elim inl (λ k. inr (k.0, first_failed xs xs' rest d q some was is k.1)) why
 
-  pub subtrans_refused : (bank : ℕ) (xs xs' ys ys' rest : List P) (d q : P) (r : OpenRefusal) → 0 < length ys → d ≡ slice_index_or ys 0 d → ys' ≡ q ∷ rest
-      → (r ≡ refusals.Memory) ⊎ ((r ≡ refusals.DiskFault (locks.Subtrans bank)) × HasRisen (p.faults d) (p.faults q))
-      → IsBankRefusal p bank xs xs' ys ys' r
-  subtrans_refused bank xs xs' ys ys' rest d q r some was is why = ⊎_elim
-      (λ (m : r ≡ refusals.Memory). subst (IsBankRefusal p bank xs xs' ys ys') (sym m) tt)
-      (λ k. subst (IsBankRefusal p bank xs xs' ys ys') (sym k.0) (refl, first_failed ys ys' rest d q some was is k.1)) why
+  -- A bank was opened over the first volume.
+  pub opens_first : {O : Type 0} {g : rules.Ghosts O} (removed : Bool) (xs rest : List P) (d : P) (store : SlruBank P O p g) → 0 < length xs → d ≡ slice_index_or xs 0 d → rest ≡ remove xs 0
+      → p.faults d ≤ faults_of store → (removed ≡ false → volume_of store ≡ d) → OpensFirst removed xs rest store
+  opens_first removed xs rest d store some was left up same = record {
+    rest = left;
+    count = λ v at. subst (λ (e : P). p.faults e ≤ faults_of store) (same_Some d v (sym (first_is xs d some was) ∙ at)) up;
+    same = λ none. front_of xs rest d some was left ∙ ap (λ (e : P). e ∷ rest) (sym (same none));
+  }
+
+  -- What was taken is back.
+  pub is_back : (removed : Bool) (xs rest xs' : List P) (d q : P) → 0 < length xs → d ≡ slice_index_or xs 0 d → rest ≡ remove xs 0 → xs' ≡ q ∷ rest → (removed ≡ false → q ≡ d) → IsBack removed xs xs'
+  is_back removed xs rest xs' d q some was left put same =
+      let front = front_of xs rest d some was left in record {
+        count = ap length put ∙ sym (ap length front);
+        same = λ none. put ∙ (ap (λ (e : P). e ∷ rest) (same none) ∙ sym front);
+      }
+
+  pub left_alone : (removed : Bool) (xs : List P) → IsBack removed xs xs
+  left_alone removed xs = record { count = refl; same = λ none. refl }
 
   failed_behind : (bank b : ℕ) (old ds new whole : List P) → b ≡ bank → length ds ≡ bank → whole ≡ ds ++ new
       → HasFailedAt p.faults 0 (drop bank old) new → HasFailedAt p.faults b old whole
@@ -218,28 +269,35 @@ module _ {P : Type 0} (p : disks.Ghosts P) where
   }
 
 module _ {L P : Type 0} {l : logs.Ghosts L} {p : disks.Ghosts P} where
-  -- with the parts of a bank more
-  pub disks_more : (n : ℕ) (xs : List (Part L P l p)) (a b : Part L P l p) (d e : P) → HaveDisks n xs
-      → xact_disk a ≡ Some d → subtrans_disk a ≡ None → xact_disk b ≡ None → subtrans_disk b ≡ Some e
-      → HaveDisks (n + 1) ((((xs ++ a ∷ []) ++ b ∷ []) ++ parts.Vacant ∷ []) ++ parts.Vacant ∷ [])
-  disks_more n xs a b d e have ax ay bx b2 =
-      let v : Part L P l p = parts.Vacant in
-      let ys : List (Part L P l p) = xs ++ a ∷ [] in
-      let zs : List (Part L P l p) = ys ++ b ∷ [] in
-      let vs : List (Part L P l p) = zs ++ v ∷ [] in
-      let ws : List (Part L P l p) = vs ++ v ∷ [] in
-      record {
-        xact = passed_length xact_disk ws vs v refl refl
-            ∙ (passed_length xact_disk vs zs v refl refl
-            ∙ (passed_length xact_disk zs ys b refl bx ∙ (moved_length xact_disk ys xs a d refl ax ∙ ap (λ k. k + 1) have.xact)));
-        subtrans = passed_length subtrans_disk ws vs v refl refl
-            ∙ (passed_length subtrans_disk vs zs v refl refl
-            ∙ (moved_length subtrans_disk zs ys b e refl b2 ∙ ap (λ k. k + 1) (passed_length subtrans_disk ys xs a refl ay ∙ have.subtrans)));
-      }
+  -- the parts that have no bank have no volume of one
+  pub log_has_none : (k : Store) (part : Part L P l p) (x : Box (WalLog L l) Global) → part ≡ parts.Log x → disk_in k part ≡ None
+  log_has_none k part x e = ap (disk_in k) e ∙ each_store (λ j. ◌≡◌ {A = Option P} (disk_in {L = L} {P = P} {l = l} {p = p} j (parts.Log x)) None) refl refl refl refl k
+
+  pub table_has_none : (k : Store) (part : Part L P l p) (x : Box Table Global) → part ≡ parts.Proc x → disk_in k part ≡ None
+  table_has_none k part x e = ap (disk_in k) e ∙ each_store (λ j. ◌≡◌ {A = Option P} (disk_in {L = L} {P = P} {l = l} {p = p} j (parts.Proc x)) None) refl refl refl refl k
+
+  pub multis_have_none : (k : Store) (part : Part L P l p) (x : Box MultiGen Global) → part ≡ parts.Multi x → disk_in k part ≡ None
+  multis_have_none k part x e = ap (disk_in k) e ∙ each_store (λ j. ◌≡◌ {A = Option P} (disk_in {L = L} {P = P} {l = l} {p = p} j (parts.Multi x)) None) refl refl refl refl k
+
+  -- the vectors of volumes have room for those that were taken of them
+  pub room_left : (banks : ℕ) (old new : BankVolumes P) (locks : List (Part L P l p)) → HaveEach banks old → ((k : Store) → vec_capacity (volumes_in k new) ≡ vec_capacity (volumes_in k old))
+      → ((k : Store) → length (disks_in k locks) + length (volumes_in k new).items ≡ banks) → (k : Store) → length (disks_in k locks) + length (volumes_in k new).items ≤ vec_capacity (volumes_in k new)
+  room_left banks old new locks each same all k =
+      let long = fits (volumes_in k old) in let have = each k in let room = same k in let count = all k in omega (arith, long, have, room, count)
+    where
+      fits : (v : Vec P) → length v.items ≤ vec_capacity v
+      fits v = omega (arith, v.ok.0, v.ok.1)
+
+  -- with the parts of a bank more, each of which has a volume
+  pub disks_more : (n : ℕ) (xs whole : List (Part L P l p)) (a b v w : Part L P l p) (d : Store → P) → HaveDisks n xs → whole ≡ xs ++ a ∷ b ∷ v ∷ w ∷ []
+      → ((k : Store) → disks_in k (a ∷ b ∷ v ∷ w ∷ []) ≡ d k ∷ []) → HaveDisks (n + 1) whole
+  disks_more n xs whole a b v w d have is one k =
+      ap length (with_four (disk_in k) xs whole a b v w is ∙ ap (λ (l : List P). disks_in k xs ++ l) (one k))
+      ∙ (length-append (disks_in k xs) (d k ∷ []) ∙ ap (λ m. m + 1) (have k))
 
   -- ---- the engine
 
-  -- the parts that lie behind the first two locks
+  -- the parts that lie behind the first three locks
   pub log_there : (rest : List (Part L P l p)) (part : Part L P l p) → AreInPlace rest → slice_get rest 0 ≡ Some part
       → ((x : Box (WalLog L l) Global) → part ≡ parts.Log x → ⊥) → ⊥
   log_there rest part place at other = is_there part (place 0 part at) other
@@ -247,9 +305,11 @@ module _ {L P : Type 0} {l : logs.Ghosts L} {p : disks.Ghosts P} where
       is_there : (q : Part L P l p) → ((start : Start) × (es : List Entry) × PartStands start 0 q es) → ((x : Box (WalLog L l) Global) → q ≡ parts.Log x → ⊥) → ⊥
       is_there (parts.Log log) k none = none log refl
       is_there (parts.Proc table) k none = absurd (omega (arith, k.2.0))
+      is_there (parts.Multi gen) k none = absurd (omega (arith, k.2.0))
       is_there (parts.Xact store) k none = absurd (omega (arith, k.2.1))
       is_there (parts.Subtrans store) k none = absurd (omega (arith, k.2.1))
-      is_there parts.Vacant k none = k.2.log refl
+      is_there (parts.Offsets store) k none = absurd (omega (arith, k.2.1))
+      is_there (parts.Members store) k none = absurd (omega (arith, k.2.1))
 
   pub table_there : (rest : List (Part L P l p)) (part : Part L P l p) → AreInPlace rest → slice_get rest 1 ≡ Some part
       → ((x : Box Table Global) → part ≡ parts.Proc x → ⊥) → ⊥
@@ -258,30 +318,45 @@ module _ {L P : Type 0} {l : logs.Ghosts L} {p : disks.Ghosts P} where
       is_there : (q : Part L P l p) → ((start : Start) × (es : List Entry) × PartStands start 1 q es) → ((x : Box Table Global) → q ≡ parts.Proc x → ⊥) → ⊥
       is_there (parts.Log log) k none = absurd (omega (arith, k.2.0))
       is_there (parts.Proc table) k none = none table refl
+      is_there (parts.Multi gen) k none = absurd (omega (arith, k.2.0))
       is_there (parts.Xact store) k none = absurd (omega (arith, k.2.1))
       is_there (parts.Subtrans store) k none = absurd (omega (arith, k.2.1))
-      is_there parts.Vacant k none = k.2.proc refl
+      is_there (parts.Offsets store) k none = absurd (omega (arith, k.2.1))
+      is_there (parts.Members store) k none = absurd (omega (arith, k.2.1))
 
-  pub from_bank : (c : Cluster) (old new : ClusterVolumes L P) (bank : ℕ) (rest : List (Part L P l p)) (xs ys : List P) (r : OpenRefusal)
-      → HaveDisks bank rest → IsBankRefusal p bank (drop bank old.xact.items) xs (drop bank old.subtrans.items) ys r
-      → new.xact.items ≡ xact_disks rest ++ xs → new.subtrans.items ≡ subtrans_disks rest ++ ys → IsRefusal l p c old new r
-  from_bank c old new bank rest xs ys (refusals.Damaged at) have k x y = absurd k
-  from_bank c old new bank rest xs ys refusals.NotNew have k x y = absurd k
-  from_bank c old new bank rest xs ys refusals.LogFault have k x y = absurd k
-  from_bank c old new bank rest xs ys (refusals.DiskFault locks.Log) have k x y = absurd k
-  from_bank c old new bank rest xs ys (refusals.DiskFault locks.Proc) have k x y = absurd k
-  from_bank c old new bank rest xs ys (refusals.DiskFault locks.Multi) have k x y = absurd k
-  from_bank c old new bank rest xs ys (refusals.DiskFault (locks.Xact b)) have k x y =
-      failed_behind p bank b old.xact.items (xact_disks rest) xs new.xact.items k.0 have.xact x k.1
-  from_bank c old new bank rest xs ys (refusals.DiskFault (locks.Subtrans b)) have k x y =
-      failed_behind p bank b old.subtrans.items (subtrans_disks rest) ys new.subtrans.items k.0 have.subtrans y k.1
-  from_bank c old new bank rest xs ys (refusals.DiskFault (locks.Offsets b)) have k x y = absurd k
-  from_bank c old new bank rest xs ys (refusals.DiskFault (locks.Members b)) have k x y = absurd k
-  from_bank c old new bank rest xs ys refusals.Full have k x y = absurd k
-  from_bank c old new bank rest xs ys refusals.Memory have k x y = tt
+  pub multis_there : (rest : List (Part L P l p)) (part : Part L P l p) → AreInPlace rest → slice_get rest 2 ≡ Some part
+      → ((x : Box MultiGen Global) → part ≡ parts.Multi x → ⊥) → ⊥
+  multis_there rest part place at other = is_there part (place 2 part at) other
+    where
+      is_there : (q : Part L P l p) → ((start : Start) × (es : List Entry) × PartStands start 2 q es) → ((x : Box MultiGen Global) → q ≡ parts.Multi x → ⊥) → ⊥
+      is_there (parts.Log log) k none = absurd (omega (arith, k.2.0))
+      is_there (parts.Proc table) k none = absurd (omega (arith, k.2.0))
+      is_there (parts.Multi gen) k none = none gen refl
+      is_there (parts.Xact store) k none = absurd (omega (arith, k.2.1))
+      is_there (parts.Subtrans store) k none = absurd (omega (arith, k.2.1))
+      is_there (parts.Offsets store) k none = absurd (omega (arith, k.2.1))
+      is_there (parts.Members store) k none = absurd (omega (arith, k.2.1))
+
+  -- a bank wasn't opened behind so many
+  pub from_bank : (c : Cluster) (old new : Volumes L P) (bank : ℕ) (rest : List (Part L P l p)) (left : BankVolumes P) (r : OpenRefusal)
+      → HaveDisks bank rest → IsBankRefusal p bank (λ k. drop bank (volumes_in k (banks_of old)).items) (λ k. (volumes_in k left).items) r
+      → ((k : Store) → (volumes_in k (banks_of new)).items ≡ disks_in k rest ++ (volumes_in k left).items) → IsRefusal l p c old new r
+  from_bank c old new bank rest left r have why put = ⊎_elim
+      (λ (m : r ≡ refusals.Memory). subst (IsRefusal l p c old new) (sym m) tt)
+      (λ k. subst (IsRefusal l p c old new) (sym k.0) (by_store why.0 k.1))
+      why.1
+    where
+      behind : (k : Store) → HasFailedAt p.faults 0 (drop bank (volumes_in k (banks_of old)).items) (volumes_in k left).items → HasFailedAt p.faults bank (volumes_in k (banks_of old)).items (volumes_in k (banks_of new)).items
+      behind k = failed_behind p bank bank (volumes_in k (banks_of old)).items (disks_in k rest) (volumes_in k left).items (volumes_in k (banks_of new)).items refl (have k) (put k)
+
+      by_store : (k : Store) → HasFailedAt p.faults 0 (drop bank (volumes_in k (banks_of old)).items) (volumes_in k left).items → IsRefusal l p c old new (refusals.DiskFault (lock_named k bank))
+      by_store of_xact = behind of_xact
+      by_store of_subtrans = behind of_subtrans
+      by_store of_offsets = behind of_offsets
+      by_store of_members = behind of_members
 
 module _ {L P : Type 0} {l : logs.Ghosts L} (p : disks.Ghosts P) where
-  pub from_begin : (c : Cluster) (old new : ClusterVolumes L P) (log log' : WalLog L l) (r : OpenRefusal)
+  pub from_begin : (c : Cluster) (old new : Volumes L P) (log log' : WalLog L l) (r : OpenRefusal)
       → OpensEmpty l old.log (log_end log) → l.faults old.log ≤ l.faults (log_disk log) → new.log ≡ log_disk log'
       → IsBeginRefusal c log log' r → IsRefusal l p c old new r
   from_begin c old new log log' (refusals.Damaged at) opens count back k = absurd k

@@ -1,5 +1,5 @@
 -- What new parts stand for.
-use Rattle.std.proofs.Common.{Box, Global, ℕ, zero, suc, ◌/◌, option_map, length-append, Result, Ok, Err, is_ok, IsOk, if◌then◌else◌, insert, ◌+◌, ◌*◌, ◌%◌, ◌^◌, ◌<◌, ◌≤◌, ◌≡◌, ◌⊎◌, ⊎_elim, Bool, false, true, cond, IsTrue, List, [], ◌∷◌, ◌++◌, Option, None, Some, Contains, append-nil, drop, length, map, max, get_or, inl, refl, take, sym, ap, subst, ◌∙◌, arith}
+use Rattle.std.proofs.Common.{Box, Global, ℕ, zero, suc, ◌/◌, option_map, length-append, Result, Ok, Err, is_ok, IfOk, IsOk, if◌then◌else◌, insert, ◌+◌, ◌*◌, ◌%◌, ◌^◌, ◌<◌, ◌≤◌, ◌≡◌, ◌⊎◌, ⊎_elim, Bool, false, true, cond, IsTrue, List, [], ◌∷◌, ◌++◌, Option, None, Some, Contains, append-nil, drop, length, map, max, get_or, inl, refl, take, sym, ap, subst, ◌∙◌, arith}
 use Rattle.std.proofs.lemmas.Option.{slice_get-map, get_or_from_slice_get}
 use Rattle.std.specs.List.{slice_get}
 use Rattle.disk_core.specs.declared.log_disk.LogDisk as logs
@@ -10,7 +10,7 @@ use Rattle.slru_bank.proofs.ZeroBytes.{zero_byte}
 use Rattle.slru_bank.specs.Calls.{IsDurable, cutoff_of, last_page, pages_of, volume_of}
 use Rattle.slru_bank.specs.declared.bank.SlruBank.{SlruBank}
 use Rattle.store_pages.specs.declared.page_rule.PageRule as rules
-use Rattle.store_pages.specs.Layouts.{bits_at, number_in, state_in, word_page_of, word_place_of, xact_page_of, xact_place_of}
+use Rattle.store_pages.specs.Layouts.{bits_at, number_in, state_in, xact_page_of, xact_place_of}
 use Rattle.tx_events.proofs.Membership.{contains_has}
 use Rattle.tx_events.specs.After.{after_record}
 use Rattle.tx_events.specs.Base.{IsBase}
@@ -23,19 +23,23 @@ use Rattle.wal_core.specs.declared.checkpoint.LastCheckpoint.{LastCheckpoint}
 use Rattle.wal_core.specs.Kept.{KeepsRecords}
 use Rattle.tx_core.specs.declared.entry.Kind.TheVariants as kinds
 use Rattle.wal_core.specs.Opening.{no_counters}
-use Rattle.tx_events.specs.Ids.{id_before, low_half}
+use Rattle.tx_events.specs.Ids.{low_half}
 use Rattle.tx_core.specs.CleanStart.{CleanStart}
 use Rattle.tx_core.specs.declared.entry.Entry.{Entry}
 use Rattle.tx_core.specs.declared.entry.State.{State}
 use Rattle.tx_core.specs.declared.entry.State.TheVariants as states
-use Rattle.tx_core.specs.Locks.{log_lock, subtrans_lock, subtrans_page, xact_lock, xact_page}
+use Rattle.tx_core.specs.Locks.{log_lock, members_lock, offsets_lock, subtrans_lock, xact_lock, xact_page}
+use Rattle.multi_store.specs.Generator.{Generator}
+use Rattle.multi_store.specs.declared.generator.MultiGen.{MultiGen}
 use Rattle.engine_parts.specs.declared.part.Part.{Part}
 use Rattle.engine_parts.specs.declared.part.Part.TheVariants as parts
 use Rattle.engine_parts.specs.Course.{HasCourse, IsOpened}
 use Rattle.engine_parts.specs.Parts.{PartStands}
-use Rattle.engine_parts.specs.Stand.{GivesStart, LogStands, SubtransStands, XactStands}
+use Rattle.engine_parts.specs.Stand.{GivesStart, LogStands, XactStands}
 use Rattle.engine_host.specs.declared.cluster.Cluster.{Cluster}
-use Rattle.engine_host.specs.Opening.{AllOnDisk, AllShowNothing, AllShowStates, AreNew, Beginning, IsNewPart, IsOnDisk, ShowNothing, ShowStates, bytes_left, faults_behind, life_from, life_of, new_life}
+use Rattle.engine_host.specs.Opening.{AllOnDisk, AllShowNothing, AllShowStates, AreNew, Beginning, IsNewPart, IsOnDisk, MayBeginOver, ShowStates, bytes_left, faults_behind, life_from, life_of, new_life}
+use Rattle.engine_host.specs.Stores.{Store, of_members, of_offsets, of_subtrans, of_xact, volumes_in}
+use Rattle.engine_host.specs.declared.cluster.BankVolumes.{BankVolumes}
 
 -- ---- the log
 
@@ -103,7 +107,7 @@ zero_bits (suc k) = zero_bits k
 zero_state : (n : ℕ) → state_in zero_page n ≡ 0
 zero_state n = ap (λ b. bits_at b (n % 4)) (zero_byte (n / 4)) ∙ zero_bits (n % 4)
 
-zero_number : (n : ℕ) → number_in zero_page n ≡ 0
+pub zero_number : (n : ℕ) → number_in zero_page n ≡ 0
 zero_number n = rw (zero_byte n, zero_byte (n + 1), zero_byte (n + 2), zero_byte (n + 3)) refl
 
 -- a clean start goes by the base and what is committed alone
@@ -188,25 +192,11 @@ course_begins {P} {O} {g} {r} c b bank store left counts last cutoff shows same 
     same_bank : (n m : ℕ) → xact_lock n ≡ xact_lock m → n ≡ m
     same_bank n m e = omega (arith, e)
 
-pub subtrans_begins : (c : Cluster) (b : Beginning) (bank faults last cutoff : ℕ) (tells : Bool) (bytes : ℕ → List ℕ) (counts : List ℕ) → bank < c.banks
-    → get_or counts (subtrans_lock bank) 0 ≤ faults → last ≡ subtrans_page (low_half c.base.next) → cutoff ≡ subtrans_page (low_half (id_before c.base.next))
-    → (IsTrue tells → ShowNothing bytes)
-    → SubtransStands (life_from c b counts) bank tells faults last cutoff bytes []
-subtrans_begins c b bank faults last cutoff tells bytes counts inside count last_is cutoff_is zeros = record {
-  inside = inside;
-  count = count;
-  last_is = λ near. last_is ∙ low_page c.base.next;
-  cutoff_is = (subtrans_page (id_before c.base.next), cutoff_is ∙ low_page (id_before c.base.next), omega arith, inl refl);
-  shown = λ told near. record {
-    each = λ x used here kept. ap (λ page. number_in page (word_place_of x)) (zeros told (word_page_of x) (small x)) ∙ zero_number (word_place_of x);
-  };
-}
-  where
-    low_page : (n : ℕ) → subtrans_page (low_half n) ≡ subtrans_page n % 2 ^ 21
-    low_page n = omega arith
-
-    small : (n : ℕ) → word_page_of n < 2 ^ 32
-    small n = omega arith
+-- a bank that was opened, by what is told of it
+pub of_bank : {X E : Type 0} (r : Result X E) (T : Type 0) (Q A B C D : X → Type 0) → ((x : X) → A x → B x → (T → C x) → (T → D x) → Q x)
+    → IfOk r A → IfOk r B → (T → IfOk r C) → (T → IfOk r D) → IfOk r Q
+of_bank (Ok x) T Q A B C D f a b c d = f x a b c d
+of_bank (Err e) T Q A B C D f a b c d = tt
 
 -- ---- the pages that are left
 
@@ -244,25 +234,19 @@ rest_empty p removed n xs all m disk at = all (n + m) disk (drop_at n m xs disk 
 pub rest_on_disk : {P : Type 0} (p : disks.Ghosts P) (n : ℕ) (xs : List P) → AllOnDisk p xs → AllOnDisk p (drop n xs)
 rest_on_disk p n xs all m disk at = all (n + m) disk (drop_at n m xs disk at)
 
+-- the life may begin over the rest of the volumes, too
+pub rest_begin : {P : Type 0} (p : disks.Ghosts P) (c : Cluster) (b : Beginning) (removed : Bool) (n : ℕ) (all rest : BankVolumes P) → ((k : Store) → (volumes_in k rest).items ≡ drop n (volumes_in k all).items)
+    → MayBeginOver p c b removed 0 all → MayBeginOver p c b removed n rest
+rest_begin {P} p c b removed n all rest is may = record {
+  states = subst (λ (xs : List P). AllShowStates p c b removed n xs) (sym (is of_xact)) (rest_show p c b removed n all.xact.items may.states);
+  parents = subst (λ (xs : List P). AllShowNothing p removed xs) (sym (is of_subtrans)) (rest_empty p removed n all.subtrans.items may.parents);
+  offsets = subst (λ (xs : List P). AllShowNothing p removed xs) (sym (is of_offsets)) (rest_empty p removed n all.offsets.items may.offsets);
+  members = subst (λ (xs : List P). AllShowNothing p removed xs) (sym (is of_members)) (rest_empty p removed n all.members.items may.members);
+  none = may.none;
+  durable = λ kept k. subst (λ (xs : List P). AllOnDisk p xs) (sym (is k)) (rest_on_disk p n (volumes_in k all).items (may.durable kept k));
+}
+
 -- ---- the parts
-
-vacant_new : (L P : Type 0) (l : logs.Ghosts L) (p : disks.Ghosts P) (c : Cluster) (b : Beginning) (bank k : ℕ) → k < 2 → IsNewPart {L = L} {P = P} {l = l} {p = p} c b (5 + 4 * bank + k) parts.Vacant
-vacant_new L P l p c b bank k few counts reached = record {
-  log = λ e. absurd (omega (arith, e));
-  proc = λ e. absurd (omega (arith, e));
-  xact = λ n e. absurd (omega (arith, e, few));
-  subtrans = λ n e. absurd (omega (arith, e, few));
-  unused = tt;
-}
-
-second_new : (L P : Type 0) (l : logs.Ghosts L) (p : disks.Ghosts P) (c : Cluster) (b : Beginning) → IsNewPart {L = L} {P = P} {l = l} {p = p} c b 2 parts.Vacant
-second_new L P l p c b counts reached = record {
-  log = λ e. absurd (omega (arith, e));
-  proc = λ e. absurd (omega (arith, e));
-  xact = λ n e. absurd (omega (arith, e));
-  subtrans = λ n e. absurd (omega (arith, e));
-  unused = tt;
-}
 
 -- the table of a new life
 table_new : (L P : Type 0) (l : logs.Ghosts L) (p : disks.Ghosts P) (c : Cluster) (b : Beginning) (table : Box Table Global)
@@ -275,6 +259,17 @@ table_new L P l p c b table is counts reached = (
     sessions = ap (λ (t : Table). t.sessions) is;
     events = ap (λ (t : Table). t.events) is;
     frontier = ap (λ (t : Table). t.initialised_up_to) is;
+  },
+)
+
+-- and its generator of multixacts
+multis_new : (L P : Type 0) (l : logs.Ghosts L) (p : disks.Ghosts P) (c : Cluster) (b : Beginning) (gen : Box MultiGen Global)
+    → ◌≡◌ {A = Generator} gen.value (record { base = c.base; events = [] }) → IsNewPart {L = L} {P = P} {l = l} {p = p} c b 2 (parts.Multi gen)
+multis_new L P l p c b gen is counts reached = (
+  refl,
+  record {
+    base = ap (λ (g : Generator). g.base) is;
+    events = ap (λ (g : Generator). g.events) is;
   },
 )
 
@@ -292,32 +287,33 @@ module _ {L P : Type 0} {l : logs.Ghosts L} {p : disks.Ghosts P} where
       subst (λ k. IsNewPart c b k part) (sym (next n))
       (push_new c b (first + 1) lock xs y (λ m q e. subst (λ k. IsNewPart c b k q) (next m) (are (suc m) q e)) (omega (arith, is)) new n part at)
 
-  -- the parts that have no bank: the table, and behind it one that isn't built
-  pub first_two : (c : Cluster) (b : Beginning) (xs ys zs : List (Part L P l p)) (table : Box Table Global) → xs ≡ [] → ys ≡ xs ++ parts.Proc table ∷ [] → zs ≡ ys ++ parts.Vacant ∷ []
-      → table.value ≡ record { base = c.base; sessions = c.sessions; initialised_up_to = page_of c.base.next; events = [] } → AreNew c b 1 zs
-  first_two c b xs ys zs table none one two is =
-      let part : Part L P l p = parts.Proc table in
-      let alone : List (Part L P l p) = part ∷ [] in
-      let all : zs ≡ alone ++ parts.Vacant ∷ [] = two ∙ ap (λ (ps : List (Part L P l p)). ps ++ parts.Vacant ∷ []) (one ∙ ap (λ (ps : List (Part L P l p)). ps ++ part ∷ []) none) in
+  -- the parts that have no bank: the table, and the generator
+  pub first_two : (c : Cluster) (b : Beginning) (xs ys zs : List (Part L P l p)) (table : Box Table Global) (gen : Box MultiGen Global) → xs ≡ [] → ys ≡ xs ++ parts.Proc table ∷ [] → zs ≡ ys ++ parts.Multi gen ∷ []
+      → table.value ≡ record { base = c.base; sessions = c.sessions; initialised_up_to = page_of c.base.next; events = [] } → ◌≡◌ {A = Generator} gen.value (record { base = c.base; events = [] }) → AreNew c b 1 zs
+  first_two c b xs ys zs table gen none one two is fresh =
+      let first : Part L P l p = parts.Proc table in
+      let second : Part L P l p = parts.Multi gen in
+      let alone : List (Part L P l p) = first ∷ [] in
+      let all : zs ≡ alone ++ second ∷ [] = two ∙ ap (λ (ps : List (Part L P l p)). ps ++ second ∷ []) (one ∙ ap (λ (ps : List (Part L P l p)). ps ++ first ∷ []) none) in
       subst (λ (ps : List (Part L P l p)). AreNew c b 1 ps) (sym all)
-      (push_new c b 1 2 alone parts.Vacant (push_new c b 1 1 [] part (λ n q at. absurd cc) (omega arith) (table_new L P l p c b table is)) (omega arith) (second_new L P l p c b))
+      (push_new c b 1 2 alone second (push_new c b 1 1 [] first (λ n q at. absurd cc) (omega arith) (table_new L P l p c b table is)) (omega arith) (multis_new L P l p c b gen fresh))
 
   -- with those of a bank more
-  pub bank_new : (c : Cluster) (b : Beginning) (bank : ℕ) (xs : List (Part L P l p)) (x y : Part L P l p) → AreNew c b 1 xs → length xs ≡ 2 + 4 * bank → IsNewPart c b (xact_lock bank) x → IsNewPart c b (subtrans_lock bank) y
-      → AreNew c b 1 ((((xs ++ x ∷ []) ++ y ∷ []) ++ parts.Vacant ∷ []) ++ parts.Vacant ∷ [])
-  bank_new c b bank xs x y are count states parents =
-      let v : Part L P l p = parts.Vacant in
+  pub bank_new : (c : Cluster) (b : Beginning) (bank : ℕ) (xs : List (Part L P l p)) (x y z w : Part L P l p) → AreNew c b 1 xs → length xs ≡ 2 + 4 * bank
+      → IsNewPart c b (xact_lock bank) x → IsNewPart c b (subtrans_lock bank) y → IsNewPart c b (offsets_lock bank) z → IsNewPart c b (members_lock bank) w
+      → AreNew c b 1 ((((xs ++ x ∷ []) ++ y ∷ []) ++ z ∷ []) ++ w ∷ [])
+  bank_new c b bank xs x y z w are count states parents offsets members =
       let ys : List (Part L P l p) = xs ++ x ∷ [] in
       let zs : List (Part L P l p) = ys ++ y ∷ [] in
-      let vs : List (Part L P l p) = zs ++ v ∷ [] in
+      let vs : List (Part L P l p) = zs ++ z ∷ [] in
       let one : length ys ≡ length xs + 1 = length-append xs (x ∷ []) in
       let two : length zs ≡ length ys + 1 = length-append ys (y ∷ []) in
-      let three : length vs ≡ length zs + 1 = length-append zs (v ∷ []) in
-      push_new c b 1 (5 + 4 * bank + 1) vs v
-      (push_new c b 1 (5 + 4 * bank + 0) zs v
+      let three : length vs ≡ length zs + 1 = length-append zs (z ∷ []) in
+      push_new c b 1 (members_lock bank) vs w
+      (push_new c b 1 (offsets_lock bank) zs z
       (push_new c b 1 (subtrans_lock bank) ys y (push_new c b 1 (xact_lock bank) xs x are (omega (arith, count)) states) (omega (arith, count, one)) parents)
-      (omega (arith, count, one, two)) (vacant_new L P l p c b bank 0 (omega arith)))
-      (omega (arith, count, one, two, three)) (vacant_new L P l p c b bank 1 (omega arith))
+      (omega (arith, count, one, two)) offsets)
+      (omega (arith, count, one, two, three)) members
 
   -- what was put in first stands first
   pub inserted_first : {R F : Type 0} (xs ys : List (Part L P l p)) (x : Part L P l p) (result : Result R F) → ys ≡ (if is_ok result then insert xs 0 x else xs) → IsOk result → ys ≡ x ∷ xs

@@ -1,3 +1,4 @@
+pub mod Stores
 pub mod Opening
 pub mod Hosts
 pub mod Refused

@@ -1,5 +1,5 @@
 -- What a new engine starts from, and what its parts stand for.
-use Rattle.std.specs.Prelude.{◌≡◌, ℕ, ◌+◌, ◌*◌, ◌%◌, ◌≤◌, ◌<◌, ◌^◌, Bool, true, cond, IsTrue, List, [], ◌∷◌, Option, None, Some, slice_get, get_or, length, map}
+use Rattle.std.specs.Prelude.{◌≡◌, ℕ, ◌+◌, ◌*◌, ◌%◌, ◌≤◌, ◌<◌, ◌^◌, Bool, true, false, cond, IsTrue, List, [], ◌∷◌, Option, None, Some, slice_get, get_or, length, map}
 use Rattle.disk_core.specs.declared.log_disk.LogDisk as logs
 use Rattle.disk_core.specs.declared.page_disk.PageDisk as disks
 use Rattle.disk_core.specs.Pages.{Pages, page_bytes, zero_page}
@@ -12,15 +12,18 @@ use Rattle.slru_bank.specs.Calls.{faults_of}
 use Rattle.slru_bank.specs.declared.bank.SlruBank.{SlruBank}
 use Rattle.store_pages.specs.Layouts.{state_in, xact_page_of, xact_place_of}
 use Rattle.store_pages.specs.declared.page_rule.PageRule as rules
+use Rattle.tx_core.specs.CleanMultis.{CleanMembers, CleanOffsets}
 use Rattle.tx_core.specs.CleanStart.{CleanStart}
 use Rattle.tx_core.specs.declared.entry.Start.{Start}
 use Rattle.tx_core.specs.declared.entry.State.{State}
-use Rattle.tx_core.specs.Locks.{log_lock, subtrans_lock, xact_lock}
+use Rattle.tx_core.specs.Locks.{log_lock, members_lock, offsets_lock, subtrans_lock, xact_lock}
 use Rattle.engine_parts.specs.declared.part.Part.{Part}
 use Rattle.engine_parts.specs.declared.part.Part.TheVariants as parts
-use Rattle.engine_parts.specs.Parts.{IsLogOf, IsSubtransOf, IsXactOf, PartStands}
+use Rattle.engine_parts.specs.Parts.{IsLogOf, IsMembersOf, IsOffsetsOf, IsSubtransOf, IsXactOf, PartStands}
 use Rattle.engine_parts.specs.Sessions.{AreGivenBefore}
 use Rattle.engine_parts.specs.Stand.{number_of_state}
+use Rattle.engine_host.specs.Stores.{Store, volumes_in}
+use Rattle.engine_host.specs.declared.cluster.BankVolumes.{BankVolumes}
 use Rattle.engine_host.specs.declared.cluster.Cluster.{Cluster}
 use Rattle.engine_host.specs.declared.cluster.Parts.{Parts}
 
@@ -90,6 +93,11 @@ pub record ShowStates (c : Cluster) (b : Beginning) (bank : ℕ) (bytes : ℕ �
   pub each : (x : ℕ) → xact_page_of x % c.banks ≡ bank
       → state_in (bytes (xact_page_of x)) (xact_place_of x) ≡ number_of_state (shown x)
 
+-- No recorded multixact is in use: of their stores, pages that show nothing are those of a clean start.
+pub record HasNoMultis (c : Cluster) (b : Beginning) : Type 0 where
+  pub offsets : CleanOffsets (life_from c b []) (λ x. None)
+  pub members : CleanMembers (life_from c b []) (λ x. None)
+
 -- no page has anything
 abbrev pub ShowNothing : (ℕ → List ℕ) → Type 0
 ShowNothing bytes = (q : ℕ) → q < 2 ^ 32 → bytes q ≡ zero_page
@@ -116,6 +124,16 @@ module _ {P : Type 0} (p : disks.Ghosts P) where
   abbrev pub AllOnDisk : List P → Type 0
   AllOnDisk volumes = (n : ℕ) (disk : P) → slice_get volumes n ≡ Some disk → IsOnDisk disk
 
+  -- A life may begin over these volumes, the first of which are of this bank: their pages show what it begins with, where
+  -- they may be removed first, and as they are they are on disk.
+  pub record MayBeginOver (c : Cluster) (b : Beginning) (removed : Bool) (first : ℕ) (volumes : BankVolumes P) : Type 0 where
+    pub states : AllShowStates c b removed first volumes.xact.items
+    pub parents : AllShowNothing removed volumes.subtrans.items
+    pub offsets : AllShowNothing removed volumes.offsets.items
+    pub members : AllShowNothing removed volumes.members.items
+    pub none : HasNoMultis c b
+    pub durable : removed ≡ false → (k : Store) → AllOnDisk (volumes_in k volumes).items
+
 module _ {P O : Type 0} {g : disks.Ghosts P} {r : rules.Ghosts O} where
   -- banks that stand for lists without entries
   abbrev pub IsNewXact : Cluster → Beginning → ℕ → SlruBank P O g r → Type 0
@@ -128,12 +146,24 @@ module _ {P O : Type 0} {g : disks.Ghosts P} {r : rules.Ghosts O} where
       (faults : List ℕ) → get_or faults (subtrans_lock bank) 0 ≤ faults_of store
       → IsSubtransOf (life_from c b faults) bank store []
 
+  abbrev pub IsNewOffsets : Cluster → Beginning → ℕ → SlruBank P O g r → Type 0
+  IsNewOffsets c b bank store =
+      (faults : List ℕ) → get_or faults (offsets_lock bank) 0 ≤ faults_of store
+      → IsOffsetsOf (life_from c b faults) bank store []
+
+  abbrev pub IsNewMembers : Cluster → Beginning → ℕ → SlruBank P O g r → Type 0
+  IsNewMembers c b bank store =
+      (faults : List ℕ) → get_or faults (members_lock bank) 0 ≤ faults_of store
+      → IsMembersOf (life_from c b faults) bank store []
+
 module _ {L P : Type 0} {l : logs.Ghosts L} {p : disks.Ghosts P} where
   -- how often the volume of a part has failed
   abbrev pub faults_behind : Part L P l p → ℕ
   faults_behind (parts.Log log) = l.faults (log_disk log.value)
   faults_behind (parts.Xact store) = faults_of store.value
   faults_behind (parts.Subtrans store) = faults_of store.value
+  faults_behind (parts.Offsets store) = faults_of store.value
+  faults_behind (parts.Members store) = faults_of store.value
   faults_behind part = 0
 
   -- the part stands for a list without entries, whatever counts the life begins with that its volume has reached

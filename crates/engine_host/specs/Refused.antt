@@ -1,12 +1,15 @@
 -- Why no engine was opened, by its volumes before and after.
-use Rattle.std.specs.Prelude.{◌≡◌, ℕ, IsSome, IsTrue, List, length, None, Ok, Err, Option, Some, slice_get}
-use Rattle.std.specs.List.{filter_map}
+use Rattle.std.specs.Prelude.{◌≡◌, ◌⊎◌, ◌∷◌, ◌≤◌, ℕ, Bool, false, IsSome, IsTrue, List, length, None, Ok, Err, Some, remove, slice_get}
 use Rattle.disk_core.specs.declared.log_disk.LogDisk as logs
+use Rattle.disk_core.specs.declared.media.Volumes.{Volumes}
 use Rattle.disk_core.specs.declared.page_disk.PageDisk as disks
 use Rattle.disk_core.specs.Faults.{HasRisen}
 use Rattle.tx_events.specs.declared.record.Rec.TheVariants as records
+use Rattle.tx_events.specs.declared.refusal.Lock.{Lock}
 use Rattle.tx_events.specs.declared.refusal.Lock.TheVariants as locks
-use Rattle.slru_bank.specs.Calls.{volume_of}
+use Rattle.store_pages.specs.declared.page_rule.PageRule as rules
+use Rattle.slru_bank.specs.Calls.{faults_of, volume_of}
+use Rattle.slru_bank.specs.declared.bank.SlruBank.{SlruBank}
 use Rattle.wal_core.specs.declared.refusal.LogRefusal.{LogRefusal}
 use Rattle.wal_core.specs.declared.refusal.LogRefusal.TheVariants as log_refusals
 use Rattle.wal_core.specs.declared.wal_log.WalLog.{WalLog}
@@ -16,11 +19,10 @@ use Rattle.wal_core.specs.Opening.{opened}
 use Rattle.wal_records.specs.Spelling.{rec_bytes}
 use Rattle.tx_core.specs.declared.entry.Entry.{Entry}
 use Rattle.tx_core.specs.declared.entry.Start.{Start}
-use Rattle.recoverable.specs.declared.cluster.ClusterVolumes.{ClusterVolumes}
 use Rattle.recoverable.specs.Clusters.{HasFailedAt}
 use Rattle.engine_parts.specs.Parts.{PartStands}
 use Rattle.engine_parts.specs.declared.part.Part.{Part}
-use Rattle.engine_parts.specs.declared.part.Part.TheVariants as parts
+use Rattle.engine_host.specs.Stores.{Store, disks_in, lock_named}
 use Rattle.engine_host.specs.declared.cluster.Cluster.{Cluster}
 use Rattle.engine_host.specs.declared.refusal.OpenRefusal.{OpenRefusal}
 use Rattle.engine_host.specs.declared.refusal.OpenRefusal.TheVariants as refusals
@@ -59,46 +61,40 @@ module _ {D : Type 0} {g : logs.Ghosts D} where
   IsBeginRefusal c old new refusal = ⊥
 
 module _ {P : Type 0} (p : disks.Ghosts P) where
-  -- Why this bank wasn't opened over the first of these volumes of pg_xact and of pg_subtrans, of which the first ones
-  -- came back so.
-  abbrev pub IsBankRefusal : ℕ → List P → List P → List P → List P → OpenRefusal → Type 0
-  IsBankRefusal bank xact xact' subtrans subtrans' (refusals.DiskFault (locks.Xact b)) =
-      (b ≡ bank) × HasFailedAt p.faults 0 xact xact'
-  IsBankRefusal bank xact xact' subtrans subtrans' (refusals.DiskFault (locks.Subtrans b)) =
-      (b ≡ bank) × HasFailedAt p.faults 0 subtrans subtrans'
-  IsBankRefusal bank xact xact' subtrans subtrans' refusals.Memory = Unit {0}
-  IsBankRefusal bank xact xact' subtrans subtrans' refusal = ⊥
+  -- Why no bank with this lock was opened over the first of these volumes, which came back so.
+  abbrev pub IsFailed : Lock → List P → List P → OpenRefusal → Type 0
+  IsFailed lock old new refusal = (refusal ≡ refusals.Memory) ⊎ ((refusal ≡ refusals.DiskFault lock) × HasFailedAt p.faults 0 old new)
+
+  -- why the banks of this number weren't: one of one of the stores
+  abbrev pub IsBankRefusal : ℕ → (Store → List P) → (Store → List P) → OpenRefusal → Type 0
+  IsBankRefusal bank old new refusal = (k : Store) × IsFailed (lock_named k bank) (old k) (new k) refusal
+
+module _ {P O : Type 0} {p : disks.Ghosts P} {r : rules.Ghosts O} where
+  -- A bank was opened over the first of these volumes. Where no pages were removed the volume is as it was.
+  pub record OpensFirst (removed : Bool) (old new : List P) (store : SlruBank P O p r) : Type 0 where
+    pub rest : new ≡ remove old 0
+    pub count : (v : P) → slice_get old 0 ≡ Some v → p.faults v ≤ faults_of store
+    pub same : removed ≡ false → old ≡ volume_of store ∷ new
+
+-- none was, and as many are there again
+pub record IsBack {P : Type 0} (removed : Bool) (old new : List P) : Type 0 where
+  pub count : length new ≡ length old
+  pub same : removed ≡ false → new ≡ old
 
 module _ {L P : Type 0} {l : logs.Ghosts L} {p : disks.Ghosts P} where
-  -- the volumes of the banks of pg_xact among these parts, in their order, and those of pg_subtrans
-  abbrev pub xact_disk : Part L P l p → Option P
-  xact_disk (parts.Xact store) = Some (volume_of store.value)
-  xact_disk part = None
-
-  abbrev pub subtrans_disk : Part L P l p → Option P
-  subtrans_disk (parts.Subtrans store) = Some (volume_of store.value)
-  subtrans_disk part = None
-
-  abbrev pub xact_disks : List (Part L P l p) → List P
-  xact_disks locks = filter_map xact_disk locks
-
-  abbrev pub subtrans_disks : List (Part L P l p) → List P
-  subtrans_disks locks = filter_map subtrans_disk locks
-
   -- each part lies behind its lock, where it stands for some list
   abbrev pub AreInPlace : List (Part L P l p) → Type 0
   AreInPlace locks = (lock : ℕ) (part : Part L P l p) → slice_get locks lock ≡ Some part
       → (start : Start) × (es : List Entry) × PartStands start lock part es
 
-  -- there are so many banks of each kind
-  pub record HaveDisks (banks : ℕ) (locks : List (Part L P l p)) : Type 0 where
-    pub xact : length (xact_disks locks) ≡ banks
-    pub subtrans : length (subtrans_disks locks) ≡ banks
+  -- there are so many banks of each store
+  abbrev pub HaveDisks : ℕ → List (Part L P l p) → Type 0
+  HaveDisks banks locks = (k : Store) → length (disks_in k locks) ≡ banks
 
 module _ {L P : Type 0} (l : logs.Ghosts L) (p : disks.Ghosts P) where
   -- Why no new engine was opened over these volumes, which came back so: the log isn't new, or has no room, a volume
   -- failed, or memory was wanting.
-  abbrev pub IsRefusal : Cluster → ClusterVolumes L P → ClusterVolumes L P → OpenRefusal → Type 0
+  abbrev pub IsRefusal : Cluster → Volumes L P → Volumes L P → OpenRefusal → Type 0
   IsRefusal c old new (refusals.Damaged at) = IsTrue l.tells → opened (l.reads old.log) ≡ Err at
   IsRefusal c old new refusals.NotNew = IsTrue l.tells → IsSome (history_on (l.reads old.log))
   IsRefusal c old new refusals.LogFault = HasRisen (l.faults old.log) (l.faults new.log)
@@ -106,6 +102,10 @@ module _ {L P : Type 0} (l : logs.Ghosts L) (p : disks.Ghosts P) where
       HasFailedAt p.faults bank old.xact.items new.xact.items
   IsRefusal c old new (refusals.DiskFault (locks.Subtrans bank)) =
       HasFailedAt p.faults bank old.subtrans.items new.subtrans.items
+  IsRefusal c old new (refusals.DiskFault (locks.Offsets bank)) =
+      HasFailedAt p.faults bank old.offsets.items new.offsets.items
+  IsRefusal c old new (refusals.DiskFault (locks.Members bank)) =
+      HasFailedAt p.faults bank old.members.items new.members.items
   IsRefusal c old new (refusals.DiskFault lock) = ⊥
   IsRefusal c old new refusals.Full = (gate : ℕ) × OpensEmpty l old.log gate × HasNoRoom c gate
   IsRefusal c old new refusals.Memory = Unit {0}

@@ -1,44 +1,35 @@
 //! The banks of a life that begins (`BootStrapCLOG` and `StartupCLOG` of `clog.c`, `BootStrapSUBTRANS` and
-//! `StartupSUBTRANS` of `subtrans.c`).
-ghost use Rattle.std.specs.Prelude.{◌≡◌, ◌⊎◌, ◌^◌, ◌<◌, ◌≤◌, ℕ, IfErr, IfOk, IsOk, IsTrue, OnErr, OnOk, cond, false};
+//! `StartupSUBTRANS` of `subtrans.c`, `BootStrapMultiXact` and `StartupMultiXact` of `multixact.c`).
+ghost use Rattle.std.specs.Prelude.{◌≡◌, ◌⊎◌, ◌%◌, ◌^◌, ◌<◌, ◌≤◌, ℕ, IfErr, IfOk, IsOk, IsTrue, OnErr, OnOk, cond, false};
 ghost use Rattle.disk_core.specs.Faults.{HasRisen};
 ghost use Rattle.disk_core.specs.Pages.{zero_page};
 ghost use Rattle.slru_bank.specs.Calls.{IsDurable, cutoff_of, faults_of, last_page, pages_of, volume_of};
+ghost use Rattle.store_pages.specs.Layouts.{multi_before};
+ghost use Rattle.store_pages.specs.Pages.{offset_page};
 ghost use Rattle.tx_events.specs.Base.{IsBase};
 ghost use Rattle.tx_events.specs.declared.refusal.Lock.TheVariants as locks;
 ghost use Rattle.engine_host.specs.declared.refusal.OpenRefusal.TheVariants as refusals;
-ghost use Rattle.engine_host.specs.Opening.{Beginning, IsNewSubtrans, IsNewXact, IsOnDisk, ShowNothing, ShowStates, bytes_left};
+ghost use Rattle.engine_host.specs.Opening.{Beginning, HasNoMultis, IsNewMembers, IsNewOffsets, IsNewSubtrans, IsNewXact, IsOnDisk, ShowNothing, ShowStates, bytes_left};
 
 use crate::cluster::Cluster;
 use crate::refusal::OpenRefusal;
 use disk_core::PageDisk;
 use slru_bank::{BankRefusal, SlruBank};
 use std::alloc::Global;
-use store_pages::{PageRule, SubtransPages, XactPages, subtrans_page, xact_page};
-use tx_events::Lock;
+use store_pages::{
+    MemberPages, OFFSETS_PER_PAGE, OffsetPages, PageRule, SubtransPages, XactPages,
+    member_page_in_full, offset_page_in_full, subtrans_page, xact_page,
+};
+use tx_events::{FullMulti, Lock};
 
-// In a new cluster all pages are removed.
+// How many pages of offsets are stored, and of members.
+const OFFSET_PAGES: u64 = 2_097_152;
+
+const MEMBER_PAGES: u64 = 2_625_286;
+
+// In a new cluster all pages are removed, and that is synced, so that no crash brings them back.
 fn empty<P: PageDisk, O: PageRule>(
     store: &mut SlruBank<P, O>,
-    removes: bool,
-) -> Result<(), BankRefusal>
-    ensures left { IsTrue P.tells → OnOk result ((q : ℕ) → q < 2 ^ 32 → pages_of store.new q ≡ cond removes zero_page (pages_of store.old q)) }
-    ensures last { last_page store.new ≡ last_page store.old }
-    ensures cutoff { cutoff_of store.new ≡ cutoff_of store.old }
-    ensures count { faults_of store.old ≤ faults_of store.new }
-    ensures fault { OnErr result (HasRisen (faults_of store.old) (faults_of store.new)) }
-    ensures same { removes ≡ false → (store.new ≡ store.old) × IsOk result }
-{
-    if !removes {
-        return Ok(());
-    }
-    store.clear_all()?;
-    Ok(())
-}
-
-// So of pg_xact, and what was removed is synced, so that no crash brings it back.
-fn empty_states<P: PageDisk>(
-    store: &mut SlruBank<P, XactPages>,
     removes: bool,
 ) -> Result<(), BankRefusal>
     ensures left { IsTrue P.tells → OnOk result ((q : ℕ) → q < 2 ^ 32 → pages_of store.new q ≡ cond removes zero_page (pages_of store.old q)) }
@@ -57,8 +48,39 @@ fn empty_states<P: PageDisk>(
     Ok(())
 }
 
-// A bank of pg_xact. In a new cluster the pages that its volume has are removed first. The page of the next id counts as
-// made.
+// A bank over a volume, with this last page and this cutoff. In a new cluster the pages that the volume has are removed
+// first.
+fn open_bank<P: PageDisk + Drop, O: PageRule>(
+    alloc: Global,
+    disk: P,
+    last: u32,
+    cutoff: u32,
+    lock: Lock,
+    removes: bool,
+) -> Result<Box<SlruBank<P, O>>, (P, OpenRefusal)>
+    ensures pages { IsTrue P.tells → IfOk result (λ store. (q : ℕ) → q < 2 ^ 32 → pages_of store.value q ≡ bytes_left P.PageDisk removes disk q) }
+    ensures durable { IsTrue P.tells → (removes ≡ false → IsOnDisk P.PageDisk disk) → IfOk result (λ store. IsDurable store.value) }
+    ensures last { IfOk result (λ store. last_page store.value ≡ last) }
+    ensures cutoff { IfOk result (λ store. cutoff_of store.value ≡ cutoff) }
+    ensures count { IfOk result (λ store. P.faults disk ≤ faults_of store.value) }
+    ensures same { removes ≡ false → IfOk result (λ store. volume_of store.value ≡ disk) }
+    ensures same_err { removes ≡ false → IfErr result (λ e. e.0 ≡ disk) }
+    ensures refused { IfErr result (λ e. (e.1 ≡ refusals.Memory) ⊎ ((e.1 ≡ refusals.DiskFault lock) × HasRisen (P.faults disk) (P.faults e.0))) }
+{
+    let mut store = match SlruBank::<P, O>::new(alloc, disk, last, cutoff) {
+        Ok(store) => store,
+        Err((disk, _)) => return Err((disk, OpenRefusal::Memory)),
+    };
+    match empty(&mut store, removes) {
+        Ok(()) => match Box::new(alloc, store) {
+            Ok(store) => Ok(store),
+            Err(lacking) => Err((lacking.value.into_disk(), OpenRefusal::Memory)),
+        },
+        Err(_) => Err((store.into_disk(), OpenRefusal::DiskFault { lock })),
+    }
+}
+
+// A bank of pg_xact. The page of the next id counts as made.
 pub(crate) fn open_xact<P: PageDisk + Drop>(
     alloc: Global,
     disk: P,
@@ -80,22 +102,7 @@ pub(crate) fn open_xact<P: PageDisk + Drop>(
 {
     let last = xact_page(cluster.base.next.low());
     let cutoff = xact_page(cluster.base.oldest.low());
-    let mut store = match SlruBank::<P, XactPages>::new(alloc, disk, last, cutoff) {
-        Ok(store) => store,
-        Err((disk, _)) => return Err((disk, OpenRefusal::Memory)),
-    };
-    match empty_states(&mut store, removes) {
-        Ok(()) => match Box::new(alloc, store) {
-            Ok(store) => Ok(store),
-            Err(lacking) => Err((lacking.value.into_disk(), OpenRefusal::Memory)),
-        },
-        Err(_) => Err((
-            store.into_disk(),
-            OpenRefusal::DiskFault {
-                lock: Lock::Xact(bank),
-            },
-        )),
-    }
+    open_bank(alloc, disk, last, cutoff, Lock::Xact(bank), removes)
 }
 
 // So a bank of pg_subtrans.
@@ -110,6 +117,7 @@ pub(crate) fn open_subtrans<P: PageDisk + Drop>(
     requires base { IsBase cluster.now.base }
     requires inside { bank < cluster.now.banks }
     requires shows { IsTrue P.tells → ShowNothing (bytes_left P.PageDisk removes disk) }
+    requires durable { IsTrue P.tells → removes ≡ false → IsOnDisk P.PageDisk disk }
     ensures new { IfOk result (λ store. IsNewSubtrans cluster.now begins bank store.value) }
     ensures count { IfOk result (λ store. P.faults disk ≤ faults_of store.value) }
     ensures same { removes ≡ false → IfOk result (λ store. volume_of store.value ≡ disk) }
@@ -119,20 +127,68 @@ pub(crate) fn open_subtrans<P: PageDisk + Drop>(
 {
     let last = subtrans_page(cluster.base.next.low());
     let cutoff = subtrans_page(cluster.base.next.retreat().low());
-    let mut store = match SlruBank::<P, SubtransPages>::new(alloc, disk, last, cutoff) {
-        Ok(store) => store,
-        Err((disk, _)) => return Err((disk, OpenRefusal::Memory)),
+    open_bank(alloc, disk, last, cutoff, Lock::Subtrans(bank), removes)
+}
+
+// The page as it is stored from which on offsets are kept: that of the multixact before the oldest one.
+fn first_offset_page(oldest: FullMulti) -> u32
+    ensures { result ≡ offset_page (multi_before oldest) % 2 ^ 21 }
+{
+    let before = oldest.number().saturating_sub(1);
+    let last = if before % 4_294_967_296 == 0 {
+        before.saturating_sub(1)
+    } else {
+        before
     };
-    match empty(&mut store, removes) {
-        Ok(()) => match Box::new(alloc, store) {
-            Ok(store) => Ok(store),
-            Err(lacking) => Err((lacking.value.into_disk(), OpenRefusal::Memory)),
-        },
-        Err(_) => Err((
-            store.into_disk(),
-            OpenRefusal::DiskFault {
-                lock: Lock::Subtrans(bank),
-            },
-        )),
-    }
+    (last / u64::from(OFFSETS_PER_PAGE) % OFFSET_PAGES) as u32
+}
+
+// A bank of the offsets of multixacts, in which none shows.
+pub(crate) fn open_offsets<P: PageDisk + Drop>(
+    alloc: Global,
+    disk: P,
+    cluster: &Cluster,
+    bank: u32,
+    removes: bool,
+) -> Result<Box<SlruBank<P, OffsetPages>>, (P, OpenRefusal)>
+    ghost begins: { Beginning }
+    requires inside { bank < cluster.now.banks }
+    requires shows { IsTrue P.tells → ShowNothing (bytes_left P.PageDisk removes disk) }
+    requires none { IsTrue P.tells → HasNoMultis cluster.now begins }
+    requires durable { IsTrue P.tells → removes ≡ false → IsOnDisk P.PageDisk disk }
+    ensures new { IfOk result (λ store. IsNewOffsets cluster.now begins bank store.value) }
+    ensures count { IfOk result (λ store. P.faults disk ≤ faults_of store.value) }
+    ensures same { removes ≡ false → IfOk result (λ store. volume_of store.value ≡ disk) }
+    ensures same_err { removes ≡ false → IfErr result (λ e. e.0 ≡ disk) }
+    ensures refused { IfErr result (λ e. (e.1 ≡ refusals.Memory)
+        ⊎ ((e.1 ≡ refusals.DiskFault (locks.Offsets bank)) × HasRisen (P.faults disk) (P.faults e.0))) }
+{
+    let last = (offset_page_in_full(cluster.base.multi) % OFFSET_PAGES) as u32;
+    let cutoff = first_offset_page(cluster.base.oldest_multi);
+    open_bank(alloc, disk, last, cutoff, Lock::Offsets(bank), removes)
+}
+
+// And one of their members.
+pub(crate) fn open_members<P: PageDisk + Drop>(
+    alloc: Global,
+    disk: P,
+    cluster: &Cluster,
+    bank: u32,
+    removes: bool,
+) -> Result<Box<SlruBank<P, MemberPages>>, (P, OpenRefusal)>
+    ghost begins: { Beginning }
+    requires inside { bank < cluster.now.banks }
+    requires shows { IsTrue P.tells → ShowNothing (bytes_left P.PageDisk removes disk) }
+    requires none { IsTrue P.tells → HasNoMultis cluster.now begins }
+    requires durable { IsTrue P.tells → removes ≡ false → IsOnDisk P.PageDisk disk }
+    ensures new { IfOk result (λ store. IsNewMembers cluster.now begins bank store.value) }
+    ensures count { IfOk result (λ store. P.faults disk ≤ faults_of store.value) }
+    ensures same { removes ≡ false → IfOk result (λ store. volume_of store.value ≡ disk) }
+    ensures same_err { removes ≡ false → IfErr result (λ e. e.0 ≡ disk) }
+    ensures refused { IfErr result (λ e. (e.1 ≡ refusals.Memory)
+        ⊎ ((e.1 ≡ refusals.DiskFault (locks.Members bank)) × HasRisen (P.faults disk) (P.faults e.0))) }
+{
+    let last = (member_page_in_full(cluster.base.offset) % MEMBER_PAGES) as u32;
+    let cutoff = (member_page_in_full(cluster.base.oldest_offset) % MEMBER_PAGES) as u32;
+    open_bank(alloc, disk, last, cutoff, Lock::Members(bank), removes)
 }

@@ -3,19 +3,20 @@ ghost use Rattle.std.specs.Prelude.{◌≡◌, ◌+◌, ◌*◌, ◌≤◌, ◌<
 ghost use Rattle.wal_core.specs.LogViews.{log_disk};
 ghost use Rattle.engine_parts.specs.Sessions.{AreGivenBefore};
 ghost use Rattle.engine_host.specs.Counted.{CountsBank, HaveCounted};
-ghost use Rattle.engine_host.specs.Opening.{AllOnDisk, AllShowNothing, AllShowStates, AreNew, AreParts, Beginning, IsBegunLog, IsCluster, faults_behind, life_from, new_life};
+ghost use Rattle.engine_host.specs.Opening.{AreNew, AreParts, Beginning, IsBegunLog, IsCluster, MayBeginOver, faults_behind, life_from, new_life};
 ghost use Rattle.engine_host.specs.declared.refusal.OpenRefusal.TheVariants as refusals;
-ghost use Rattle.engine_host.specs.Refused.{HaveDisks, IsBankRefusal, subtrans_disks, xact_disks};
+ghost use Rattle.engine_host.specs.Refused.{HaveDisks, IsBankRefusal};
+ghost use Rattle.engine_host.specs.Stores.{HaveEach, Store, banks_of, disks_in, volumes_in};
 
-use crate::banks::{open_subtrans, open_xact};
-use crate::cluster::{Cluster, Parts};
+use crate::cluster::{BankVolumes, Cluster, Parts};
+use crate::pairs::{open_multis, open_states};
 use crate::refusal::OpenRefusal;
 use crate::volumes::{bank_volumes, put_back};
-use disk_core::{LogDisk, PageDisk};
+use disk_core::{LogDisk, PageDisk, Volumes};
 use engine_parts::Part;
+use multi_store::MultiGen;
 use notes::Note;
 use proc_table::ProcTable;
-use recoverable::ClusterVolumes;
 use std::alloc::Global;
 use tx_core::Start;
 use wal_core::WalLog;
@@ -39,11 +40,14 @@ pub(crate) fn first_locks<L: LogDisk, P: PageDisk>(
     let Ok(table) = Box::new(alloc, table) else {
         return Err(OpenRefusal::Memory);
     };
+    let Ok(multis) = Box::new(alloc, MultiGen::new(alloc, cluster.base)) else {
+        return Err(OpenRefusal::Memory);
+    };
     let Ok(mut locks) = Vec::with_capacity(alloc, 3 + 4 * cluster.banks as usize) else {
         return Err(OpenRefusal::Memory);
     };
     locks.push_reserved(Part::Proc(table));
-    locks.push_reserved(Part::Vacant);
+    locks.push_reserved(Part::Multi(multis));
     Ok(locks)
 }
 
@@ -52,8 +56,7 @@ pub(crate) fn first_locks<L: LogDisk, P: PageDisk>(
 fn add_bank<L: LogDisk, P: PageDisk + Drop>(
     alloc: Global,
     locks: &mut Vec<Part<L, P>>,
-    xact: &mut Vec<P>,
-    subtrans: &mut Vec<P>,
+    volumes: &mut BankVolumes<P>,
     cluster: &Cluster,
     bank: u32,
     removes: bool,
@@ -61,51 +64,58 @@ fn add_bank<L: LogDisk, P: PageDisk + Drop>(
     ghost begins: { Beginning }
     requires cluster { IsCluster cluster.now }
     requires inside { bank < cluster.now.banks }
-    requires volumes { (0 < length xact.old.items) × (0 < length subtrans.old.items) }
+    requires volumes { (k : Store) → 0 < length (volumes_in k volumes.old).items }
     requires count { length locks.old.items ≡ 2 + 4 * bank }
     requires disks { HaveDisks bank locks.old.items }
     requires room { 3 + 4 * cluster.now.banks ≤ vec_capacity locks.old }
     requires stand { AreNew cluster.now begins 1 locks.old.items }
-    requires states { IsTrue P.tells → AllShowStates P.PageDisk cluster.now begins removes bank xact.old.items }
-    requires parents { IsTrue P.tells → AllShowNothing P.PageDisk removes subtrans.old.items }
-    requires durable { IsTrue P.tells → removes ≡ false → AllOnDisk P.PageDisk xact.old.items }
-    ensures xact { OnOk result (xact.new.items ≡ remove xact.old.items 0) }
-    ensures subtrans { OnOk result (subtrans.new.items ≡ remove subtrans.old.items 0) }
+    requires shown { IsTrue P.tells → MayBeginOver P.PageDisk cluster.now begins removes bank volumes.old }
+    ensures taken { OnOk result ((k : Store) → (volumes_in k volumes.new).items ≡ remove (volumes_in k volumes.old).items 0) }
     ensures count { OnOk result (length locks.new.items ≡ 2 + 4 * (bank + 1)) }
     ensures disks { OnOk result (HaveDisks (bank + 1) locks.new.items) }
     ensures room { OnOk result (vec_capacity locks.new ≡ vec_capacity locks.old) }
     ensures stand { OnOk result (AreNew cluster.now begins 1 locks.new.items) }
-    ensures counted { OnOk result (CountsBank xact.old.items subtrans.old.items locks.old.items locks.new.items) }
-    ensures capacity { (vec_capacity xact.new ≡ vec_capacity xact.old) × (vec_capacity subtrans.new ≡ vec_capacity subtrans.old) }
+    ensures counted { OnOk result (CountsBank volumes.old locks.old.items locks.new.items) }
+    ensures capacity { (k : Store) → vec_capacity (volumes_in k volumes.new) ≡ vec_capacity (volumes_in k volumes.old) }
     ensures same { OnErr result (locks.new.items ≡ locks.old.items) }
-    ensures back { OnErr result ((length xact.new.items ≡ length xact.old.items)
-        × (length subtrans.new.items ≡ length subtrans.old.items)) }
+    ensures back { OnErr result ((k : Store) → length (volumes_in k volumes.new).items ≡ length (volumes_in k volumes.old).items) }
     // Where nothing is removed the volumes stay as they are, of whatever bank.
-    ensures kept { removes ≡ false → (xact_disks locks.new.items ++ xact.new.items ≡ xact_disks locks.old.items ++ xact.old.items)
-        × (subtrans_disks locks.new.items ++ subtrans.new.items ≡ subtrans_disks locks.old.items ++ subtrans.old.items) }
-    ensures refused { IfErr result (λ refusal. IsBankRefusal P.PageDisk bank xact.old.items xact.new.items
-        subtrans.old.items subtrans.new.items refusal) }
+    ensures kept { removes ≡ false → (k : Store) → disks_in k locks.new.items ++ (volumes_in k volumes.new).items
+        ≡ disks_in k locks.old.items ++ (volumes_in k volumes.old).items }
+    ensures refused { IfErr result (λ refusal. IsBankRefusal P.PageDisk bank (λ k. (volumes_in k volumes.old).items) (λ k. (volumes_in k volumes.new).items) refusal) }
 {
-    let states = match open_xact(alloc, xact.remove(0), cluster, bank, removes) {
-        Ok(store) => store,
-        Err((disk, refusal)) => {
-            put_back(xact, disk);
-            return Err(refusal);
-        }
+    let (states, parents) = match open_states(
+        alloc,
+        &mut volumes.xact,
+        &mut volumes.subtrans,
+        cluster,
+        bank,
+        removes,
+    ) {
+        Ok(banks) => banks,
+        Err(refusal) => return Err(refusal),
     };
-    let parents = match open_subtrans(alloc, subtrans.remove(0), cluster, bank, removes) {
-        Ok(store) => store,
-        Err((disk, refusal)) => {
-            put_back(subtrans, disk);
-            put_back(xact, Box::into_inner(states).into_disk());
-            return Err(refusal);
+    match open_multis(
+        alloc,
+        &mut volumes.offsets,
+        &mut volumes.members,
+        cluster,
+        bank,
+        removes,
+    ) {
+        Ok((offsets, members)) => {
+            locks.push_reserved(Part::Xact(states));
+            locks.push_reserved(Part::Subtrans(parents));
+            locks.push_reserved(Part::Offsets(offsets));
+            locks.push_reserved(Part::Members(members));
+            Ok(())
         }
-    };
-    locks.push_reserved(Part::Xact(states));
-    locks.push_reserved(Part::Subtrans(parents));
-    locks.push_reserved(Part::Vacant);
-    locks.push_reserved(Part::Vacant);
-    Ok(())
+        Err(refusal) => {
+            put_back(&mut volumes.subtrans, Box::into_inner(parents).into_disk());
+            put_back(&mut volumes.xact, Box::into_inner(states).into_disk());
+            Err(refusal)
+        }
+    }
 }
 
 // Adds those of all banks. In a new cluster their pages are removed. After an error the volumes of the banks that weren't
@@ -113,36 +123,31 @@ fn add_bank<L: LogDisk, P: PageDisk + Drop>(
 pub(crate) fn add_banks<L: LogDisk, P: PageDisk + Drop>(
     alloc: Global,
     locks: &mut Vec<Part<L, P>>,
-    xact: &mut Vec<P>,
-    subtrans: &mut Vec<P>,
+    volumes: &mut BankVolumes<P>,
     cluster: &Cluster,
     removes: bool,
 ) -> Result<(), OpenRefusal>
     ghost begins: { Beginning }
     requires cluster { IsCluster cluster.now }
-    requires volumes { (length xact.old.items ≡ cluster.now.banks) × (length subtrans.old.items ≡ cluster.now.banks) }
+    requires volumes { HaveEach cluster.now.banks volumes.old }
     requires count { length locks.old.items ≡ 2 }
     requires disks { HaveDisks 0 locks.old.items }
     requires room { 3 + 4 * cluster.now.banks ≤ vec_capacity locks.old }
     requires stand { AreNew cluster.now begins 1 locks.old.items }
-    requires states { IsTrue P.tells → AllShowStates P.PageDisk cluster.now begins removes 0 xact.old.items }
-    requires parents { IsTrue P.tells → AllShowNothing P.PageDisk removes subtrans.old.items }
-    requires durable { IsTrue P.tells → removes ≡ false → AllOnDisk P.PageDisk xact.old.items }
+    requires shown { IsTrue P.tells → MayBeginOver P.PageDisk cluster.now begins removes 0 volumes.old }
     ensures count { OnOk result (length locks.new.items ≡ 2 + 4 * cluster.now.banks) }
     ensures room { OnOk result (vec_capacity locks.new ≡ vec_capacity locks.old) }
     ensures stand { OnOk result (AreNew cluster.now begins 1 locks.new.items) }
-    ensures counted { OnOk result (HaveCounted cluster.now.banks xact.old.items subtrans.old.items locks.new.items) }
-    ensures capacity { (vec_capacity xact.new ≡ vec_capacity xact.old) × (vec_capacity subtrans.new ≡ vec_capacity subtrans.old) }
-    ensures back { (length (xact_disks locks.new.items) + length xact.new.items ≡ cluster.now.banks)
-        × (length (subtrans_disks locks.new.items) + length subtrans.new.items ≡ cluster.now.banks) }
-    ensures kept { removes ≡ false → (xact_disks locks.new.items ++ xact.new.items ≡ xact_disks locks.old.items ++ xact.old.items)
-        × (subtrans_disks locks.new.items ++ subtrans.new.items ≡ subtrans_disks locks.old.items ++ subtrans.old.items) }
+    ensures counted { OnOk result (HaveCounted cluster.now.banks volumes.old locks.new.items) }
+    ensures capacity { (k : Store) → vec_capacity (volumes_in k volumes.new) ≡ vec_capacity (volumes_in k volumes.old) }
+    ensures back { (k : Store) → length (disks_in k locks.new.items) + length (volumes_in k volumes.new).items ≡ cluster.now.banks }
+    ensures kept { removes ≡ false → (k : Store) → disks_in k locks.new.items ++ (volumes_in k volumes.new).items
+        ≡ disks_in k locks.old.items ++ (volumes_in k volumes.old).items }
     ensures refused { IfErr result (λ refusal. (bank : ℕ) × HaveDisks bank locks.new.items
-        × IsBankRefusal P.PageDisk bank (drop bank xact.old.items) xact.new.items
-        (drop bank subtrans.old.items) subtrans.new.items refusal) }
+        × IsBankRefusal P.PageDisk bank (λ k. drop bank (volumes_in k volumes.old).items) (λ k. (volumes_in k volumes.new).items) refusal) }
 {
     for bank in 0..cluster.banks {
-        add_bank(alloc, locks, xact, subtrans, cluster, bank, removes)?;
+        add_bank(alloc, locks, volumes, cluster, bank, removes)?;
     }
     Ok(())
 }
@@ -151,20 +156,35 @@ pub(crate) fn add_banks<L: LogDisk, P: PageDisk + Drop>(
 pub(crate) fn taken_apart<L: LogDisk + Drop, P: PageDisk + Drop>(
     log: Box<WalLog<L>>,
     locks: Vec<Part<L, P>>,
-    xact: Vec<P>,
-    subtrans: Vec<P>,
-) -> ClusterVolumes<L, P>
-    requires xact_room { length (xact_disks locks.items) + length xact.items ≤ vec_capacity xact }
-    requires subtrans_room { length (subtrans_disks locks.items) + length subtrans.items ≤ vec_capacity subtrans }
+    volumes: BankVolumes<P>,
+) -> Volumes<L, P>
+    requires room { (k : Store) → length (disks_in k locks.items) + length (volumes_in k volumes).items ≤ vec_capacity (volumes_in k volumes) }
     ensures log { result.log ≡ log_disk log.value }
-    ensures xact { result.xact.items ≡ xact_disks locks.items ++ xact.items }
-    ensures subtrans { result.subtrans.items ≡ subtrans_disks locks.items ++ subtrans.items }
+    ensures volumes { (k : Store) → (volumes_in k (banks_of result)).items ≡ disks_in k locks.items ++ (volumes_in k volumes).items }
 {
-    let (xact, subtrans) = bank_volumes(locks, xact, subtrans);
-    ClusterVolumes {
-        log: Box::into_inner(log).into_disk(),
+    with_log(
+        Box::into_inner(log).into_disk(),
+        bank_volumes(locks, volumes),
+    )
+}
+
+// A log's volume with those of the banks.
+pub(crate) fn with_log<L: Drop, P: Drop>(log: L, volumes: BankVolumes<P>) -> Volumes<L, P>
+    ensures log { result.log ≡ log }
+    ensures volumes { banks_of result ≡ volumes }
+{
+    let BankVolumes {
         xact,
         subtrans,
+        offsets,
+        members,
+    } = volumes;
+    Volumes {
+        log,
+        xact,
+        subtrans,
+        offsets,
+        members,
     }
 }
 

@@ -16,6 +16,15 @@ pub struct Cluster {
     pub sessions: u32,
 }
 
+/// The volumes of the banks: of each store one for each bank, in their order.
+#[derive(Drop)]
+pub struct BankVolumes<P> {
+    pub xact: Vec<P>,
+    pub subtrans: Vec<P>,
+    pub offsets: Vec<P>,
+    pub members: Vec<P>,
+}
+
 /// The parts of an engine.
 pub struct Parts<L: LogDisk, P: PageDisk> {
     pub cluster: Cluster,

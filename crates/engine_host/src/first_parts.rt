@@ -1,89 +1,72 @@
 //! The parts of a new engine.
-ghost use Rattle.std.specs.Prelude.{◌≡◌, IfErr, IfOk, length};
+ghost use Rattle.std.specs.Prelude.{◌≡◌, IfErr, IfOk};
 ghost use Rattle.engine_host.specs.Counted.{AreCounted};
 ghost use Rattle.engine_host.specs.Opening.{AreParts, IsCluster, new_life, nothing_before};
 ghost use Rattle.engine_host.specs.Refused.{IsRefusal};
+ghost use Rattle.engine_host.specs.Stores.{HaveEach, banks_of};
 
-use crate::building::{add_banks, first_locks, gather, taken_apart};
-use crate::cluster::{Cluster, Parts};
+use crate::building::{add_banks, first_locks, gather, taken_apart, with_log};
+use crate::cluster::{BankVolumes, Cluster, Parts};
 use crate::first_log::{begin_log, start_log};
 use crate::refusal::OpenRefusal;
-use disk_core::{LogDisk, PageDisk};
-use recoverable::ClusterVolumes;
+use disk_core::{LogDisk, PageDisk, Volumes};
 use std::alloc::Global;
 
 /// Makes the parts of a new cluster over volumes of which the log's has no record (`BootStrapXLOG` of `xlog.c`,
-/// `BootStrapCLOG` of `clog.c`, `BootStrapSUBTRANS` of `subtrans.c`). All pages of the page volumes are removed. The
-/// log's first record, which is on disk then, is a checkpoint of the base. There is a volume for each bank of both
-/// stores.
+/// `BootStrapCLOG` of `clog.c`, `BootStrapSUBTRANS` of `subtrans.c`, `BootStrapMultiXact` of `multixact.c`). All pages of
+/// the page volumes are removed. The log's first record, which is on disk then, is a checkpoint of the base. There is a
+/// volume of each store for each bank.
 ///
 /// The parts stand for lists without entries, in a life that begins with the volumes' counts of faults, which aren't
 /// below what they were. After an error the volumes come back, in the order of their banks; pages may be removed then,
 /// and the checkpoint written.
 pub fn open_new<L: LogDisk + Drop, P: PageDisk + Drop>(
     alloc: Global,
-    volumes: ClusterVolumes<L, P>,
+    volumes: Volumes<L, P>,
     cluster: Cluster,
-) -> Result<Parts<L, P>, (ClusterVolumes<L, P>, OpenRefusal)>
+) -> Result<Parts<L, P>, (Volumes<L, P>, OpenRefusal)>
     requires cluster { IsCluster cluster }
-    requires volumes { (length volumes.xact.items ≡ cluster.banks) × (length volumes.subtrans.items ≡ cluster.banks) }
+    requires volumes { HaveEach cluster.banks (banks_of volumes) }
     ensures cluster { IfOk result (λ parts. parts.cluster ≡ cluster) }
     ensures parts { IfOk result (λ parts. AreParts parts) }
     ensures start { IfOk result (λ parts. parts.start.value ≡ new_life cluster nothing_before parts.locks.items) }
-    ensures counted { IfOk result (λ parts. AreCounted L.LogDisk P.PageDisk volumes.log volumes.xact.items
-        volumes.subtrans.items parts.start.value.faults) }
+    ensures counted { IfOk result (λ parts. AreCounted L.LogDisk P.PageDisk volumes.log (banks_of volumes) parts.start.value.faults) }
     ensures refused { IfErr result (λ e. IsRefusal L.LogDisk P.PageDisk cluster volumes e.0 e.1) }
 {
-    let ClusterVolumes {
+    let Volumes {
         log,
-        mut xact,
-        mut subtrans,
+        xact,
+        subtrans,
+        offsets,
+        members,
     } = volumes;
+    let mut volumes = BankVolumes {
+        xact,
+        subtrans,
+        offsets,
+        members,
+    };
     let log = match start_log(alloc, log) {
         Ok(log) => log,
-        Err((log, refusal)) => {
-            return Err((
-                ClusterVolumes {
-                    log,
-                    xact,
-                    subtrans,
-                },
-                refusal,
-            ));
-        }
+        Err((log, refusal)) => return Err((with_log(log, volumes), refusal)),
     };
     let mut log = match Box::new(alloc, log) {
         Ok(log) => log,
-        Err(lacking) => {
-            return Err((
-                ClusterVolumes {
-                    log: lacking.value.into_disk(),
-                    xact,
-                    subtrans,
-                },
-                OpenRefusal::Memory,
-            ));
-        }
+        Err(lacking) => return Err((
+            with_log(lacking.value.into_disk(), volumes),
+            OpenRefusal::Memory,
+        )),
     };
     let mut locks = match first_locks(alloc, &cluster) {
         Ok(locks) => locks,
-        Err(refusal) => {
-            return Err((
-                ClusterVolumes {
-                    log: Box::into_inner(log).into_disk(),
-                    xact,
-                    subtrans,
-                },
-                refusal,
-            ));
-        }
+        Err(refusal) => return Err((with_log(Box::into_inner(log).into_disk(), volumes), refusal)),
     };
-    if let Err(refusal) = add_banks(alloc, &mut locks, &mut xact, &mut subtrans, &cluster, true) {
-        return Err((taken_apart(log, locks, xact, subtrans), refusal));
+    if let Err(refusal) = add_banks(alloc, &mut locks, &mut volumes, &cluster, true) {
+        return Err((taken_apart(log, locks, volumes), refusal));
     }
     let fresh = &mut *log;
     if let Err(refusal) = begin_log(fresh, &cluster) {
-        return Err((taken_apart(log, locks, xact, subtrans), refusal));
+        return Err((taken_apart(log, locks, volumes), refusal));
     }
     Ok(gather(cluster, log, locks))
 }

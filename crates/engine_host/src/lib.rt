@@ -9,11 +9,12 @@ mod cluster;
 mod first_log;
 mod first_parts;
 mod host;
+mod pairs;
 mod refusal;
 mod volumes;
 
 pub use begun_parts::open_begun;
-pub use cluster::{Cluster, Parts};
+pub use cluster::{BankVolumes, Cluster, Parts};
 pub use first_parts::open_new;
 pub use host::{Host, admit, close, dismiss, make_table, new_session};
 pub use refusal::OpenRefusal;

@@ -1,19 +1,23 @@
 //! The volumes of parts that are taken apart.
 ghost use Rattle.std.specs.Prelude.{◌≡◌, ℕ, ◌+◌, ◌<◌, ◌≤◌, ◌++◌, ◌∷◌, [], Some, length, slice_get, vec_capacity};
 ghost use Rattle.engine_parts.specs.declared.part.Part.TheVariants as parts;
-ghost use Rattle.engine_host.specs.Refused.{AreInPlace, subtrans_disks, xact_disks};
+ghost use Rattle.engine_host.specs.Refused.{AreInPlace};
+ghost use Rattle.engine_host.specs.Stores.{Store, disks_in, volumes_in};
 
+use crate::cluster::BankVolumes;
 use disk_core::{LogDisk, PageDisk};
 use engine_parts::Part;
+use multi_store::MultiGen;
 use proc_table::ProcTable;
 use wal_core::WalLog;
 
-/// The parts of an engine, taken apart: its log, its ProcArray, and the volumes of its banks, in their order.
+/// The parts of an engine, taken apart: its log, its ProcArray, its generator of multixacts, and the volumes of its banks,
+/// in their order.
 pub struct TakenApart<L: LogDisk, P: PageDisk> {
     pub log: Box<WalLog<L>>,
     pub table: Box<ProcTable>,
-    pub xact: Vec<P>,
-    pub subtrans: Vec<P>,
+    pub multis: Box<MultiGen>,
+    pub volumes: BankVolumes<P>,
 }
 
 // Puts a volume back as the first one.
@@ -26,49 +30,51 @@ pub(crate) fn put_back<P: PageDisk + Drop>(volumes: &mut Vec<P>, disk: P)
     let Ok(()) = inserted else { unreachable!() };
 }
 
-// Takes parts apart, and puts the volumes of their banks, in their order, before these of pg_xact and of pg_subtrans. The
-// volume of a log is dropped.
+// Takes parts apart, and puts the volumes of their banks, in their order, before these. The volume of a log is dropped.
 pub(crate) fn bank_volumes<L: LogDisk + Drop, P: PageDisk + Drop>(
     locks: Vec<Part<L, P>>,
-    xact: Vec<P>,
-    subtrans: Vec<P>,
-) -> (Vec<P>, Vec<P>)
-    requires xact_room { length (xact_disks locks.items) + length xact.items ≤ vec_capacity xact }
-    requires subtrans_room { length (subtrans_disks locks.items) + length subtrans.items ≤ vec_capacity subtrans }
-    ensures xact { result.0.items ≡ xact_disks locks.items ++ xact.items }
-    ensures subtrans { result.1.items ≡ subtrans_disks locks.items ++ subtrans.items }
+    volumes: BankVolumes<P>,
+) -> BankVolumes<P>
+    requires room { (k : Store) → length (disks_in k locks.items) + length (volumes_in k volumes).items ≤ vec_capacity (volumes_in k volumes) }
+    ensures volumes { (k : Store) → (volumes_in k result).items ≡ disks_in k locks.items ++ (volumes_in k volumes).items }
 {
-    let mut xact = xact;
-    let mut subtrans = subtrans;
+    let mut volumes = volumes;
     let mut locks = locks;
     while let Some(part) = locks.pop() {
         match part {
-            Part::Xact(store) => put_back(&mut xact, Box::into_inner(store).into_disk()),
-            Part::Subtrans(store) => { put_back(&mut subtrans, Box::into_inner(store).into_disk()) }
+            Part::Xact(store) => put_back(&mut volumes.xact, Box::into_inner(store).into_disk()),
+            Part::Subtrans(store) => {
+                put_back(&mut volumes.subtrans, Box::into_inner(store).into_disk())
+            }
+            Part::Offsets(store) => {
+                put_back(&mut volumes.offsets, Box::into_inner(store).into_disk())
+            }
+            Part::Members(store) => {
+                put_back(&mut volumes.members, Box::into_inner(store).into_disk())
+            }
             Part::Log(_log) => {}
             Part::Proc(_table) => {}
-            Part::Vacant => {}
+            Part::Multi(_gen) => {}
         }
     }
     locks.destroy_empty();
-    (xact, subtrans)
+    volumes
 }
 
 /// Takes the parts apart that lie behind an engine's locks, in the order of these. What isn't on the volumes yet is lost.
-/// The two vectors are empty, and have room for as many volumes as there are locks.
+/// The vectors of volumes are empty, and have room for as many as there are locks.
 pub fn take_apart<L: LogDisk + Drop, P: PageDisk + Drop>(
     locks: Vec<Part<L, P>>,
-    xact: Vec<P>,
-    subtrans: Vec<P>,
+    room: BankVolumes<P>,
 ) -> TakenApart<L, P>
-    requires count { 2 ≤ length locks.items }
+    requires count { 3 ≤ length locks.items }
     requires stand { AreInPlace locks.items }
-    requires empty { (xact.items ≡ []) × (subtrans.items ≡ []) }
-    requires room { (length locks.items ≤ vec_capacity xact) × (length locks.items ≤ vec_capacity subtrans) }
+    requires empty { (k : Store) → (volumes_in k room).items ≡ [] }
+    requires room { (k : Store) → length locks.items ≤ vec_capacity (volumes_in k room) }
     ensures log { slice_get locks.items 0 ≡ Some (parts.Log result.log) }
     ensures table { slice_get locks.items 1 ≡ Some (parts.Proc result.table) }
-    ensures xact { result.xact.items ≡ xact_disks locks.items }
-    ensures subtrans { result.subtrans.items ≡ subtrans_disks locks.items }
+    ensures multis { slice_get locks.items 2 ≡ Some (parts.Multi result.multis) }
+    ensures volumes { (k : Store) → (volumes_in k result.volumes).items ≡ disks_in k locks.items }
 {
     let mut locks = locks;
     let first = locks.remove(0);
@@ -79,11 +85,15 @@ pub fn take_apart<L: LogDisk + Drop, P: PageDisk + Drop>(
     let Part::Proc(table) = second else {
         unreachable!()
     };
-    let (xact, subtrans) = bank_volumes(locks, xact, subtrans);
+    let third = locks.remove(0);
+    let Part::Multi(multis) = third else {
+        unreachable!()
+    };
+    let volumes = bank_volumes(locks, room);
     TakenApart {
         log,
         table,
-        xact,
-        subtrans,
+        multis,
+        volumes,
     }
 }

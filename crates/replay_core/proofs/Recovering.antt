@@ -8,8 +8,9 @@ use Rattle.tx_events.specs.declared.record.Rec.TheVariants as records
 use Rattle.wal_core.specs.LogViews.{KeepsAll, log_disk, log_end, log_first, log_flushed, log_next}
 use Rattle.wal_core.specs.declared.wal_log.WalLog.{WalLog}
 use Rattle.recoverable.specs.Fit.{KeptLog}
-use Rattle.replay_core.specs.Banks.{AreRestored, EmptiesBanks, NoCountFell, RestoresBanks}
+use Rattle.replay_core.specs.Banks.{AreRestored, RestoresBanks}
 use Rattle.replay_core.specs.Begun.{IsSettled}
+use Rattle.replay_core.specs.Emptied.{EmptiesStores}
 use Rattle.replay_core.specs.Opened.{EachHas, IsFound, LeavesLog, SettlesLog}
 use Rattle.replay_core.specs.Refused.{IsSettleRefusal}
 use Rattle.replay_core.specs.Replay.{IsReplayRefusal, Replays}
@@ -17,21 +18,19 @@ use Rattle.recoverable.specs.Clusters.{Fit}
 use Rattle.replay_core.specs.Volumes.{LeavesFit, RecoversLog}
 use Rattle.replay_core.specs.declared.found.Found.{Found}
 use Rattle.replay_core.specs.declared.refusal.RecoverRefusal.{RecoverRefusal}
+use Rattle.replay_core.specs.declared.stores.EmptyVolumes.{EmptyVolumes}
+use Rattle.replay_core.proofs.BankRows.{same_volumes}
 use Rattle.replay_core.proofs.Joining.{is_found, is_recovered, located, not_recovered_cut, not_recovered_pending, not_recovered_settled}
-use Rattle.replay_core.proofs.Rows.{some_same}
 use Rattle.replay_core.proofs.Settling.{each_kept}
 
-module _ {L P : Type 0} {l : logs.Ghosts L} (p : disks.Ghosts P) (recs : List Rec) (base : Counters) (log : WalLog L l) (xact xact' subtrans : List P) where
-  same_volumes : (volumes : List P) → NoCountFell p volumes volumes
-  same_volumes volumes bank before now was is = let e = ap p.faults (some_same before now (sym was ∙ is)) in omega (arith, e)
-
+module _ {L P : Type 0} {l : logs.Ghosts L} (p : disks.Ghosts P) (recs : List Rec) (base : Counters) (log : WalLog L l) (xact xact' : List P) (others : EmptyVolumes P) where
   same_log : l.faults (log_disk log) ≤ l.faults (log_disk log)
   same_log = omega arith
 
-  pub restoring_failed : (e : RecoverRefusal) → RestoresBanks p recs base xact xact' (Err e) → Replays p recs base log log xact xact' subtrans subtrans (Err e)
+  pub restoring_failed : (e : RecoverRefusal) → RestoresBanks p recs base xact xact' (Err e) → Replays p recs base log log xact xact' others others (Err e)
   restoring_failed e r = record {
     xact_count = r.count;
-    subtrans_count = refl;
+    others_count = record { subtrans = refl; offsets = refl; members = refl };
     settled = tt;
     kept = λ told. tt;
     restored = λ told. tt;
@@ -40,13 +39,13 @@ module _ {L P : Type 0} {l : logs.Ghosts L} (p : disks.Ghosts P) (recs : List Re
     refused = inl r.refused;
     log_counted = same_log;
     xact_counted = r.counted;
-    subtrans_counted = same_volumes subtrans;
+    others_counted = record { subtrans = same_volumes p others.subtrans.items; offsets = same_volumes p others.offsets.items; members = same_volumes p others.members.items };
   }
 
-  pub emptying_failed : (subtrans' : List P) (e : RecoverRefusal) → RestoresBanks p recs base xact xact' (Ok (tt {0})) → EmptiesBanks p subtrans subtrans' (Err e) → Replays p recs base log log xact xact' subtrans subtrans' (Err e)
-  emptying_failed subtrans' e r s = record {
+  pub emptying_failed : (others' : EmptyVolumes P) (e : RecoverRefusal) → RestoresBanks p recs base xact xact' (Ok (tt {0})) → EmptiesStores p others others' (Err e) → Replays p recs base log log xact xact' others others' (Err e)
+  emptying_failed others' e r s = record {
     xact_count = r.count;
-    subtrans_count = s.count;
+    others_count = s.count;
     settled = tt;
     kept = λ told. tt;
     restored = λ told. tt;
@@ -55,7 +54,7 @@ module _ {L P : Type 0} {l : logs.Ghosts L} (p : disks.Ghosts P) (recs : List Re
     refused = inr (inl s.refused);
     log_counted = same_log;
     xact_counted = r.counted;
-    subtrans_counted = s.counted;
+    others_counted = s.counted;
   }
 
   on : {X : Type 0} (result : Result (Unit {0}) RecoverRefusal) → X → OnOk result X
@@ -66,31 +65,31 @@ module _ {L P : Type 0} {l : logs.Ghosts L} (p : disks.Ghosts P) (recs : List Re
   err (Ok u) f x = tt
   err (Err e) f x = f x
 
-  because : (log' : WalLog L l) (subtrans' : List P) (result : Result (Unit {0}) RecoverRefusal) → IfErr result (λ refusal. IsSettleRefusal (log_next log) base log log' refusal) → IfErr result (IsReplayRefusal p base log log' xact xact' subtrans subtrans')
-  because log' subtrans' (Ok u) x = tt
-  because log' subtrans' (Err e) x = inr (inr x)
+  because : (log' : WalLog L l) (others' : EmptyVolumes P) (result : Result (Unit {0}) RecoverRefusal) → IfErr result (λ refusal. IsSettleRefusal (log_next log) base log log' refusal) → IfErr result (IsReplayRefusal p base log log' xact xact' others others')
+  because log' others' (Ok u) x = tt
+  because log' others' (Err e) x = inr (inr x)
 
-  pub all_replayed : (log' : WalLog L l) (subtrans' : List P) (result : Result (Unit {0}) RecoverRefusal) → RestoresBanks p recs base xact xact' (Ok (tt {0})) → EmptiesBanks p subtrans subtrans' (Ok (tt {0}))
+  pub all_replayed : (log' : WalLog L l) (others' : EmptyVolumes P) (result : Result (Unit {0}) RecoverRefusal) → RestoresBanks p recs base xact xact' (Ok (tt {0})) → EmptiesStores p others others' (Ok (tt {0}))
       → OnOk result (IsSettled (log_next log) base log') → (IsTrue l.tells → OnOk result (SettlesLog l base log log')) → (IsTrue l.tells → OnErr result (LeavesLog l base log log'))
       → IfErr result (λ refusal. IsSettleRefusal (log_next log) base log log' refusal) → l.faults (log_disk log) ≤ l.faults (log_disk log')
-      → Replays p recs base log log' xact xact' subtrans subtrans' result
-  all_replayed log' subtrans' result r s settled kept left refused count = record {
+      → Replays p recs base log log' xact xact' others others' result
+  all_replayed log' others' result r s settled kept left refused count = record {
     xact_count = r.count;
-    subtrans_count = s.count;
+    others_count = s.count;
     settled = settled;
     kept = kept;
     restored = λ told. on result (r.restored told);
     empty = λ told. on result (s.empty told);
     left = λ told told'. err result (λ x. (r.moments told', inr (r.restored told', x))) (left told);
-    refused = because log' subtrans' result refused;
+    refused = because log' others' result refused;
     log_counted = count;
     xact_counted = r.counted;
-    subtrans_counted = s.counted;
+    others_counted = s.counted;
   }
 
-module _ {L P : Type 0} (l : logs.Ghosts L) (p : disks.Ghosts P) (v : L) (xact xact' subtrans subtrans' : List P) (found : Found L l) (is : IsFound {g = l} v found) (log' : WalLog L l)
+module _ {L P : Type 0} (l : logs.Ghosts L) (p : disks.Ghosts P) (v : L) (xact xact' : List P) (others others' : EmptyVolumes P) (found : Found L l) (is : IsFound {g = l} v found) (log' : WalLog L l)
     (told : IsTrue l.tells) (told' : IsTrue p.tells) (reads : l.images v (l.reads v)) (each : (d : P) → p.images d (p.pages d)) (some : 1 ≤ length xact) (log : KeptLog) (fit : Fit l p log v xact) where
-  pub replay_recovers : Replays p found.recs found.base found.log log' xact xact' subtrans subtrans' (Ok (tt {0})) → RecoversLog l p v xact log' xact' (log_next found.log) found.base log
+  pub replay_recovers : Replays p found.recs found.base found.log log' xact xact' others others' (Ok (tt {0})) → RecoversLog l p v xact log' xact' (log_next found.log) found.base log
   replay_recovers r =
       let first : ℕ = log_first found.log in
       let gate : ℕ = log_end found.log in
@@ -106,7 +105,7 @@ module _ {L P : Type 0} (l : logs.Ghosts L) (p : disks.Ghosts P) (v : L) (xact x
       (is_recovered l p xact xact' log first found.recs found.base (is_found l p v xact log fit reads each first gate found.recs found.base is.none (is.opens told) some)
       (located l p v xact log fit reads each first gate found.recs found.base is.none (is.opens told)) each r.xact_count v log' (r.restored told') some has past here)
 
-  pub replay_leaves : (e : RecoverRefusal) → Replays p found.recs found.base found.log log' xact xact' subtrans subtrans' (Err e) → LeavesFit l p xact (log_disk log') xact' log
+  pub replay_leaves : (e : RecoverRefusal) → Replays p found.recs found.base found.log log' xact xact' others others' (Err e) → LeavesFit l p xact (log_disk log') xact' log
   replay_leaves e r =
       let first : ℕ = log_first found.log in
       let gate : ℕ = log_end found.log in

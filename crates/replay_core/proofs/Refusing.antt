@@ -1,11 +1,12 @@
 -- Why a recovery was refused, from why one of its parts was.
-use Rattle.std.proofs.Common.{List, length, subst, sym, ℕ, ⊎_elim, ◌≡◌}
+use Rattle.std.proofs.Common.{Global, List, Vec, length, subst, sym, ℕ, ⊎_elim, ◌≡◌}
 use Rattle.disk_core.specs.Faults.{HasRisen}
 use Rattle.disk_core.specs.declared.log_disk.LogDisk as logs
 use Rattle.disk_core.specs.declared.page_disk.PageDisk as disks
 use Rattle.tx_events.specs.declared.record.Counters.{Counters}
 use Rattle.tx_events.specs.declared.record.Rec.{Rec}
 use Rattle.tx_events.specs.declared.record.Rec.TheVariants as records
+use Rattle.tx_events.specs.declared.refusal.Lock.{Lock}
 use Rattle.tx_events.specs.declared.refusal.Lock.TheVariants as locks
 use Rattle.wal_core.specs.Log.{IsFull}
 use Rattle.wal_core.specs.LogViews.{log_disk, log_end, log_first, log_next}
@@ -14,11 +15,14 @@ use Rattle.wal_records.specs.Spelling.{rec_bytes}
 use Rattle.replay_core.proofs.Redoing.{risen_since}
 use Rattle.replay_core.specs.Banks.{AreRestored, IsStoreRefusal}
 use Rattle.replay_core.specs.Begun.{AreOnDisk}
+use Rattle.replay_core.specs.Emptied.{lock_of}
+use Rattle.replay_core.specs.declared.stores.EmptyVolumes.{EmptyVolumes}
+use Rattle.replay_core.specs.declared.stores.Store.TheVariants as stores
 use Rattle.replay_core.specs.Opened.{IsFound}
 use Rattle.recoverable.specs.Clusters.{HasFailedAt}
 use Rattle.replay_core.specs.Refused.{IsRefusal, IsSettleRefusal}
 use Rattle.replay_core.specs.Replay.{IsReplayRefusal}
-use Rattle.recoverable.specs.declared.cluster.ClusterVolumes.{ClusterVolumes}
+use Rattle.disk_core.specs.declared.media.Volumes.{Volumes}
 use Rattle.replay_core.specs.declared.found.Found.{Found}
 use Rattle.replay_core.specs.declared.refusal.RecoverRefusal.{RecoverRefusal}
 use Rattle.replay_core.specs.declared.refusal.RecoverRefusal.TheVariants as refusals
@@ -28,7 +32,11 @@ use Rattle.replay_core.proofs.Rows.{had}
 pub on_disk : {P : Type 0} (p : disks.Ghosts P) (recs : List Rec) (base : Counters) (old new : List P) → length new ≡ length old → AreRestored p recs base old new → AreOnDisk p new
 on_disk p recs base old new count restored bank disk at = let was = had old new count bank disk at in (restored bank was.0 disk was.1 at).1
 
-module _ {L P : Type 0} (l : logs.Ghosts L) (p : disks.Ghosts P) (old new : ClusterVolumes L P) (found : Found L l) (is : IsFound {g = l} old.log found) (log' : WalLog L l) (same : new.log ≡ log_disk log') where
+-- the volumes of the stores that are emptied
+abbrev pub others_of : {L P : Type 0} → Volumes L P → EmptyVolumes P
+others_of v = record { subtrans = v.subtrans; offsets = v.offsets; members = v.members }
+
+module _ {L P : Type 0} (l : logs.Ghosts L) (p : disks.Ghosts P) (old new : Volumes L P) (found : Found L l) (is : IsFound {g = l} old.log found) (log' : WalLog L l) (same : new.log ≡ log_disk log') where
   settle_refused : (e : RecoverRefusal) → IsSettleRefusal (log_next found.log) found.base found.log log' e → IsRefusal l p old new e
   settle_refused (refusals.Damaged at) h = absurd h
   settle_refused refusals.NoRecord h = absurd h
@@ -43,18 +51,30 @@ module _ {L P : Type 0} (l : logs.Ghosts L) (p : disks.Ghosts P) (old new : Clus
   }
   settle_refused refusals.Memory h = tt
 
-  pub refusal_is : (xact' subtrans' : List P) → new.xact.items ≡ xact' → new.subtrans.items ≡ subtrans' → (e : RecoverRefusal) → IsReplayRefusal p found.base found.log log' old.xact.items xact' old.subtrans.items subtrans' e → IsRefusal l p old new e
-  refusal_is xact' subtrans' x s e h =
+  -- a volume of a store failed, or memory was wanting
+  module _ (e : RecoverRefusal) where
+    of_store : (lock : ℕ → Lock) (before now : List P) → ((bank : ℕ) → HasFailedAt p.faults bank before now → IsRefusal l p old new (refusals.DiskFault (lock bank)))
+        → IsStoreRefusal p lock before now e → IsRefusal l p old new e
+    of_store lock before now is h = ⊎_elim
+        (λ (m : e ≡ refusals.Memory). subst (IsRefusal l p old new) (sym m) tt)
+        (λ (f : (bank : ℕ) × (e ≡ refusals.DiskFault (lock bank)) × HasFailedAt p.faults bank before now). subst (IsRefusal l p old new) (sym f.1) (is f.0 f.2))
+        h
+
+  pub refusal_is : (xact' : List P) (others others' : EmptyVolumes P) → new.xact.items ≡ xact'
+      → old.subtrans ≡ others.subtrans → old.offsets ≡ others.offsets → old.members ≡ others.members
+      → new.subtrans ≡ others'.subtrans → new.offsets ≡ others'.offsets → new.members ≡ others'.members
+      → (e : RecoverRefusal) → IsReplayRefusal p found.base found.log log' old.xact.items xact' others others' e → IsRefusal l p old new e
+  refusal_is xact' others others' x s o m s' o' m' e h =
       ⊎_elim
-      (λ (a : IsStoreRefusal p (λ bank. locks.Xact bank) old.xact.items xact' e). ⊎_elim
-      (λ (m : e ≡ refusals.Memory). subst (IsRefusal l p old new) (sym m) tt)
-      (λ (f : (bank : ℕ) × (e ≡ refusals.DiskFault (locks.Xact bank)) × HasFailedAt p.faults bank old.xact.items xact'). subst (IsRefusal l p old new) (sym f.1) (subst (λ t. HasFailedAt p.faults f.0 old.xact.items t) (sym x) f.2))
-      a)
+      (of_store e (λ bank. locks.Xact bank) old.xact.items xact' (λ bank f. subst (λ t. HasFailedAt p.faults bank old.xact.items t) (sym x) f))
       (λ b. ⊎_elim
-      (λ (a : IsStoreRefusal p (λ bank. locks.Subtrans bank) old.subtrans.items subtrans' e). ⊎_elim
-      (λ (m : e ≡ refusals.Memory). subst (IsRefusal l p old new) (sym m) tt)
-      (λ (f : (bank : ℕ) × (e ≡ refusals.DiskFault (locks.Subtrans bank)) × HasFailedAt p.faults bank old.subtrans.items subtrans'). subst (IsRefusal l p old new) (sym f.1) (subst (λ t. HasFailedAt p.faults f.0 old.subtrans.items t) (sym s) f.2))
+      (λ a. ⊎_elim
+      (of_store e (lock_of stores.Subtrans) others.subtrans.items others'.subtrans.items (λ bank f. subst (λ (t : Vec P Global × Vec P Global). HasFailedAt p.faults bank t.0.items t.1.items) (λ i. (sym s i, sym s' i)) f))
+      (λ c. ⊎_elim
+      (of_store e (lock_of stores.Offsets) others.offsets.items others'.offsets.items (λ bank f. subst (λ (t : Vec P Global × Vec P Global). HasFailedAt p.faults bank t.0.items t.1.items) (λ i. (sym o i, sym o' i)) f))
+      (of_store e (lock_of stores.Members) others.members.items others'.members.items (λ bank f. subst (λ (t : Vec P Global × Vec P Global). HasFailedAt p.faults bank t.0.items t.1.items) (λ i. (sym m i, sym m' i)) f))
+      c)
       a)
-      (λ t. settle_refused e t)
+      (settle_refused e)
       b)
       h

@@ -2,7 +2,6 @@
 use Rattle.std.specs.Prelude.{◌≡◌, ◌≢◌, ◌⊎◌, ℕ, ◌^◌, ◌<◌, ◌≤◌, IsTrue, List, length, Some, Result, OnOk, IfErr, slice_get}
 use Rattle.disk_core.specs.Faults.{HasRisen}
 use Rattle.disk_core.specs.declared.page_disk.PageDisk as disks
-use Rattle.disk_core.specs.Pages.{Pages, page_bytes, zero_page}
 use Rattle.tx_events.specs.declared.record.Counters.{Counters}
 use Rattle.tx_events.specs.declared.record.Rec.{Rec}
 use Rattle.tx_events.specs.declared.refusal.Lock.{Lock}
@@ -14,7 +13,7 @@ use Rattle.replay_core.specs.declared.restore.RestoreRefusal.{RestoreRefusal}
 use Rattle.replay_core.specs.declared.restore.RestoreRefusal.TheVariants as restores
 use Rattle.replay_core.specs.Redo.{IsNamed}
 use Rattle.replay_core.specs.Restore.{HasBytesOnDisk, MayRestore, RestoresAll, bytes_on}
-use Rattle.replay_core.specs.Begun.{AreEmpty}
+use Rattle.replay_core.specs.Begun.{AreEmpty, IsEmpty}
 use Rattle.recoverable.specs.Clusters.{HasFailedAt}
 use Rattle.replay_core.specs.declared.refusal.RecoverRefusal.{RecoverRefusal}
 use Rattle.replay_core.specs.declared.refusal.RecoverRefusal.TheVariants as refusals
@@ -36,21 +35,21 @@ IsRefusalAt bank restores.Memory refusal = refusal ≡ refusals.Memory
 
 module _ {P : Type 0} (p : disks.Ghosts P) where
   -- only a failure of this bank's volume, or want of memory
-  abbrev pub IsCause : (ℕ → Lock) → ℕ → Result (Unit {0}) RecoverRefusal → P → P → Type 0
-  IsCause lock bank result old new = IfErr result (λ refusal. (refusal ≡ refusals.Memory) ⊎ ((refusal ≡ refusals.DiskFault (lock bank)) × HasRisen (p.faults old) (p.faults new)))
+  abbrev pub IsCause : Lock → Result (Unit {0}) RecoverRefusal → P → P → Type 0
+  IsCause lock result old new = IfErr result (λ refusal. (refusal ≡ refusals.Memory) ⊎ ((refusal ≡ refusals.DiskFault lock) × HasRisen (p.faults old) (p.faults new)))
 
   -- a bank's volume is restored, or what may be left on the way there
   pub record Restoring (share : Share) (recs : List Rec) (base : Counters) (result : Result (Unit {0}) RecoverRefusal) (old new : P) : Type 0 where
     pub moments : IsTrue p.tells → CrashLeaves (MayRestore (IsNamed share base.oldest (committed_in recs)) base.next (bytes_on p old)) p.images p.moment p.left_at old new
     pub shows : IsTrue p.tells → OnOk result (RestoresAll (IsNamed share base.oldest (committed_in recs)) base.next (bytes_on p old) (bytes_on p new))
     pub durable : IsTrue p.tells → OnOk result (HasBytesOnDisk p new)
-    pub cause : IsCause (λ bank. locks.Xact bank) share.bank result old new
+    pub cause : IsCause (locks.Xact share.bank) result old new
     pub count : p.faults old ≤ p.faults new
 
-  -- a bank's volume is emptied
-  pub record Emptying (bank : ℕ) (result : Result (Unit {0}) RecoverRefusal) (old new : P) : Type 0 where
-    pub empty : IsTrue p.tells → OnOk result ((c : Pages) → p.images new c → (q : ℕ) → q < 2 ^ 32 → page_bytes (c q) ≡ zero_page)
-    pub cause : IsCause (λ bank. locks.Subtrans bank) bank result old new
+  -- the volume of the bank behind this lock is emptied
+  pub record Emptying (lock : Lock) (result : Result (Unit {0}) RecoverRefusal) (old new : P) : Type 0 where
+    pub empty : IsTrue p.tells → OnOk result (IsEmpty p new)
+    pub cause : IsCause lock result old new
     pub count : p.faults old ≤ p.faults new
 
   -- of no volume the count of faults fell
@@ -80,8 +79,9 @@ module _ {P : Type 0} (p : disks.Ghosts P) where
     pub refused : IfErr result (IsStoreRefusal (λ bank. locks.Xact bank) old new)
     pub counted : NoCountFell old new
 
-  pub record EmptiesBanks (old new : List P) (result : Result (Unit {0}) RecoverRefusal) : Type 0 where
+  -- the volumes of a store, whose banks have these locks
+  pub record EmptiesBanks (lock : ℕ → Lock) (old new : List P) (result : Result (Unit {0}) RecoverRefusal) : Type 0 where
     pub count : length new ≡ length old
     pub empty : IsTrue p.tells → OnOk result (AreEmpty p new)
-    pub refused : IfErr result (IsStoreRefusal (λ bank. locks.Subtrans bank) old new)
+    pub refused : IfErr result (IsStoreRefusal lock old new)
     pub counted : NoCountFell old new

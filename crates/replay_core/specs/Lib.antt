@@ -3,6 +3,7 @@ pub mod Restore
 pub mod Laws
 pub mod Volumes
 pub mod Begun
+pub mod Emptied
 pub mod Refused
 pub mod Opened
 pub mod Banks

@@ -17,7 +17,7 @@ use Rattle.wal_core.specs.declared.wal_log.WalLog.{WalLog}
 use Rattle.wal_records.specs.Spelling.{rec_bytes}
 use Rattle.log_bases.specs.LifeBase.{is_multi}
 use Rattle.recoverable.specs.Clusters.{HasFailedAt}
-use Rattle.recoverable.specs.declared.cluster.ClusterVolumes.{ClusterVolumes}
+use Rattle.disk_core.specs.declared.media.Volumes.{Volumes}
 use Rattle.replay_core.specs.declared.refusal.RecoverRefusal.{RecoverRefusal}
 use Rattle.replay_core.specs.declared.refusal.RecoverRefusal.TheVariants as refusals
 
@@ -77,13 +77,15 @@ module _ {D : Type 0} {g : logs.Ghosts D} where
   IsSettleRefusal number base old new refusal = ⊥
 
 module _ {L P : Type 0} (l : logs.Ghosts L) (p : disks.Ghosts P) where
-  abbrev pub IsRefusal : ClusterVolumes L P → ClusterVolumes L P → RecoverRefusal → Type 0
+  abbrev pub IsRefusal : Volumes L P → Volumes L P → RecoverRefusal → Type 0
   IsRefusal old new (refusals.Damaged at) = IsTrue l.tells → opened (l.reads old.log) ≡ Err at
   IsRefusal old new refusals.NoRecord = IsTrue l.tells → IsNewLog (l.reads old.log)
   IsRefusal old new refusals.HasMultis = IsTrue l.tells → HasMultis (l.reads old.log)
   IsRefusal old new refusals.LogFault = HasRisen (l.faults old.log) (l.faults new.log)
   IsRefusal old new (refusals.DiskFault (locks.Xact bank)) = HasFailedAt p.faults bank old.xact.items new.xact.items
   IsRefusal old new (refusals.DiskFault (locks.Subtrans bank)) = HasFailedAt p.faults bank old.subtrans.items new.subtrans.items
+  IsRefusal old new (refusals.DiskFault (locks.Offsets bank)) = HasFailedAt p.faults bank old.offsets.items new.offsets.items
+  IsRefusal old new (refusals.DiskFault (locks.Members bank)) = HasFailedAt p.faults bank old.members.items new.members.items
   IsRefusal old new (refusals.DiskFault lock) = ⊥
   IsRefusal old new refusals.Full = IsTrue l.tells → HasNoRoom (l.reads old.log)
   IsRefusal old new refusals.Memory = Unit {0}

@@ -1,5 +1,6 @@
 // The volumes of the banks, one after another, each in its place.
 ghost use Rattle.std.specs.Prelude.{◌≡◌, ◌<◌, ◌≤◌, ◌^◌, insert, length, vec_capacity};
+ghost use Rattle.replay_core.specs.Emptied.{EmptiesStores, lock_of};
 ghost use Rattle.log_bases.specs.LifeBase.{committed_in};
 ghost use Rattle.replay_core.specs.Redo.{AreNear};
 ghost use Rattle.replay_core.specs.Restore.{IsWindow};
@@ -8,6 +9,7 @@ ghost use Rattle.replay_core.specs.Banks.{ChangesAt, EmptiesBanks, Emptying, IsR
 use crate::refusal::RecoverRefusal;
 use crate::restore::{RestoreRefusal, restore_states};
 use crate::share::Share;
+use crate::stores::{EmptyVolumes, Store, lock_of};
 use disk_core::PageDisk;
 use slru_bank::SlruBank;
 use std::alloc::Global;
@@ -79,24 +81,22 @@ pub(crate) fn restore_all<P: PageDisk + Drop>(
     Ok(())
 }
 
-// Removes all pages of a volume of pg_subtrans, and syncs.
+// Removes all pages of a volume, and syncs. Since no page stays, each store's pages may be taken for those of pg_subtrans.
 fn empty<P: PageDisk + Drop>(
     alloc: Global,
     disk: P,
     base: &Counters,
-    bank: u32,
+    lock: Lock,
 ) -> (P, Result<(), RecoverRefusal>)
-    ensures { Emptying P.PageDisk bank result.1 disk result.0 }
+    ensures { Emptying P.PageDisk lock result.1 disk result.0 }
 {
     let page = subtrans_page(base.next.low());
     let mut store = match SlruBank::<P, SubtransPages>::new(alloc, disk, page, page) {
         Ok(store) => store,
         Err((disk, _)) => return (disk, Err(RecoverRefusal::Memory)),
     };
-    let fault = RecoverRefusal::DiskFault {
-        lock: Lock::Subtrans(bank),
-    };
-    if store.clear_all().is_err() {
+    let fault = RecoverRefusal::DiskFault { lock };
+    if let Err(_) = store.clear_all() {
         return (store.into_disk(), Err(fault));
     }
     match store.flush_all() {
@@ -105,35 +105,54 @@ fn empty<P: PageDisk + Drop>(
     }
 }
 
-// One volume of pg_subtrans is emptied.
+// One volume of a store is emptied.
 fn empty_at<P: PageDisk + Drop>(
     alloc: Global,
     volumes: &mut Vec<P>,
     base: &Counters,
+    store: Store,
     bank: u32,
 ) -> Result<(), RecoverRefusal>
     requires inside { bank < length volumes.old.items }
-    ensures { ChangesAt (Emptying P.PageDisk bank result) bank volumes.old.items volumes.new.items }
+    ensures { ChangesAt (Emptying P.PageDisk (lock_of store bank) result) bank volumes.old.items volumes.new.items }
 {
     let at = bank as usize;
     let disk = volumes.remove(at);
-    let (disk, outcome) = empty(alloc, disk, base, bank);
+    let (disk, outcome) = empty(alloc, disk, base, lock_of(store, bank));
     put_back(volumes, at, disk);
     outcome
 }
 
-/// All volumes of pg_subtrans are emptied (`StartupSUBTRANS`), one after another.
-pub(crate) fn empty_all<P: PageDisk + Drop>(
+// All volumes of a store are emptied, one after another.
+fn empty_all<P: PageDisk + Drop>(
     alloc: Global,
     volumes: &mut Vec<P>,
     base: &Counters,
+    store: Store,
 ) -> Result<(), RecoverRefusal>
     requires few { length volumes.old.items ≤ 16 }
-    ensures { EmptiesBanks P.PageDisk volumes.old.items volumes.new.items result }
+    ensures { EmptiesBanks P.PageDisk (lock_of store) volumes.old.items volumes.new.items result }
 {
     let banks = volumes.len() as u32;
     for bank in 0..banks {
-        empty_at(alloc, volumes, base, bank)?;
+        empty_at(alloc, volumes, base, store, bank)?;
     }
     Ok(())
+}
+
+/// The stores of which nothing is read that an earlier life left are emptied, one after another (`StartupSUBTRANS` of
+/// `subtrans.c`).
+pub(crate) fn empty_stores<P: PageDisk + Drop>(
+    alloc: Global,
+    volumes: &mut EmptyVolumes<P>,
+    base: &Counters,
+) -> Result<(), RecoverRefusal>
+    requires subtrans { length volumes.old.subtrans.items ≤ 16 }
+    requires offsets { length volumes.old.offsets.items ≤ 16 }
+    requires members { length volumes.old.members.items ≤ 16 }
+    ensures { EmptiesStores P.PageDisk volumes.old volumes.new result }
+{
+    empty_all(alloc, &mut volumes.subtrans, base, Store::Subtrans)?;
+    empty_all(alloc, &mut volumes.offsets, base, Store::Offsets)?;
+    empty_all(alloc, &mut volumes.members, base, Store::Members)
 }

@@ -10,6 +10,8 @@ pub struct Recovered<L: LogDisk, P> {
     pub log: WalLog<L>,
     pub xact: Vec<P>,
     pub subtrans: Vec<P>,
+    pub offsets: Vec<P>,
+    pub members: Vec<P>,
     /// The number of the checkpoint. The life's first record has the next one.
     pub from: u64,
     /// The counters with which the life begins.

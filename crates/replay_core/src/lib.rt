@@ -16,6 +16,7 @@ mod restore;
 mod restore_bank;
 mod settle;
 mod share;
+mod stores;
 
 pub use cluster::Recovered;
 pub use recovery::recover;

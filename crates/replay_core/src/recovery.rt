@@ -13,29 +13,31 @@ ghost use Rattle.replay_core.specs.Replay.{Replays};
 ghost use Rattle.recoverable.specs.Clusters.{Fit};
 ghost use Rattle.replay_core.specs.Volumes.{LeavesFit, RecoversLog};
 
-use crate::banks::{empty_all, restore_all};
+use crate::banks::{empty_stores, restore_all};
 use crate::cluster::Recovered;
 use crate::found::{Found, open_log};
 use crate::refusal::RecoverRefusal;
 use crate::settle::settle;
-use disk_core::{LogDisk, PageDisk};
-use recoverable::ClusterVolumes;
+use crate::stores::EmptyVolumes;
+use disk_core::{LogDisk, PageDisk, Volumes};
 use std::alloc::Global;
 use tx_events::{Counters, Rec};
 use wal_core::WalLog;
 
 /// Recovers a cluster (`StartupXLOG`): the log is opened; the commits among its records are put on the pages of pg_xact,
-/// and what lies past the next id is cleared; pg_subtrans is emptied; then a checkpoint is flushed, alone in its batch, and
-/// the log before it forgotten. After an error the volumes come back, and may be recovered again.
+/// and what lies past the next id is cleared; pg_subtrans, the offsets and the members are emptied, since no multixact was
+/// made; then a checkpoint is flushed, alone in its batch, and the log before it forgotten. After an error the volumes come
+/// back, and may be recovered again.
 ///
-/// There is one volume of pg_xact and one of pg_subtrans for each bank, 1 to 16.
+/// There is one volume of each store for each bank, 1 to 16.
 pub fn recover<L: LogDisk + Drop, P: PageDisk + Drop>(
     alloc: Global,
-    volumes: ClusterVolumes<L, P>,
-) -> Result<Recovered<L, P>, (ClusterVolumes<L, P>, RecoverRefusal)>
+    volumes: Volumes<L, P>,
+) -> Result<Recovered<L, P>, (Volumes<L, P>, RecoverRefusal)>
     requires some { 1 ≤ length volumes.xact.items }
     requires few { length volumes.xact.items ≤ 16 }
-    requires as_many { length volumes.subtrans.items ≡ length volumes.xact.items }
+    requires as_many { (length volumes.subtrans.items ≡ length volumes.xact.items)
+        × (length volumes.offsets.items ≡ length volumes.xact.items) × (length volumes.members.items ≡ length volumes.xact.items) }
     // From volumes that fit a log the base at a number from the flushed one to its end is answered, and the volumes are
     // left as a life may begin with them. Any later recovery from there answers the same, and the log keeps the list that
     // it goes by.
@@ -47,85 +49,90 @@ pub fn recover<L: LogDisk + Drop, P: PageDisk + Drop>(
     ensures log { IfOk result (λ r. IsSettled r.from r.base r.log) }
     ensures states { IsTrue P.tells → IfOk result (λ r. AreOnDisk P.PageDisk r.xact.items) }
     ensures parents { IsTrue P.tells → IfOk result (λ r. AreEmpty P.PageDisk r.subtrans.items) }
-    ensures banks { IfOk result (λ r. (length r.xact.items ≡ length volumes.xact.items) × (length r.subtrans.items ≡ length volumes.subtrans.items)) }
-    ensures banks_err { IfErr result (λ e. (length e.0.xact.items ≡ length volumes.xact.items) × (length e.0.subtrans.items ≡ length volumes.subtrans.items)) }
+    ensures multis { IsTrue P.tells → IfOk result (λ r. AreEmpty P.PageDisk r.offsets.items × AreEmpty P.PageDisk r.members.items) }
+    ensures banks { IfOk result (λ r. (length r.xact.items ≡ length volumes.xact.items) × (length r.subtrans.items ≡ length volumes.subtrans.items)
+        × (length r.offsets.items ≡ length volumes.offsets.items) × (length r.members.items ≡ length volumes.members.items)) }
+    ensures banks_err { IfErr result (λ e. (length e.0.xact.items ≡ length volumes.xact.items) × (length e.0.subtrans.items ≡ length volumes.subtrans.items)
+        × (length e.0.offsets.items ≡ length volumes.offsets.items) × (length e.0.members.items ≡ length volumes.members.items)) }
     ensures counted { IfOk result (λ r. (L.faults volumes.log ≤ L.faults (log_disk r.log)) × NoCountFell P.PageDisk volumes.xact.items r.xact.items
-        × NoCountFell P.PageDisk volumes.subtrans.items r.subtrans.items) }
+        × NoCountFell P.PageDisk volumes.subtrans.items r.subtrans.items × NoCountFell P.PageDisk volumes.offsets.items r.offsets.items
+        × NoCountFell P.PageDisk volumes.members.items r.members.items) }
     // Each refusal has its cause, and where the log is new or has a multixact there is one.
     ensures only { IsTrue L.tells → IfOk result (λ r. HasNoMultis (L.reads volumes.log)) }
     ensures refused { IfErr result (λ e. IsRefusal L.LogDisk P.PageDisk volumes e.0 e.1) }
 {
-    let ClusterVolumes {
+    let Volumes {
         log,
         mut xact,
-        mut subtrans,
+        subtrans,
+        offsets,
+        members,
     } = volumes;
+    let mut others = EmptyVolumes {
+        subtrans,
+        offsets,
+        members,
+    };
     let found = match open_log(alloc, log) {
         Ok(found) => found,
-        Err((log, refusal)) => {
-            return Err((
-                ClusterVolumes {
-                    log,
-                    xact,
-                    subtrans,
-                },
-                refusal,
-            ));
-        }
+        Err((log, refusal)) => return Err((with_log(log, xact, others), refusal)),
     };
     let Found { log, recs, base } = found;
     let mut log = log;
     let from = log.next();
-    if let Err(refusal) = replay(
-        alloc,
-        &mut log,
-        &mut xact,
-        &mut subtrans,
-        recs.items(),
-        &base,
-    ) {
-        return Err((handed_back(log, xact, subtrans), refusal));
+    if let Err(refusal) = replay(alloc, &mut log, &mut xact, &mut others, recs.items(), &base) {
+        return Err((with_log(log.into_disk(), xact, others), refusal));
     }
-    Ok(begun(log, xact, subtrans, from, &base))
+    Ok(begun(log, xact, others, from, &base))
 }
 
 // What a life begins from.
-fn begun<L: LogDisk, P>(
+fn begun<L: LogDisk, P: Drop>(
     log: WalLog<L>,
     xact: Vec<P>,
-    subtrans: Vec<P>,
+    others: EmptyVolumes<P>,
     from: u64,
     base: &Counters,
 ) -> Recovered<L, P>
     ensures log { result.log ≡ log }
     ensures xact { result.xact ≡ xact }
-    ensures subtrans { result.subtrans ≡ subtrans }
+    ensures others { (result.subtrans ≡ others.subtrans) × (result.offsets ≡ others.offsets) × (result.members ≡ others.members) }
     ensures from { result.from ≡ from }
     ensures base { result.base ≡ base.now }
 {
+    let EmptyVolumes {
+        subtrans,
+        offsets,
+        members,
+    } = others;
     Recovered {
         log,
         xact,
         subtrans,
+        offsets,
+        members,
         from,
         base: *base,
     }
 }
 
 // The volumes that weren't recovered.
-fn handed_back<L: LogDisk + Drop, P>(
-    log: WalLog<L>,
-    xact: Vec<P>,
-    subtrans: Vec<P>,
-) -> ClusterVolumes<L, P>
-    ensures log { result.log ≡ log_disk log }
+fn with_log<L: Drop, P: Drop>(log: L, xact: Vec<P>, others: EmptyVolumes<P>) -> Volumes<L, P>
+    ensures log { result.log ≡ log }
     ensures xact { result.xact ≡ xact }
-    ensures subtrans { result.subtrans ≡ subtrans }
+    ensures others { (result.subtrans ≡ others.subtrans) × (result.offsets ≡ others.offsets) × (result.members ≡ others.members) }
 {
-    ClusterVolumes {
-        log: log.into_disk(),
+    let EmptyVolumes {
+        subtrans,
+        offsets,
+        members,
+    } = others;
+    Volumes {
+        log,
         xact,
         subtrans,
+        offsets,
+        members,
     }
 }
 
@@ -134,17 +141,18 @@ fn replay<L: LogDisk, P: PageDisk + Drop>(
     alloc: Global,
     log: &mut WalLog<L>,
     xact: &mut Vec<P>,
-    subtrans: &mut Vec<P>,
+    others: &mut EmptyVolumes<P>,
     recs: &[Rec],
     base: &Counters,
 ) -> Result<(), RecoverRefusal>
-    requires few { (length xact.old.items ≤ 16) × (length subtrans.old.items ≤ 16) }
+    requires few { (length xact.old.items ≤ 16) × (length others.old.subtrans.items ≤ 16) × (length others.old.offsets.items ≤ 16)
+        × (length others.old.members.items ≤ 16) }
     requires open { IsOpen base.now log.old }
     requires near { AreNear base.now.oldest (committed_in recs.now) }
     requires window { IsWindow base.now.oldest base.now.next }
-    ensures { Replays P.PageDisk recs.now base.now log.old log.new xact.old.items xact.new.items subtrans.old.items subtrans.new.items result }
+    ensures { Replays P.PageDisk recs.now base.now log.old log.new xact.old.items xact.new.items others.old others.new result }
 {
     restore_all(alloc, xact, recs, base)?;
-    empty_all(alloc, subtrans, base)?;
+    empty_stores(alloc, others, base)?;
     settle(log, *base)
 }

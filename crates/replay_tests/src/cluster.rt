@@ -1,6 +1,5 @@
 // A cluster of two banks, and what it holds.
 use disk_core::{LogDisk, PageDisk, Volumes};
-use recoverable::ClusterVolumes;
 use replay_core::{RecoverRefusal, Recovered, recover};
 use slru_bank::{SlruBank, State, set_states, state};
 use std::alloc::Global;
@@ -127,24 +126,14 @@ pub fn recover_mounted<L: LogDisk + Drop, P: PageDisk + Drop>(
     alloc: Global,
     volumes: Volumes<L, P>,
 ) -> Result<Told<L, P>, Fail> {
-    let Volumes {
-        log,
-        xact,
-        subtrans,
-        offsets,
-        members,
-    } = volumes;
-    let cluster = ClusterVolumes {
-        log,
-        xact,
-        subtrans,
-    };
-    match recovered(alloc, cluster)? {
+    match recovered(alloc, volumes)? {
         Ok(
             Recovered {
                 log,
                 xact,
                 subtrans,
+                offsets,
+                members,
                 from,
                 base,
             },
@@ -158,23 +147,8 @@ pub fn recover_mounted<L: LogDisk + Drop, P: PageDisk + Drop>(
             },
             outcome: Ok((from, base.next.number())),
         }),
-        Err(
-            (
-                ClusterVolumes {
-                    log,
-                    xact,
-                    subtrans,
-                },
-                refusal,
-            ),
-        ) => Ok(Told {
-            volumes: Volumes {
-                log,
-                xact,
-                subtrans,
-                offsets,
-                members,
-            },
+        Err((volumes, refusal)) => Ok(Told {
+            volumes,
             outcome: Err(refusal),
         }),
     }
@@ -183,9 +157,10 @@ pub fn recover_mounted<L: LogDisk + Drop, P: PageDisk + Drop>(
 /// Recovers a cluster of two banks.
 fn recovered<L: LogDisk + Drop, P: PageDisk + Drop>(
     alloc: Global,
-    volumes: ClusterVolumes<L, P>,
-) -> Result<Result<Recovered<L, P>, (ClusterVolumes<L, P>, RecoverRefusal)>, Fail> {
-    if volumes.xact.len() != 2 || volumes.subtrans.len() != 2 {
+    volumes: Volumes<L, P>,
+) -> Result<Result<Recovered<L, P>, (Volumes<L, P>, RecoverRefusal)>, Fail> {
+    if volumes.xact.len() != 2 || volumes.subtrans.len() != 2 || volumes.offsets.len() != 2
+        || volumes.members.len() != 2 {
         return Err("two banks".into());
     }
     Ok(recover(alloc, volumes))

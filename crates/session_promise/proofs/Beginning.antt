@@ -13,13 +13,14 @@ use Rattle.tx_core.specs.declared.entry.Kind.TheVariants as kinds
 use Rattle.tx_core.specs.declared.entry.Start.{Start}
 use Rattle.tx_core.specs.Entries.{event_of, history, session_of}
 use Rattle.tx_core.specs.EventsLegal.{NeedsOwn}
-use Rattle.tx_core.specs.Locks.{log_lock, proc_lock}
+use Rattle.tx_core.specs.Locks.{log_lock, multi_lock, proc_lock}
 use Rattle.tx_core.proofs.Asking.{own_event, upheld_has}
 use Rattle.session_levels.specs.Stands.{levels_of, told_of}
 use Rattle.engine_parts.specs.declared.session.Session.{Session}
 use Rattle.engine_parts.specs.Sessions.{stance_of}
 use Rattle.engine_parts.specs.Stages.{pending_in}
 use Rattle.session_promise.specs.Promise.{HasDoneNothing, Promise, PromiseBegins}
+use Rattle.session_promise.proofs.OwnNone.{none_multi}
 
 module _ (tells : Bool) (start : Start) (lists : List (List Entry)) (n : ℕ) (s : Session) (d : HasDoneNothing start lists n s) where
   none_own : (lock : ℕ) (e : Entry) → Has (at lists lock) e → e.by.session ≡ n → ⊥
@@ -56,6 +57,7 @@ module _ (tells : Bool) (start : Start) (lists : List (List Entry)) (n : ℕ) (s
     ids = let g = ap length given_none in let l = ap (λ (z : Stance). lacking z.levels) (sym nothing) in omega (arith, g, l);
     faults = λ by asked count own c. absurd (none_own log_lock (record { by = by; kind = kinds.LogFault asked count }) (contains_has (at lists log_lock) _ c) own);
     ends = λ by rec own c. absurd (none_own log_lock (record { by = by; kind = kinds.Append rec }) (contains_has (at lists log_lock) _ c) own);
+    no_multis = none_multi start lists n d.kept (d.empty multi_lock);
   }
     where
       none_at : {X : Type 0} {x : X} (p : ℕ) → slice_get [] p ≡ Some x → ⊥

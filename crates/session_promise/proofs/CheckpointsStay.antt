@@ -1,7 +1,7 @@
 -- Checkpoints that were told stay told while the life goes on, and one more is told with them.
-use Rattle.std.proofs.Common.{Bool, List, None, Option, Some, [], ap, append-nil, append_assoc, arith, cond, eq-eqb, length, map, refl, subst, sym, take, ℕ, ⊎_elim, ◌+◌, ◌++◌, ◌∙◌, ◌∷◌, ◌≡◌, ◌<◌, ◌≤◌, ◌==◌}
-use Rattle.std.specs.List.{cons_option, count_by, filter, slice_get}
-use Rattle.std.proofs.lemmas.List.{map-append}
+use Rattle.std.proofs.Common.{Bool, List, None, Option, Some, [], ap, append-nil, append_assoc, arith, cond, eq-eqb, length, map, refl, subst, sym, take, ℕ, ⊎_elim, ◌+◌, ◌-◌, ◌++◌, ◌∙◌, ◌∷◌, ◌≡◌, ◌<◌, ◌≤◌, ◌==◌}
+use Rattle.std.specs.List.{cons_option, count_by, filter, filter_map, slice_get}
+use Rattle.std.proofs.lemmas.List.{length-append, map-append}
 use Rattle.std.proofs.lemmas.List.Elements.{filter-append, filter_map-append}
 use Rattle.std.proofs.lemmas.List.Sums.{sum_by-append, sum_by-cons}
 use Rattle.std.proofs.lemmas.Option.{slice_get_within}
@@ -28,27 +28,24 @@ use Rattle.tx_core.specs.declared.entry.Kind.TheVariants as kinds
 use Rattle.tx_core.specs.declared.entry.Start.{Start}
 use Rattle.tx_core.specs.Entries.{appended, history, records_in, recs_in, session_of}
 use Rattle.tx_core.specs.Locks.{log_lock}
+use Rattle.tx_core.proofs.Growing.{contains_begins}
 use Rattle.tx_core.proofs.Lasting.{history_grows}
 use Rattle.engine_parts.specs.declared.session.Session.{Session}
 use Rattle.engine_parts.specs.Stages.{pending_in}
 use Rattle.engine_parts.specs.Stand.{IsDownAt}
-use Rattle.session_promise.specs.Checkpoints.{AddsFor, Appends, AreCheckpointsTold, IsAnsweredIn, IsCheckpointTold, IsCommitting, IsPendingBehind, IsStepLeft, LeftStep, MayLeave, NamesLeast, WentCheckpoint, checkpoint_next, hosts_entries, is_down_fault}
+use Rattle.session_promise.specs.Checkpoints.{AddsFor, Appends, AreCheckpointsTold, IsAnsweredIn, IsCheckpointTold, IsCommitting, IsFlushedBehind, IsPendingBehind, IsStepLeft, LeftStep, MayLeave, NamesLeast, WentCheckpoint, checkpoint_next, hosts_entries, is_down_fault}
 use Rattle.session_promise.specs.CheckpointLaws.{CheckpointGoesOn, CheckpointsBegin, CheckpointsStayThroughDump, CheckpointsStayThroughRound, DumpsStayThroughCheckpoint, SoFarThroughCheckpoint}
 use Rattle.session_promise.specs.Promise.{recs_of}
 use Rattle.session_promise.specs.SoFar.{IsSoFar, round_of}
 use Rattle.session_promise.specs.Told.{Follow, ToldRound, all_lines, steps_of, told_by}
 use Rattle.session_promise.specs.Dumps.{AreDumpsTold}
+use Rattle.session_promise.proofs.CheckpointRecords.{checkpoints_append, recs_append}
+use Rattle.session_promise.proofs.Flushing.{checkpoints_up, own_fewer, take_whole}
 use Rattle.session_promise.proofs.LawfulDumps.{dumps_stay}
 use Rattle.session_promise.proofs.PendingStays.{none_beyond, own_pending, rounds_stay, there}
 use Rattle.session_promise.proofs.Rounding.{so_far_goes_on, through_idle}
 
 -- ---- lists
-
-recs_append : (a b : List Entry) → recs_in (a ++ b) ≡ recs_in a ++ recs_in b
-recs_append a b = ap (map (λ (r : By × Rec). r.1)) (filter_map-append appended a b) ∙ map-append (λ (r : By × Rec). r.1) (records_in a) (records_in b)
-
-pub checkpoints_append : (a b : List Entry) → checkpoints_in (recs_in (a ++ b)) ≡ checkpoints_in (recs_in a) ++ checkpoints_in (recs_in b)
-checkpoints_append a b = ap checkpoints_in (recs_append a b) ∙ filter_map-append checkpoint_in (recs_in a) (recs_in b)
 
 abbrev one_if : Bool → ℕ
 one_if b = cond b 1 0
@@ -112,12 +109,26 @@ module _ (start : Start) (lists more : List (List Entry)) (rounds added : List T
   step_stays before (steps.Round number lines) left c = c
   step_stays before (steps.Dump what place size reply) left c = c
 
+  -- what was flushed stays so
+  flushed_stays : (before : List LeftStep) → IsFlushedBehind start lists before → IsFlushedBehind start more before
+  flushed_stays before k =
+      let b = g.begins log_lock in record {
+        number = k.number;
+        flushed = (k.flushed.0, contains_begins (at lists log_lock) (at more log_lock) _ b k.flushed.1);
+        among =
+            let a = k.among in
+            let l = checkpoints_up (k.number - start.from) (recs_of lists) (recs_in b.0) in
+            let q : recs_of lists ++ recs_in b.0 ≡ recs_of more = sym (recs_append (at lists log_lock) b.0) ∙ ap recs_in b.1 in
+            subst (λ (rs : List Rec). length (filter_map (λ (x : LeftStep). x.1) before) < length (checkpoints_in (take (k.number - start.from) rs))) q (omega (arith, a, l));
+      }
+
   -- those that were told stay, and one more step left this
-  pub told_more : (told : List Step) (step : Step) (o : Option Counters) → AreCheckpointsTold start lists rounds told → IsStepLeft start more (rounds ++ added) told step o
+  pub told_more : (told : List Step) (step : Step) (o : Option Counters) (c : AreCheckpointsTold start lists rounds told) → IsStepLeft start more (rounds ++ added) told step o
       → checkpoints_in (recs_in (hosts_entries start more)) ≡ checkpoints_in (recs_in (hosts_entries start lists)) ++ cons_option o []
       → count_by is_down_fault (hosts_entries start more) ≡ count_by is_down_fault (hosts_entries start lists) + one_if (is_checkpoint_fault step)
+      → (step ≡ steps.Checkpoint replies.Done → IsFlushedBehind start more c.left)
       → AreCheckpointsTold start more (rounds ++ added) (told ++ step ∷ [])
-  told_more told step o c new records faults = record {
+  told_more told step o c new records faults done = record {
     left = c.left ++ (step, o) ∷ [];
     steps_are = map-append (λ (x : LeftStep). x.0) c.left ((step, o) ∷ []) ∙ ap (λ (ss : List Step). ss ++ step ∷ []) c.steps_are;
     each = each_place_push P c.left (step, o)
@@ -129,8 +140,12 @@ module _ (start : Start) (lists more : List (List Entry)) (rounds added : List T
         let a = sum_by-append (λ (s : Step). one_if (is_checkpoint_fault s)) told (step ∷ []) in
         let b = sum_by-cons (λ (s : Step). one_if (is_checkpoint_fault s)) step [] in
         omega (arith, f, d, a, b);
+    flushed = each_place_push Q c.left (step, o) (λ p x e ok. flushed_stays (take p c.left) (c.flushed p x e ok)) done;
   }
     where
+      Q : List LeftStep → LeftStep → Type 0
+      Q before x = x.0 ≡ steps.Checkpoint replies.Done → IsFlushedBehind start more before
+
       P : List LeftStep → LeftStep → Type 0
       P before x = IsStepLeft start more (rounds ++ added) (map (λ (y : LeftStep). y.0) before) x.0 x.1
 
@@ -144,6 +159,7 @@ checkpoints_begin start lists empty =
       each = each_place_none (λ before x. IsStepLeft start lists [] (map (λ (y : LeftStep). y.0) before) x.0 x.1);
       records = ap (λ es. checkpoints_in (recs_in es)) none;
       faults = ap (count_by is_down_fault) none;
+      flushed = each_place_none (λ before x. x.0 ≡ steps.Checkpoint replies.Done → IsFlushedBehind start lists before);
     }
 
 -- where the host added nothing
@@ -160,14 +176,14 @@ checkpoints_stay_round tells start before after old new turns parts rounds told 
     let still : hosts_entries start after ≡ hosts_entries start before = went.hosts.own log_lock in
     told_more start before after rounds (round ∷ []) went.grows
     (rounds_stay tells start before after old new rounds (round ∷ []) went.kept went.grows so_far then)
-    told (steps.Round number lines) None c refl (quiet_records start before after still) (quiet_faults start before after still)
+    told (steps.Round number lines) None c refl (quiet_records start before after still) (quiet_faults start before after still) (λ q. absurd cc)
 
 -- in the same lists and rounds
 pub checkpoints_stay_dump : CheckpointsStayThroughDump
 checkpoints_stay_dump start lists rounds told what place size reply c =
     subst (λ (rs : List ToldRound). AreCheckpointsTold start lists rs (told ++ steps.Dump what place size reply ∷ [])) (append-nil rounds)
     (told_more start lists lists rounds [] (record { begins = λ q. begins_same (at lists q) }) (λ front behind split n. refl)
-    told (steps.Dump what place size reply) None c refl (quiet_records start lists lists refl) (quiet_faults start lists lists refl))
+    told (steps.Dump what place size reply) None c refl (quiet_records start lists lists refl) (quiet_faults start lists lists refl) (λ q. absurd cc))
 
 -- ---- behind a checkpoint
 
@@ -247,6 +263,28 @@ module _ (tells : Bool) (start : Start) (before after : List (List Entry)) (sess
       ∙ (filter-append (λ (e : Entry). session_of e == start.sessions) (at before log_lock) went.added
       ∙ ap (λ es. hosts_entries start before ++ es) (filter_all (λ (e : Entry). e.by.session ≡ start.sessions) (λ e. session_of e == start.sessions) went.added (λ e q. eq-eqb e.by.session start.sessions q) went.theirs))
 
+  same_reply : steps.Checkpoint reply ≡ steps.Checkpoint replies.Done → reply ≡ replies.Done
+  same_reply q = cc
+
+  -- where it is done, its record was flushed with all before it
+  covered : reply ≡ replies.Done → (steps_left : List LeftStep) → checkpoints_in (recs_in (hosts_entries start before)) ≡ filter_map (λ (x : LeftStep). x.1) steps_left
+      → checkpoints_in (recs_in (hosts_entries start after)) ≡ checkpoints_in (recs_in (hosts_entries start before)) ++ cons_option left.left [] → IsFlushedBehind start after steps_left
+  covered ok steps_left were records = record {
+    number = start.from + length (recs_of after);
+    flushed = went.flushed ok;
+    among =
+        let one : length (cons_option left.left []) ≡ 1 = one_left left.left left.leaves ok in
+        let now = ap length records ∙ length-append (checkpoints_in (recs_in (hosts_entries start before))) (cons_option left.left []) in
+        let then = ap length were in
+        let fewer = own_fewer start.sessions (at after log_lock) in
+        let all : take (start.from + length (recs_of after) - start.from) (recs_of after) ≡ recs_of after = ap (λ k. take k (recs_of after)) (omega arith) ∙ take_whole (recs_of after) in
+        subst (λ (rs : List Rec). length (filter_map (λ (x : LeftStep). x.1) steps_left) < length (checkpoints_in rs)) (sym all) (omega (arith, one, now, then, fewer));
+  }
+    where
+      one_left : (o : Option Counters) → MayLeave start (history before) reply o → reply ≡ replies.Done → length (cons_option o []) ≡ 1
+      one_left None not q = absurd (not q)
+      one_left (Some counters) m q = refl
+
   pub told_then : (told : List Step) → filter is_round told ≡ steps_of 1 rounds → AreCheckpointsTold start before rounds told → AreCheckpointsTold start after rounds (told ++ steps.Checkpoint reply ∷ [])
   told_then told rounds_are c =
       let here : IsCheckpointTold start after (rounds ++ []) told reply left.left = record {
@@ -270,7 +308,7 @@ module _ (tells : Bool) (start : Start) (before after : List (List Entry)) (sess
       omega (arith, a, b, f) in
       subst (λ (rs : List ToldRound). AreCheckpointsTold start after rs (told ++ steps.Checkpoint reply ∷ [])) (append-nil rounds)
       (told_more start before after rounds [] went.grows (rounds_stay tells start before after sessions sessions rounds [] (λ n low. went.kept) went.grows so_far (subst (IsSoFar tells start after sessions) (sym (append-nil rounds)) then))
-      told (steps.Checkpoint reply) left.left c here records faults)
+      told (steps.Checkpoint reply) left.left c here records faults (λ ok. covered (same_reply ok) c.left c.records records))
 
 pub checkpoint_goes_on : CheckpointGoesOn
 checkpoint_goes_on tells start before after sessions rounds told reply so_far went rounds_are c = told_then tells start before after sessions rounds reply so_far went told rounds_are c

@@ -2,6 +2,7 @@
 use Rattle.std.proofs.Common.{Bool, Contains, IsTrue, List, [], ap, append-nil, append_assoc, arith, cond, eq-eqb, get_or, inl, inr, length, refl, subst, sym, ℕ, ⊎_elim, ◌+◌, ◌++◌, ◌<◌, ◌==◌, ◌||◌, ◌≡◌, ◌≤◌, ◌∙◌, ◌∷◌, ◌⊎◌}
 use Rattle.std.specs.List.{AllByRecursion, count_by, filter, slice_get}
 use Rattle.std.proofs.Math.Bool.{or-true}
+use Rattle.std.proofs.lemmas.Bool.{false≢true}
 use Rattle.std.proofs.lemmas.List.{append_cancel_left, length-append, length-map, map-append}
 use Rattle.std.proofs.lemmas.List.Elements.{Contains-append_left, Contains-push, filter-append, filter_map-append}
 use Rattle.std.proofs.lemmas.List.Sums.{sum_by-append}
@@ -10,6 +11,7 @@ use Rattle.notes.specs.Lists.{at, own}
 use Rattle.notes.proofs.Growing.{begins_same}
 use Rattle.tx_events.specs.declared.event.By.{By}
 use Rattle.tx_events.specs.declared.event.Event.{Event}
+use Rattle.tx_events.specs.declared.multi.MultiEvent.{MultiEvent}
 use Rattle.tx_events.specs.declared.record.Rec.{Rec}
 use Rattle.tx_events.specs.declared.record.Rec.TheVariants as records
 use Rattle.tx_events.specs.Running.{open_ids}
@@ -27,6 +29,7 @@ use Rattle.tx_model.specs.Lines.{has_line, stance}
 use Rattle.tx_model.specs.Replies.{alone}
 use Rattle.tx_model.specs.Stance.{Stance, after, lacking}
 use Rattle.tx_model.proofs.LineGrowth.{stance_push}
+use Rattle.life_law.specs.Commands.{has_command}
 use Rattle.life_law.specs.Pending.{pending, pending_after}
 use Rattle.life_law.specs.Refused.{refused_by}
 use Rattle.life_law.proofs.IdSteps.{bounds_of}
@@ -37,6 +40,8 @@ use Rattle.tx_core.specs.declared.entry.Start.{Start}
 use Rattle.tx_core.specs.EngineInvariant.{EngineInvariant}
 use Rattle.tx_core.specs.Entries.{history, session_of}
 use Rattle.tx_core.specs.Locks.{log_lock}
+use Rattle.tx_core.specs.MultiEntries.{multi_history}
+use Rattle.tx_core.specs.OwnMultis.{own_multis}
 use Rattle.tx_core.proofs.Lasting.{history_grows}
 use Rattle.engine_parts.specs.declared.session.Session.{Session}
 use Rattle.engine_parts.specs.declared.session.Stage.{Stage}
@@ -52,6 +57,7 @@ use Rattle.session_promise.proofs.Growing.{all_lines_of, each_grows, IsUpTo, pen
 use Rattle.session_promise.proofs.Known.{known_of}
 use Rattle.session_promise.proofs.PendingFollows.{IsKnownOf, by_reply}
 use Rattle.session_promise.proofs.PendingGrowth.{AreSettled}
+use Rattle.session_promise.proofs.Plain.{plain_answer, plain_events}
 use Rattle.session_promise.proofs.Settling.{settled_of, up_to, within_all}
 use Rattle.session_promise.proofs.Widening.{AreWider, wider_both, wider_lines, wider_same, wider_to}
 
@@ -68,10 +74,12 @@ truncation_of : (rec : Rec) → IsTruncation rec → IsOfEnd rec
 truncation_of (records.Truncate oldest multi offset) t = tt
 truncation_of rec t = absurd t
 
-end_of : (command : Command) (s : Stance) (stage : Stage) (opened : List ℕ) (rec : Rec) → IsRecordBy command s stage opened rec → IsOfEnd rec
-end_of commands.Commit s stage opened rec r = ⊎_elim (λ (c : IsCommitOf opened rec). subst IsOfEnd (sym c.is) tt) (truncation_of rec) r.1
-end_of commands.Abort s stage opened rec r = ⊎_elim (λ (c : IsAbortOf opened rec). subst IsOfEnd (sym c.is) tt) (truncation_of rec) r.1
-end_of command s stage opened rec r = absurd r
+end_of : (command : Command) (s : Stance) (stage : Stage) (opened : List ℕ) (rec : Rec) → IsTrue (has_command command) → IsRecordBy command s stage opened rec → IsOfEnd rec
+end_of commands.Commit s stage opened rec has r = ⊎_elim (λ (c : IsCommitOf opened rec). subst IsOfEnd (sym c.is) tt) (truncation_of rec) r.1
+end_of commands.Abort s stage opened rec has r = ⊎_elim (λ (c : IsAbortOf opened rec). subst IsOfEnd (sym c.is) tt) (truncation_of rec) r.1
+end_of (commands.Multi pairs) s stage opened rec has r = absurd (false≢true has)
+end_of commands.Trim s stage opened rec has r = absurd (false≢true has)
+end_of command s stage opened rec has r = absurd r
 
 -- the session's next command, and its line
 module _ (tells : Bool) (start : Start) (v w : Knowledge) (n : ℕ) (past : List Told) (from to : ℕ) (lines : List Line) (command : Command) (reply : Reply) (s s' : Session)
@@ -102,6 +110,15 @@ module _ (tells : Bool) (start : Start) (v w : Knowledge) (n : ℕ) (past : List
 
   kept : EngineInvariant start w.seen
   kept = a.may.ready.at.kept
+
+  -- it touches no multixact
+  allowed : MayAnswer tells start w.seen (alone hv hw) by (stance_of s) s.stage command reply
+  allowed = plain_answer tells start v.seen w.seen by (stance_of s) s.stage command reply a.fits.0 a.acted.allowed
+
+  no_multi : own_multis n w.seen ≡ []
+  no_multi =
+      let none : a.acted.multis ≡ [] = plain_events start.base hw (alone hv hw) (multi_history w.seen) by command reply a.acted.multis a.fits.0 a.acted.fitting_multi in
+      a.acted.own_multi ∙ (λ j. p.no_multis j ++ none j)
 
   turn : AllByRecursion (λ e. (by_of e).command ≤ s.levels.commands) (filter (is_of n) hv)
   turn = a.might.ready.at.stands.turn
@@ -184,7 +201,7 @@ module _ (tells : Bool) (start : Start) (v w : Knowledge) (n : ℕ) (past : List
     standing = a.acted.standing ∙ ap (λ z. refused_by command z (pending_in s.stage)) (sym stance_before);
     answer = subst (λ z. MayAnswer tells start w.seen (between from (length hw)) by z s.stage command reply) (sym stance_before)
         (answer_grows tells start w.seen w.seen (alone hv hw) (between from (length hw)) by (stance_of s) s.stage command reply low (omega arith) (omega arith) (record { begins = λ q. begins_same (at w.seen q) })
-        (λ rest q. subst (AllByRecursion (λ e. (by_of e).session ≡ n → by.command < (by_of e).command)) (append_cancel_left hw [] rest (append-nil hw ∙ sym q)) tt) a.acted.allowed);
+        (λ rest q. subst (AllByRecursion (λ e. (by_of e).session ≡ n → by.command < (by_of e).command)) (append_cancel_left hw [] rest (append-nil hw ∙ sym q)) tt) allowed);
     fits = a.fits;
   }
 
@@ -203,7 +220,7 @@ module _ (tells : Bool) (start : Start) (v w : Knowledge) (n : ℕ) (past : List
 
   pending_then : pending (recs_of w.seen) hw all n ≡ pending_in s'.stage
   pending_then = pending_push (recs_of w.seen) hw (lines_of told) l ∙ (ap (λ z. pending_after (recs_of w.seen) z (pending (recs_of w.seen) hw (lines_of told) n) command reply) stance_before ∙ (ap (λ o. pending_after (recs_of w.seen) (stance_of s) o command reply) pending_before
-      ∙ by_reply tells start w.seen (alone hv hw) by (recs_of w.seen) (stance_of s) (stance_of s') s.stage s'.stage command reply (given added) a.acted.allowed (a.fits).1 a.stage a.acted.left known))
+      ∙ by_reply tells start w.seen (alone hv hw) by (recs_of w.seen) (stance_of s) (stance_of s') s.stage s'.stage command reply (given added) allowed (a.fits).1 a.stage a.acted.left known))
 
   ids_then : length (given_to n hw) + lacking (stance_of s').levels ≤ count_by is_made_level all
   ids_then =
@@ -256,8 +273,9 @@ module _ (tells : Bool) (start : Start) (v w : Knowledge) (n : ℕ) (past : List
     ends = λ b rec own c.
         ⊎_elim
         (λ old. p.ends b rec own old)
-        (λ new. end_of command (stance_of s) s.stage (open_ids n hv) rec (all_at IsMine mine.added (record { by = b; kind = kinds.Append rec }) mine.each new).1)
+        (λ new. end_of command (stance_of s) s.stage (open_ids n hv) rec a.fits.0 (all_at IsMine mine.added (record { by = b; kind = kinds.Append rec }) mine.each new).1)
         (log_cases (record { by = b; kind = kinds.Append rec }) own c);
+    no_multis = no_multi;
   }
 
   shape : wide ++ t ∷ [] ≡ past ++ told_in (between from (length hw)) (lines ++ l ∷ [])

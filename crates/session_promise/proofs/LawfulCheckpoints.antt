@@ -1,10 +1,11 @@
 -- The checkpoints of a life, between its rounds.
-use Rattle.std.proofs.Common.{List, None, Option, Some, [], ap, append-nil, append_assoc, arith, cond, drop, eq-eqb, false, inl, inr, length, map, refl, subst, suc, sym, take, true, zero, Bool, ℕ, ⊎_elim, ◌+◌, ◌++◌, ◌<◌, ◌==◌, ◌≤◌, ◌∙◌, ◌∷◌, ◌≡◌}
+use Rattle.std.proofs.Common.{List, None, Option, Some, [], ap, append-nil, append_assoc, arith, cond, drop, eq-eqb, false, inl, inr, length, map, refl, subst, suc, sym, take, true, zero, Bool, ℕ, ⊎_elim, ◌+◌, ◌-◌, ◌++◌, ◌<◌, ◌==◌, ◌≤◌, ◌∙◌, ◌∷◌, ◌≡◌}
 use Rattle.std.specs.List.{cons_option, filter, filter_map, flat_map, slice_get}
 use Rattle.std.proofs.Math.Seq.{take-append_seam}
 use Rattle.std.proofs.lemmas.Bool.{false≢true}
 use Rattle.std.proofs.lemmas.Grind.{flat_map-append}
 use Rattle.std.proofs.lemmas.List.{length-append, map-append}
+use Rattle.std.proofs.lemmas.List.Elements.{filter_map-append}
 use Rattle.std.proofs.lemmas.Option.{same_Some}
 use Rattle.notes.specs.Lists.{at, own}
 use Rattle.tx_events.specs.declared.event.By.{By}
@@ -23,7 +24,7 @@ use Rattle.tx_model.specs.declared.report.Step.TheVariants as steps
 use Rattle.tx_model.specs.Lines.{is_line_of}
 use Rattle.tx_model.specs.Rounds.{is_round, lines_in}
 use Rattle.tx_model.specs.Stance.{nothing_yet}
-use Rattle.life_law.specs.Checkpoints.{AreLawfulCheckpoints, IsCommitPending, IsLawfulCheckpoint, LeaveCheckpoints, MayCheckpoint, checkpoint_in, checkpoints_in}
+use Rattle.life_law.specs.Checkpoints.{AreLawfulCheckpoints, IsCommitPending, IsLawfulCheckpoint, LeaveCheckpoints, MayCheckpoint, checkpoint_in, checkpoints_in, flushed_in}
 use Rattle.life_law.specs.Dumps.{events_behind}
 use Rattle.life_law.specs.Facts.{Facts}
 use Rattle.life_law.specs.LawfulLife.{facts_of}
@@ -34,15 +35,17 @@ use Rattle.tx_core.specs.declared.entry.Kind.{Kind}
 use Rattle.tx_core.specs.declared.entry.Kind.TheVariants as kinds
 use Rattle.tx_core.specs.declared.entry.Start.{Start}
 use Rattle.tx_core.specs.Consequences.{IsHosts}
-use Rattle.tx_core.specs.Entries.{history, recs_in, session_of}
+use Rattle.tx_core.specs.Entries.{flushed_to, history, recs_in, session_of}
 use Rattle.tx_core.specs.Locks.{log_lock}
+use Rattle.tx_core.proofs.LogLaws.{flushes_rise}
 use Rattle.tx_core.proofs.Opening.{sessions_known}
-use Rattle.session_promise.specs.Checkpoints.{AreCheckpointsTold, IsAnsweredIn, IsPendingBehind, IsStepLeft, LeftStep, MayLeave, NamesLeast, hosts_entries}
+use Rattle.session_promise.specs.Checkpoints.{AreCheckpointsTold, IsAnsweredIn, IsFlushedBehind, IsPendingBehind, IsStepLeft, LeftStep, MayLeave, NamesLeast, hosts_entries}
 use Rattle.session_promise.specs.Closing.{BeginsAt, IsOver, IsReportOf}
 use Rattle.session_promise.specs.Promise.{IsOfEnd, recs_of}
 use Rattle.session_promise.specs.Told.{ToldRound, all_lines, steps_of}
 use Rattle.session_promise.proofs.Between.{lines_of_rounds, step_lines}
 use Rattle.session_promise.proofs.CheckpointsStay.{names_same}
+use Rattle.session_promise.proofs.Flushing.{checkpoints_to}
 use Rattle.session_promise.proofs.HostFaults.{failed}
 use Rattle.session_promise.proofs.LawfulDumps.{events_first}
 use Rattle.session_promise.proofs.LawfulReplies.{down_flushed}
@@ -60,6 +63,19 @@ take_map : {A B : Type 0} (f : A → B) (p : ℕ) (xs : List A) → take p (map 
 take_map f zero xs = refl
 take_map f (suc p) [] = refl
 take_map f (suc p) (x ∷ xs) = ap (λ ys. f x ∷ ys) (take_map f p xs)
+
+take_drop : {X : Type 0} (k : ℕ) (xs : List X) → take k xs ++ drop k xs ≡ xs
+take_drop zero xs = refl
+take_drop (suc k) [] = refl
+take_drop (suc k) (x ∷ xs) = ap (λ ys. x ∷ ys) (take_drop k xs)
+
+drop_first : {X : Type 0} (k : ℕ) (x : X) (xs : List X) → drop 1 (take k (x ∷ xs)) ≡ take (k - 1) xs
+drop_first zero x xs = refl
+drop_first (suc k) x xs = ap (λ n. take n xs) (omega arith)
+
+abbrev head_of : {X : Type 0} → List X → Option X
+head_of [] = None
+head_of (x ∷ xs) = Some x
 
 each_mapped : {A B : Type 0} (P : List B → B → Type 0) (f : A → B) (xs : List A) → EachPlace xs (λ before x. P (map f before) (f x)) → EachPlace (map f xs) P
 each_mapped P f xs each p y e =
@@ -202,10 +218,78 @@ module _ (tells : Bool) (start : Start) (lists : List (List Entry)) (rounds : Li
       one_left (steps_in before) x.0 x.1 (steps_in rest) (left_in rest) here
       (subst (λ ls. LeaveCheckpoints f ls (steps_in rest) (left_in rest)) (lines_push before x) (leave (before ++ x ∷ []) rest (q ∙ sym (append_assoc before (x ∷ []) rest))))
 
+  -- So do those that are known to be on disk, which are the first ones. An `ok` one's is among them.
+  abbrev Covers : List Counters → List LeftStep → Type 0
+  Covers left rest = EachPlace rest (λ before x. x.0 ≡ steps.Checkpoint replies.Done → length (left_in before) < length left)
+
+  leave_first : (before rest : List LeftStep) (left : List Counters) (over : List Counters) → c.left ≡ before ++ rest → left ++ over ≡ left_in rest → Covers left rest → LeaveCheckpoints f (flat_map lines_in (steps_in before)) (steps_in rest) left
+  leave_first before [] [] over q split k = refl
+  leave_first before [] (y ∷ left) over q split k = absurd cc
+  leave_first before (x ∷ rest) left over q split k = by_left (λ left over split k. leave_first (before ++ x ∷ []) rest left over (q ∙ sym (append_assoc before (x ∷ []) rest)) split k) x.1 refl left split (k 0 x refl) (λ p z e ok. k (suc p) z e ok)
+    where
+      here : IsStepLeft start lists rounds (steps_in before) x.0 x.1
+      here = each_mid (λ before x. IsStepLeft start lists rounds (steps_in before) x.0 x.1) c.left before rest x q c.each
+
+      Next : Type 0
+      Next = (left over : List Counters) → left ++ over ≡ left_in rest → Covers left rest → LeaveCheckpoints f (flat_map lines_in (steps_in (before ++ x ∷ []))) (steps_in rest) left
+
+      go_on : Next → (left over : List Counters) → left ++ over ≡ left_in rest → Covers left rest → LeaveCheckpoints f (flat_map lines_in (steps_in before) ++ lines_in x.0) (steps_in rest) left
+      go_on next left over split k = subst (λ ls. LeaveCheckpoints f ls (steps_in rest) left) (lines_push before x) (next left over split k)
+
+      none_of : (step : Step) (o : Option Counters) → IsStepLeft start lists rounds (steps_in before) step o → (step ≡ steps.Checkpoint replies.Done → ⊥) → LeaveCheckpoints f (flat_map lines_in (steps_in before) ++ lines_in step) (steps_in rest) [] → LeaveCheckpoints f (flat_map lines_in (steps_in before)) (step ∷ steps_in rest) []
+      none_of (steps.Round number lines) o s not then = then
+      none_of (steps.Dump what place size reply) o s not then = then
+      none_of (steps.Checkpoint reply) o s not then = inr (λ done. not (ap steps.Checkpoint done), subst (λ ls. LeaveCheckpoints f ls (steps_in rest) []) (append-nil (flat_map lines_in (steps_in before))) then)
+
+      by_left : Next → (o : Option Counters) → x.1 ≡ o → (left : List Counters) → left ++ over ≡ cons_option x.1 (left_in rest) → (x.0 ≡ steps.Checkpoint replies.Done → 0 < length left)
+          → ((p : ℕ) (z : LeftStep) → slice_get rest p ≡ Some z → z.0 ≡ steps.Checkpoint replies.Done → length (cons_option x.1 (left_in (take p rest))) < length left)
+          → LeaveCheckpoints f (flat_map lines_in (steps_in before)) (x.0 ∷ steps_in rest) left
+      by_left next None is left split first k =
+          subst (λ (o : Option Counters). LeaveCheckpoints f (flat_map lines_in (steps_in before)) (x.0 ∷ steps_in rest) (cons_option o left)) is
+          (one_left (steps_in before) x.0 x.1 (steps_in rest) left here
+          (go_on next left over (split ∙ ap (λ (o : Option Counters). cons_option o (left_in rest)) is) (λ p z e ok. subst (λ (o : Option Counters). length (cons_option o (left_in (take p rest))) < length left) is (k p z e ok))))
+      by_left next (Some counters) is [] split first k =
+          none_of x.0 x.1 here (λ ok. let z = first ok in omega (arith, z))
+          (go_on next [] (left_in rest) refl (λ p z e ok. let y = k p z e ok in absurd (omega (arith, y))))
+      by_left next (Some counters) is (y ∷ left) split first k =
+          let both : y ∷ (left ++ over) ≡ counters ∷ left_in rest = split ∙ ap (λ (o : Option Counters). cons_option o (left_in rest)) is in
+          let head : Some y ≡ x.1 = ap head_of both ∙ sym is in
+          let tail : left ++ over ≡ left_in rest = ap (drop 1) both in
+          subst (λ (o : Option Counters). LeaveCheckpoints f (flat_map lines_in (steps_in before)) (x.0 ∷ steps_in rest) (cons_option o left)) (sym head)
+          (one_left (steps_in before) x.0 x.1 (steps_in rest) left here
+          (go_on next left over tail (λ p z e ok. let m = subst (λ (o : Option Counters). length (cons_option o (left_in (take p rest))) < suc (length left)) is (k p z e ok) in omega (arith, m))))
+
+  abbrev flushed : ℕ
+  flushed = flushed_to start (at lists log_lock)
+
+  on_disk : drop 1 (flushed_in f) ≡ take (flushed - start.from) (recs_of lists)
+  on_disk =
+      let place : flushed - r.life.from - 1 ≡ flushed - start.from = let b = begins.from in omega arith in
+      (λ j. drop 1 (take (is.flushed j - r.life.from) (recs_are j)))
+      ∙ (drop_first (flushed - r.life.from) (records.Checkpoint r.life.from start.base) (recs_of lists)
+      ∙ ap (λ k. take k (recs_of lists)) place)
+
+  -- the last flush reached the furthest
+  covers : (before : List LeftStep) → IsFlushedBehind start lists before → length (left_in before) < length (checkpoints_in (drop 1 (flushed_in f)))
+  covers before k =
+      let furthest = (flushes_rise start lists over.kept).greatest k.number k.flushed in
+      let more = checkpoints_to (k.number - start.from) (flushed - start.from) (recs_of lists) (omega (arith, furthest)) in
+      let a = k.among in
+      subst (λ (rs : List Rec). length (left_in before) < length (checkpoints_in rs)) (sym on_disk) (omega (arith, more, a))
+
   pub checkpoints_lawful : AreLawfulCheckpoints f r.steps
   checkpoints_lawful = record {
     each = each_lawful;
     left =
         let are : left_in c.left ≡ checkpoints_in (drop 1 r.life.recs) = sym (ap (λ (rs : List Rec). checkpoints_in (drop 1 rs)) recs_are ∙ (all_hosts tells start lists rounds over ∙ c.records)) in
         subst (λ (x : List Step × List Counters). LeaveCheckpoints f [] x.0 x.1) (λ j. (c.steps_are j, are j)) (leave [] c.left refl);
+    flushed =
+        let k = flushed - start.from in
+        let cut : take k (recs_of lists) ++ drop k (recs_of lists) ≡ recs_of lists = take_drop k (recs_of lists) in
+        let split : checkpoints_in (take k (recs_of lists)) ++ checkpoints_in (drop k (recs_of lists)) ≡ left_in c.left =
+        sym (filter_map-append checkpoint_in (take k (recs_of lists)) (drop k (recs_of lists))) ∙ (ap checkpoints_in cut ∙ (all_hosts tells start lists rounds over ∙ c.records)) in
+        subst (λ (x : List Step). LeaveCheckpoints f [] x (checkpoints_in (drop 1 (flushed_in f)))) c.steps_are
+        (leave_first [] c.left (checkpoints_in (drop 1 (flushed_in f))) (checkpoints_in (drop k (recs_of lists))) refl
+        (ap (λ (rs : List Rec). checkpoints_in rs ++ checkpoints_in (drop k (recs_of lists))) on_disk ∙ split)
+        (λ p x e ok. covers (take p c.left) (c.flushed p x e ok)));
   }

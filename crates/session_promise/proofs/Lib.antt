@@ -26,4 +26,9 @@ pub mod LawfulDumps
 pub mod LawfulLives
 pub mod Rounding
 pub mod PendingStays
+pub mod CheckpointRecords
+pub mod Flushing
 pub mod CheckpointsStay
+pub mod OwnNone
+pub mod Plain
+pub mod NoMultis

@@ -18,6 +18,7 @@ use Rattle.tx_core.specs.Entries.{history, session_of}
 use Rattle.tx_core.specs.Locks.{log_lock}
 use Rattle.life_law.specs.Pending.{pending}
 use Rattle.tx_core.proofs.Lasting.{history_grows}
+use Rattle.tx_core.proofs.OwnMultis.{own_multis_stay}
 use Rattle.tx_core.proofs.Stepping.{own_seen}
 use Rattle.engine_parts.specs.declared.session.Session.{Session}
 use Rattle.engine_parts.specs.Sessions.{stance_of}
@@ -52,6 +53,7 @@ stays_wider tells start lists more n told wider s k knows w p =
       faults = λ by asked count own c.
           subst (λ ls. SaysLogFault ls by) (sym same) (p.faults by asked count own (seen_log (record { by = by; kind = kinds.LogFault asked count }) own c));
       ends = λ by rec own c. p.ends by rec own (seen_log (record { by = by; kind = kinds.Append rec }) own c);
+      no_multis = own_multis_stay start n lists more k knows ∙ p.no_multis;
     }
   where
     seen_log : (e : Entry) → e.by.session ≡ n → Contains (at more log_lock) e → Contains (at lists log_lock) e

@@ -1,7 +1,8 @@
 -- What a checkpoint between two rounds did, and what stays of those that were told.
-use Rattle.std.specs.Prelude.{◌≡◌, ◌≢◌, ℕ, ◌+◌, ◌<◌, ◌++◌, ◌⊎◌, Bool, List, [], ◌∷◌, None, Option, Some, length, map, slice_get}
+use Rattle.std.specs.Prelude.{◌≡◌, ◌≢◌, ℕ, ◌+◌, ◌-◌, ◌<◌, ◌++◌, ◌⊎◌, Bool, List, [], ◌∷◌, Contains, None, Option, Some, length, map, slice_get, take}
 use Rattle.std.specs.List.{AllByRecursion, count_by, filter, filter_map}
 use Rattle.notes.specs.Lists.{Begins, Grows, Knows, at, own}
+use Rattle.tx_events.specs.declared.event.By.{By}
 use Rattle.tx_events.specs.declared.event.Event.{Event}
 use Rattle.tx_events.specs.declared.record.Counters.{Counters}
 use Rattle.tx_events.specs.declared.record.Rec.{Rec}
@@ -19,6 +20,7 @@ use Rattle.life_law.specs.LifeLog.{counters_behind}
 use Rattle.life_law.specs.Pending.{pending}
 use Rattle.life_law.specs.Replies.{IsBank}
 use Rattle.tx_core.specs.declared.entry.Entry.{Entry}
+use Rattle.tx_core.specs.declared.entry.Kind.TheVariants as kinds
 use Rattle.tx_core.specs.declared.entry.Start.{Start}
 use Rattle.tx_core.specs.EngineInvariant.{EngineInvariant}
 use Rattle.tx_core.specs.Entries.{history, recs_in, session_of}
@@ -72,8 +74,12 @@ NamesLeast Holds reply = (n : ℕ) → Holds n → ⊥
 abbrev pub IsNamed : List Session → Reply → Type 0
 IsNamed sessions reply = NamesLeast (IsCommitting sessions) reply
 
+-- some flush covers all records below this number
+abbrev pub IsFlushedBelow : List (List Entry) → ℕ → Type 0
+IsFlushedBelow lists number = (by : By) × Contains (at lists log_lock) (record { by = by; kind = kinds.Flush number })
+
 -- A checkpoint that was answered so took the lists from these to those, while these sessions were parked. What it added
--- is the life's host's, and no event.
+-- is the life's host's, and no event. One that is done was flushed.
 pub record WentCheckpoint (start : Start) (sessions : List Session) (before after : List (List Entry)) (reply : Reply)
     : Type 0 where
   pub named : IsNamed sessions reply
@@ -85,6 +91,7 @@ pub record WentCheckpoint (start : Start) (sessions : List Session) (before afte
   pub log : at after log_lock ≡ at before log_lock ++ added
   pub theirs : AllByRecursion (λ e. e.by.session ≡ start.sessions) added
   pub adds : AddsFor start before added reply
+  pub flushed : reply ≡ replies.Done → IsFlushedBelow after (start.from + length (recs_of after))
 
 -- ---- what was told
 
@@ -137,8 +144,14 @@ IsStepLeft start lists rounds before step left = left ≡ None
 abbrev pub hosts_entries : Start → List (List Entry) → List Entry
 hosts_entries start lists = own session_of start.sessions (at lists log_lock)
 
+-- more checkpoints than these are in the log below some number up to which it was flushed
+pub record IsFlushedBehind (start : Start) (lists : List (List Entry)) (before : List LeftStep) : Type 0 where
+  pub number : ℕ
+  pub flushed : IsFlushedBelow lists number
+  pub among : length (filter_map (λ x. x.1) before) < length (checkpoints_in (take (number - start.from) (recs_of lists)))
+
 -- So each checkpoint among the steps of the life. Together they left the records that the host appended, and told the
--- faults at which the host put the log down.
+-- faults at which the host put the log down. The record of one that was answered `ok` was flushed.
 pub record AreCheckpointsTold (start : Start) (lists : List (List Entry)) (rounds : List ToldRound) (told : List Step)
     : Type 0 where
   pub left : List LeftStep
@@ -146,3 +159,4 @@ pub record AreCheckpointsTold (start : Start) (lists : List (List Entry)) (round
   pub each : EachPlace left (λ before x. IsStepLeft start lists rounds (map (λ y. y.0) before) x.0 x.1)
   pub records : checkpoints_in (recs_in (hosts_entries start lists)) ≡ filter_map (λ x. x.1) left
   pub faults : count_by is_down_fault (hosts_entries start lists) ≡ count_by is_checkpoint_fault told
+  pub flushed : EachPlace left (λ before x. x.0 ≡ steps.Checkpoint replies.Done → IsFlushedBehind start lists before)

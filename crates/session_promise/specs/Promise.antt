@@ -27,6 +27,7 @@ use Rattle.tx_core.specs.declared.entry.Start.{Start}
 use Rattle.tx_core.specs.EngineInvariant.{EngineInvariant}
 use Rattle.tx_core.specs.Entries.{history, recs_in, session_of}
 use Rattle.tx_core.specs.Locks.{log_lock}
+use Rattle.tx_core.specs.OwnMultis.{own_multis}
 use Rattle.session_levels.specs.Stands.{IsFresh}
 use Rattle.engine_parts.specs.declared.session.Session.{Session}
 use Rattle.engine_parts.specs.declared.session.Stage.{Stage}
@@ -102,7 +103,7 @@ AppendsEnds lists n =
 
 -- These are the lines of the session n so far, each told well in these lists. Each of its events is of one of them, and
 -- it stands as they leave it. It was given no more ids than it made levels, and each level that lacks one may be given
--- one. Its faults of the log are told, and its records are of ends.
+-- one. Its faults of the log are told, its records are of ends, and it touched no multixact.
 pub record Promise (tells : Bool) (start : Start) (lists : List (List Entry)) (n : ℕ) (told : List Told) (s : Session)
     : Type 0 where
   pub each : EachPlace told (λ before t. IsToldWell tells start lists n (lines_of before) t)
@@ -113,6 +114,7 @@ pub record Promise (tells : Bool) (start : Start) (lists : List (List Entry)) (n
   pub ids : length (given_to n (history lists)) + lacking (stance_of s).levels ≤ count_by is_made_level (lines_of told)
   pub faults : TellsFaults lists n (lines_of told)
   pub ends : AppendsEnds lists n
+  pub no_multis : own_multis n lists ≡ []
 
 -- ---- what keeps it
 

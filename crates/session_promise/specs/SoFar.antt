@@ -9,6 +9,7 @@ use Rattle.tx_core.specs.declared.entry.Entry.{Entry}
 use Rattle.tx_core.specs.declared.entry.Start.{Start}
 use Rattle.tx_core.specs.EngineInvariant.{EngineInvariant}
 use Rattle.tx_core.specs.Entries.{history, session_of}
+use Rattle.tx_core.specs.MultiEntries.{multi_history}
 use Rattle.engine_parts.specs.declared.session.Session.{Session}
 use Rattle.engine_parts.specs.declared.session.Stage.TheVariants as stages
 use Rattle.engine_parts.specs.Holds.{Knowledge}
@@ -90,6 +91,17 @@ SoFarGoesOn =
     (turns : List (ℕ × Command)) (parts : List RoundPart) (rounds : List ToldRound)
     → IsSoFar tells start before old rounds → WentRound tells start before after old new turns parts
     → IsSoFar tells start after new (rounds ++ round_of before after parts ∷ [])
+
+-- and no multixact was touched
+abbrev pub NoMultisSoFar : Type 0
+NoMultisSoFar =
+    (tells : Bool) (start : Start) (lists : List (List Entry)) (sessions : List Session) (rounds : List ToldRound)
+    → IsSoFar tells start lists sessions rounds → EngineInvariant start lists → multi_history lists ≡ []
+
+abbrev pub NoMultisOver : Type 0
+NoMultisOver =
+    (tells : Bool) (start : Start) (lists : List (List Entry)) (rounds : List ToldRound)
+    → IsOver tells start lists rounds → multi_history lists ≡ []
 
 -- and then the life may be over
 abbrev pub SoFarEnds : Type 0

@@ -3,7 +3,7 @@ ghost use Rattle.session_promise.specs.CheckpointLaws.{CheckpointGoesOn, Checkpo
 ghost use Rattle.session_promise.specs.Closing.{LevelsBoundIds, PromisesMakeLife, PromisesMakeLog, PromisesMakeSteps};
 ghost use Rattle.session_promise.specs.Promise.{PromiseBegins, PromiseGoesOn, PromiseStays};
 ghost use Rattle.session_promise.specs.Rounds.{PartsMakeRound};
-ghost use Rattle.session_promise.specs.SoFar.{PromiseThroughRound, SoFarBegins, SoFarEnds, SoFarGoesOn};
+ghost use Rattle.session_promise.specs.SoFar.{NoMultisOver, NoMultisSoFar, PromiseThroughRound, SoFarBegins, SoFarEnds, SoFarGoesOn};
 
 /// A session that has done nothing promises of no line.
 pub fn promise_begins()
@@ -33,6 +33,12 @@ pub fn so_far_begins()
 /// Behind a round all sessions promise of one round more.
 pub fn so_far_goes_on()
     ensures { SoFarGoesOn }
+{}
+
+/// No multixact is touched in a life so far, nor in one that is over.
+pub fn no_multis()
+    ensures so_far { NoMultisSoFar }
+    ensures over { NoMultisOver }
 {}
 
 /// Behind the last round the life may be over.

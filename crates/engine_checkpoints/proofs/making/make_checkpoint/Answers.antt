@@ -1,11 +1,12 @@
-use Rattle.std.proofs.Common.{◌<◌, ◌+◌, ◌*◌, arith, length, subst}
+use Rattle.std.proofs.Common.{◌<◌, ◌+◌, ◌*◌, ◌∙◌, ap, arith, length, subst}
 use Rattle.hall.specs.Calls.{start_of, view}
 use Rattle.tx_core.specs.Locks.{log_lock}
+use Rattle.tx_core.specs.MultiEntries.{multis_in}
 use Rattle.host_sections.specs.HostEntries.{flush_by, next_number}
 use Rattle.engine_checkpoints.specs.Added.{AddsSyncs}
 use Rattle.engine_checkpoints.proofs.Adding.{adds_one}
 use Rattle.engine_checkpoints.proofs.Forgetting.{all_synced, none_waits}
-use Rattle.engine_checkpoints.proofs.Outcomes.{done_told, done_whole, flush_told, flushed_late, sync_told, up_late, was_up, write_told}
+use Rattle.engine_checkpoints.proofs.Outcomes.{done_told, done_whole, flush_told, flushed_late, multis_late, sync_told, up_late, was_up, write_told}
 use Rattle.engine_checkpoints.proofs.making.make_checkpoint.Goals as goal
 
 pub write_checkpoint-requires-clause-up : goal.write_checkpoint-requires-clause-up
@@ -242,3 +243,19 @@ returns-in-Err-clause-untouched g c =
     let inside : log_lock < length old = omega (arith, wide, c.requires.alone.laid) in
     let mid = (view c.flush_records.new.pass).seen in
     (flush_told start by old his inside (Unit {0}) mid c.in-Err.refusal c.refusal_of-in-Err.result c.flush_records.ensures.kept c.in-Err.ensures.adds c.refusal_of-in-Err.ensures).untouched
+
+-- none of the steps before it touches a multixact
+pub write_checkpoint-requires-clause-quiet : goal.write_checkpoint-requires-clause-quiet
+write_checkpoint-requires-clause-quiet g c =
+    let start = start_of c.args.hall.now in
+    let by = c.args.by in
+    let his = c.requires.turn.known in
+    let old = (view c.args.pass.now).seen in
+    let wide = c.requires.alone.own.wide in
+    let inside : log_lock < length old = omega (arith, wide, c.requires.alone.laid) in
+    let mid = (view c.flush_records.new.pass).seen in
+    let kept = c.flush_records.ensures.kept in
+    let f = adds_one log_lock (flush_by by (next_number start old)) old mid inside c.in-Ok.ensures.adds in
+    let late = (view c.sync_all.new.pass).seen in
+    let s = subst (λ b. AddsSyncs by 3 (3 + 4 * b) mid late) c.requires.banks c.in-Ok-sync_all.ensures.adds in
+    ap multis_in (multis_late start by old his inside mid kept f late s) ∙ c.requires.quiet

@@ -1,7 +1,7 @@
 use Rattle.engine_host.proofs.building.add_bank.Given as goal
 
-abbrev pub ghost-open_xact : goal.ghost-open_xact
-ghost-open_xact g a = g.begins
+abbrev pub ghost-open_states : goal.ghost-open_states
+ghost-open_states g a = g.begins
 
-abbrev pub ghost-open_subtrans : goal.ghost-open_subtrans
-ghost-open_subtrans g a = g.begins
+abbrev pub ghost-open_multis : goal.ghost-open_multis
+ghost-open_multis g a = g.begins

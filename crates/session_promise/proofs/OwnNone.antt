@@ -1,0 +1,62 @@
+-- Where each session touched no multixact none was touched.
+use Rattle.std.proofs.Common.{List, Some, [], ap, eq-eqb, eqb-true, false, inl, refl, subst, sym, true, Bool, ℕ, ⊎_elim, arith, length, ◌<◌, ◌==◌, ◌∙◌, ◌∷◌, ◌≡◌}
+use Rattle.std.specs.List.{filter, slice_get}
+use Rattle.notes.specs.Lists.{at, own}
+use Rattle.tx_events.specs.declared.event.By.{By}
+use Rattle.tx_events.specs.declared.multi.MultiEvent.{MultiEvent}
+use Rattle.tx_events.specs.Multis.{InBase, MultiMayCome, multi_by}
+use Rattle.tx_events.proofs.Membership.{Has, filter_has, filter_none_on, has_contains, has_filter_map}
+use Rattle.tx_core.specs.declared.entry.Entry.{Entry}
+use Rattle.tx_core.specs.declared.entry.Kind.{Kind}
+use Rattle.tx_core.specs.declared.entry.Kind.TheVariants as kinds
+use Rattle.tx_core.specs.declared.entry.Start.{Start}
+use Rattle.tx_core.specs.Consequences.{IsHosts}
+use Rattle.tx_core.specs.EngineInvariant.{EngineInvariant}
+use Rattle.tx_core.specs.Entries.{session_of}
+use Rattle.tx_core.specs.Locks.{multi_lock}
+use Rattle.tx_core.specs.MultiEntries.{multi_history, multi_in, multi_of, multis_in}
+use Rattle.tx_core.specs.MultisLegal.{NeedsMulti, ToldOf}
+use Rattle.tx_core.specs.OwnMultis.{is_multi_of, own_multis}
+use Rattle.tx_core.specs.ProgramOrder.{IsOfHost}
+use Rattle.tx_core.proofs.Asking.{if_some, upheld_has}
+use Rattle.tx_core.proofs.Opening.{sessions_known}
+
+-- the entry of an event of a multixact, which is of the event's command
+pub entry_of : (start : Start) (lists : List (List Entry)) (e : MultiEvent) → EngineInvariant start lists → Has (multi_history lists) e → (f : Entry) × Has (at lists multi_lock) f × (multi_of f ≡ Some e) × (multi_by e ≡ f.by)
+entry_of start lists e k h =
+    let from = has_filter_map multi_of (at lists multi_lock) e h in
+    let need = upheld_has (NeedsMulti start) lists multi_lock from.0 k.multis.each from.1 in
+    (from.0, from.1, from.2, (if_some (multi_of from.0) (λ (event : MultiEvent). (multi_by event ≡ from.0.by) × MultiMayCome start.base (InBase start.base) (multis_in need.0) event × ToldOf start event) e need.1 from.2).0)
+
+-- a session without entries has no such event
+pub none_multi : (start : Start) (lists : List (List Entry)) (n : ℕ) → EngineInvariant start lists → own session_of n (at lists multi_lock) ≡ [] → own_multis n lists ≡ []
+none_multi start lists n k empty = filter_none_on (is_multi_of n) (multi_history lists) (λ e h. is_not e h (is_multi_of n e) refl)
+  where
+    is_not : (e : MultiEvent) → Has (multi_history lists) e → (b : Bool) → is_multi_of n e ≡ b → is_multi_of n e ≡ false
+    is_not e h true q =
+        let f = entry_of start lists e k h in
+        let mine : f.0.by.session ≡ n = ap (λ (b : By). b.session) (sym f.3) ∙ eqb-true (multi_by e).session n q in
+        absurd (subst (λ (es : List Entry). Has es f.0) empty (filter_has (λ (g : Entry). session_of g == n) (at lists multi_lock) f.0 f.1 (eq-eqb f.0.by.session n mine)))
+    is_not e h false q = q
+
+-- the host has none
+not_hosts : (kind : Kind) (e : MultiEvent) → IsOfHost kind → multi_in kind ≡ Some e → ⊥
+not_hosts (kinds.Multi event) e host is = host
+not_hosts kind e host is = cc
+
+pub none_at_all : (start : Start) (lists : List (List Entry)) → EngineInvariant start lists → ((n : ℕ) → n < start.sessions → own_multis n lists ≡ []) → multi_history lists ≡ []
+none_at_all start lists k none = by_list (multi_history lists) refl
+  where
+    no_event : (e : MultiEvent) → Has (multi_history lists) e → ⊥
+    no_event e h =
+        let f = entry_of start lists e k h in
+        ⊎_elim
+        (λ (low : f.0.by.session < start.sessions).
+        let mine : (multi_by e).session ≡ f.0.by.session = ap (λ (b : By). b.session) f.3 in
+        subst (λ (es : List MultiEvent). Has es e) (none f.0.by.session low) (filter_has (is_multi_of f.0.by.session) (multi_history lists) e h (eq-eqb (multi_by e).session f.0.by.session mine)))
+        (λ (his : IsHosts start f.0). not_hosts f.0.kind e his.1 f.2)
+        (sessions_known start lists k multi_lock f.0 (has_contains (at lists multi_lock) f.0 f.1))
+
+    by_list : (es : List MultiEvent) → multi_history lists ≡ es → multi_history lists ≡ []
+    by_list [] q = q
+    by_list (e ∷ es) q = absurd (no_event e (subst (λ (t : List MultiEvent). Has t e) (sym q) (inl refl)))

@@ -1,1 +1,2 @@
 pub mod LogSections
+pub mod MultiRecords

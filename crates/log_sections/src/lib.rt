@@ -6,11 +6,13 @@
 mod aborting;
 mod appending;
 mod flushing;
+mod recording;
 mod refusals;
 mod truncating;
 
 pub use aborting::append_abort;
 pub use appending::{Appended, append_commit};
 pub use flushing::flush_log;
+pub use recording::append_multi;
 pub use refusals::refusal_of;
 pub use truncating::append_truncation;

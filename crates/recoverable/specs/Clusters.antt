@@ -8,8 +8,8 @@ use Rattle.recoverable.specs.Fit.{KeptLog}
 use Rattle.recoverable.specs.Volumes.{Left, VolumesFit}
 
 module _ {L P : Type 0} (l : logs.Ghosts L) (p : disks.Ghosts P) where
-  -- A crash leaves the log's volume and those of the banks of pg_xact so. There is no volume of offsets or members: their
-  -- pages are absent.
+  -- A crash leaves the log's volume and those of the banks of pg_xact so. Of those of offsets and members nothing is asked,
+  -- since no multixact was made: recovery empties them, and their pages count as absent.
   pub record IsLeft (log : L) (xact : List P) (left : Left) : Type 0 where
     pub log_image : l.images log left.log
     pub states : (bank : ℕ) (disk : P) → slice_get xact bank ≡ Some disk → p.images disk (left.xact bank)

@@ -2,8 +2,5 @@
 //! bank's list.
 #![tactic(auto)]
 
-mod cluster;
 /// The laws. The functions do nothing; their contracts are the laws.
 pub mod laws;
-
-pub use cluster::ClusterVolumes;

@@ -1,1 +1,9 @@
 pub mod Quiet
+pub mod Coursing
+pub mod Visiting
+pub mod Uncut
+pub mod Adding
+pub mod Digits
+pub mod Offsetting
+pub mod MemberSetting
+pub mod Membering

@@ -7,6 +7,7 @@ use Rattle.slru_bank.specs.declared.refusal.BankRefusal.TheVariants as refused
 use Rattle.slru_bank.specs.Calls.{faults_of}
 use Rattle.tx_events.specs.declared.event.By.{By}
 use Rattle.tx_core.specs.declared.entry.Entry.{Entry}
+use Rattle.tx_core.specs.declared.entry.Kind.{Kind}
 use Rattle.tx_core.specs.declared.entry.Kind.TheVariants as kinds
 use Rattle.engine_parts.specs.declared.part.Part.{Part}
 use Rattle.engine_parts.specs.declared.part.Part.TheVariants as parts
@@ -33,3 +34,11 @@ entry_of_refusal by count (refused.Cut cutoff) = look_of by
 -- A fault of a removal, which hit this command alone. The cut before the page stands all the same.
 abbrev pub cut_fault_by : By → ℕ → ℕ → Entry
 cut_fault_by by page count = record { by = by; kind = kinds.Fault (by ∷ []) [] (Some page) count }
+
+-- a fault, with the cut
+abbrev pub kind_too : ℕ → Kind → Kind
+kind_too page (kinds.Fault callers changes cut count) = kinds.Fault callers changes (Some page) count
+kind_too page kind = kind
+
+abbrev pub cut_too : ℕ → Entry → Entry
+cut_too page e = record { by = e.by; kind = kind_too page e.kind }

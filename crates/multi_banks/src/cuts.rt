@@ -10,10 +10,10 @@ ghost use Rattle.engine_parts.specs.Sessions.{IsReady, by_at};
 ghost use Rattle.engine_parts.specs.Steps.{WentMulti};
 ghost use Rattle.multi_banks.specs.Sections.{CutSection};
 
-use crate::cutoffs::{page_before, stored_members, stored_offsets};
-use crate::entries::{cut_fault_note, cut_note};
+use crate::stored::{page_before, stored_members, stored_offsets};
+use crate::entries::{cut_note, with_cut};
 use disk_core::{LogDisk, PageDisk};
-use engine_parts::{Caller, EngineLaw, Part, Passing, command_of, enter_members, enter_offsets, leave_quiet};
+use engine_parts::{Caller, EngineLaw, Part, Passing, command_of, enter_members, enter_offsets, fault_note, leave_quiet};
 use hall::Hall;
 use slru_bank::BankRefusal;
 use store_pages::member_page_in_full;
@@ -56,7 +56,7 @@ pub fn cut_offsets<R: Passing, L: LogDisk, P: PageDisk>(
             Ok(())
         }
         Err(refusal) => {
-            let fault = cut_fault_note(by, page, &*store);
+            let fault = with_cut(fault_note(by, &*store), page);
             leave_quiet(hall, caller, lock, Part::Offsets(held), fault);
             Err(refusal)
         }
@@ -100,7 +100,7 @@ pub fn cut_members<R: Passing, L: LogDisk, P: PageDisk>(
             Ok(())
         }
         Err(refusal) => {
-            let fault = cut_fault_note(by, page, &*store);
+            let fault = with_cut(fault_note(by, &*store), page);
             leave_quiet(hall, caller, lock, Part::Members(held), fault);
             Err(refusal)
         }

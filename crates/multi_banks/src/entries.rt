@@ -1,13 +1,9 @@
 //! The entries that the critical sections of both stores add.
 ghost use Rattle.std.specs.Prelude.{◌≡◌};
-ghost use Rattle.slru_bank.specs.Calls.{faults_of};
 ghost use Rattle.tx_core.specs.declared.entry.Kind.TheVariants as kinds;
-ghost use Rattle.multi_banks.specs.Refusals.{cut_fault_by};
+ghost use Rattle.multi_banks.specs.Refusals.{cut_too};
 
-use disk_core::PageDisk;
 use hall::Note;
-use slru_bank::SlruBank;
-use store_pages::PageRule;
 use tx_core::Entry;
 use tx_events::By;
 
@@ -25,9 +21,9 @@ pub(crate) fn cut_note(by: By, page: u64) -> Note<Entry>
     Note::by(&(by, page))
 }
 
-/// The volume failed in the removal.
-pub(crate) fn cut_fault_note<P: PageDisk, O: PageRule>(by: By, page: u64, store: &SlruBank<P, O>) -> Note<Entry>
-    ensures { result.value ≡ cut_fault_by by page (faults_of store.now) }
+/// The volume failed in a removal. The cut stands all the same.
+pub(crate) fn with_cut(fault: Note<Entry>, page: u64) -> Note<Entry>
+    ensures { result.value ≡ cut_too page fault.value }
 {
-    Note::by(&(by, page, store))
+    Note::by(&(fault, page))
 }

@@ -1,5 +1,6 @@
 -- A bank behind one call and one entry, whatever the store: what it stands for, and the step of its course.
 use Rattle.std.proofs.Common.{◌≡◌, ◌⊎◌, inl, inr, ⊎_elim, ℕ, suc, ◌+◌, ◌%◌, ◌^◌, ◌<◌, ◌≤◌, ◌==◌, nat_lt, Bool, true, false, Contains, List, [], ◌∷◌, ◌++◌, IsTrue, MatchBool, None, Some, Option, cond, refl, sym, ap, subst, ◌∙◌, arith}
+use Rattle.std.proofs.lemmas.Bool.{false≢true}
 use Rattle.std.proofs.lemmas.Bool.Decides.{nat_tests}
 use Rattle.std.proofs.lemmas.List.Elements.{Contains-append_left}
 use Rattle.disk_core.specs.Pages.{zero_page}
@@ -19,7 +20,7 @@ use Rattle.tx_core.specs.declared.entry.Start.{Start}
 use Rattle.tx_core.specs.Entries.{cut_in}
 use Rattle.tx_core.specs.FaultsRise.{faults_told}
 use Rattle.tx_core.specs.PagesBeforeIds.{WasMade}
-use Rattle.tx_core.specs.Pages.{Pages, after_entry, pages_after, set_by, zeroed, zeroed_in}
+use Rattle.tx_core.specs.Pages.{Pages, Store, after_entry, pages_after, set_by, zeroed, zeroed_in}
 use Rattle.engine_parts.specs.BankCourse.{CameTo, Came, CutBefore, IsQuiet, LookedAt, MadePage, NotedOnly, Rack, StepsTo, cutoff_past, cuts_page}
 use Rattle.engine_parts.specs.Shelf.{ArePagesNear, IsCutoffOf, IsReadNow, Shelf, ShowsNow, StoreStands, last_on, shows_on}
 use Rattle.engine_parts.proofs.Shelving.{pages_push}
@@ -122,6 +123,22 @@ module _ {I V R : Type 0} (h : Shelf I V R) (Clean : (ℕ → Option V) → Type
       (λ (m : (by : By) × Contains es (record { by = by; kind = kinds.Zero page })). made_reached m.0 page es (contains_has es (record { by = m.0; kind = kinds.Zero page }) m.1))
       made in
       omega (arith, reached, more, far, near)
+
+-- two stores of the same items and pages have the same last page
+module _ {I V W : Type 0} (s : Store I V) (t : Store I W) (pages : (x : ℕ) → s.page_of x ≡ t.page_of x) where
+  last_step : (o : Option ℕ) (xs ys : List I) (p : Pages V) (q : Pages W) → p.last ≡ q.last → (zeroed s o (set_by s xs p)).last ≡ (zeroed t o (set_by t ys q)).last
+  last_step None xs ys p q h = h
+  last_step (Some page) xs ys p q h = one (nat_lt p.last page) (nat_lt q.last page) (ap (λ z. nat_lt z page) h)
+    where
+      one : (x y : Bool) → x ≡ y → (cond x (record { last = page; shows = λ id. cond (s.page_of id == page) None ((set_by s xs p).shows id) }) (set_by s xs p)).last ≡ (cond y (record { last = page; shows = λ id. cond (t.page_of id == page) None ((set_by t ys q).shows id) }) (set_by t ys q)).last
+      one true true e = refl
+      one false false e = h
+      one true false e = absurd (false≢true (sym e))
+      one false true e = absurd (false≢true e)
+
+  pub same_last : (first : ℕ) (es : List Entry) → (pages_after s first (λ x. None) es).last ≡ (pages_after t first (λ x. None) es).last
+  same_last first = by_end (λ es. (pages_after s first (λ x. None) es).last ≡ (pages_after t first (λ x. None) es).last) (pages first) (λ es e before.
+      ap (λ (p : Pages V). p.last) (pages_push s first (λ x. None) es e) ∙ (last_step (zeroed_in e.kind) (s.items_of e) (t.items_of e) (pages_after s first (λ x. None) es) (pages_after t first (λ x. None) es) before ∙ sym (ap (λ (p : Pages W). p.last) (pages_push t first (λ x. None) es e))))
 
 module _ {I V R : Type 0} (k : Rack I V R) (Asked : ℕ → Type 0) (Clean : (ℕ → Option V) → Type 0) (Tails : (ℕ → List ℕ) → Type 0) {P O : Type 0} {g : disks.Ghosts P} {r : rules.Ghosts O} where
   pub came_then : (old new : SlruBank P O g r) (before es : List Entry) → Came k Asked Clean Tails old before → StepsTo k Asked Tails old new before es → Came k Asked Clean Tails new es

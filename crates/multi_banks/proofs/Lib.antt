@@ -7,3 +7,8 @@ pub mod Digits
 pub mod Offsetting
 pub mod MemberSetting
 pub mod Membering
+pub mod Parting
+pub mod Cutting
+pub mod Later
+pub mod Seeing
+pub mod OffsetSeen

@@ -85,11 +85,11 @@ module _ {P O : Type 0} {g : disks.Ghosts P} {r : rules.Ghosts O} (start : Start
       same_page : (offset page stored : ℕ) → page ≡ member_page_in_full offset → stored ≡ low_half offset / 1636 → stored ≡ page % 2625286
       same_page offset page stored p s = omega arith
 
-      nearby : (offset page : ℕ) → start.base.offset ≤ offset → page ≤ member_page_in_full (start.base.offset + 2 ^ 29) → page ≡ member_page_in_full offset → IsNearBy (member_shelf start) page
-      nearby offset page from near is = record { from = (let r = rises start.base.offset offset from in omega arith); to = near }
-
       rises : (a b : ℕ) → a ≤ b → member_page_in_full a ≤ member_page_in_full b
       rises a b le = omega arith
+
+      nearby : (offset page : ℕ) → start.base.offset ≤ offset → page ≤ member_page_in_full (start.base.offset + 2 ^ 29) → page ≡ member_page_in_full offset → IsNearBy (member_shelf start) page
+      nearby offset page from near is = record { from = (let r = rises start.base.offset offset from in omega arith); to = near }
 
   -- what lies before a page was cut, or some of it
   pub members_cut : (old new : SlruBank P O g r) (es : List Entry) (page : ℕ) (e : Entry) → cut_in e.kind ≡ Some page → slots_in e ≡ [] → zeroed_in e.kind ≡ None → faults_told start (members_lock bank) (es ++ e ∷ []) ≤ faults_of new

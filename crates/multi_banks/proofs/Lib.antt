@@ -12,3 +12,4 @@ pub mod Cutting
 pub mod Later
 pub mod Seeing
 pub mod OffsetSeen
+pub mod MemberSeen

@@ -48,7 +48,7 @@ word_bytes : (o : Option StoredBytes) → word_held o ≡ byte_held o 0 + 256 * 
 word_bytes None = refl
 word_bytes (Some b) = refl
 
-word_of_bytes : (o : Option StoredBytes) (n : ℕ) → ((i : ℕ) → i < 4 → byte_held o i ≡ byte_of n i) → word_held o ≡ low_half n
+pub word_of_bytes : (o : Option StoredBytes) (n : ℕ) → ((i : ℕ) → i < 4 → byte_held o i ≡ byte_of n i) → word_held o ≡ low_half n
 word_of_bytes o n each =
     let b0 = each 0 (omega arith) in
     let b1 = each 1 (omega arith) in
@@ -62,7 +62,7 @@ record Says (start : Start) (lists : List (List Entry)) (multi number : ℕ) : T
   some : number ≢ 0 → (offset : ℕ) × (number ≡ low_half offset) × HasOffset start lists multi offset
 
 module _ (start : Start) (lists : List (List Entry)) (multi bank : ℕ) (base : IsBase start.base) (k : EngineInvariant start lists) (here : offsets_lock_of start multi ≡ offsets_lock bank) where
-  sets : List SetOffset
+  abbrev sets : List SetOffset
   sets = flat_map offsets_in (at lists (offsets_lock bank))
 
   -- an offset that was set, with what is known of it
@@ -103,7 +103,8 @@ module _ (start : Start) (lists : List (List Entry)) (multi bank : ℕ) (base : 
       let r = has_filter_map (offset_bytes_for multi) sets y q in
       let z = offset_at multi y r.0 r.2 in
       let e = one_set r.0 set r.1 there z.0 same in
-      sym z.1 ∙ ap (λ (n : ℕ) (i : ℕ). byte_of n i) e) in
+      let f : ℕ → StoredBytes = λ n i. byte_of n i in
+      sym z.1 ∙ ap f e) in
       let number : word_held (last_or o (filter_map (offset_bytes_for multi) sets)) ≡ low_half set.offset = ap word_held value ∙ sym (word_made set.offset) in
       let r = (set_given set there).recorded in
       let some : 1 ≤ low_half set.offset = ((ordered start.base base (multi_history lists) (multis_are_legal start lists k)).given r.by set.multi set.offset (set_given set there).members (contains_has (multi_history lists) _ r.given)).2 in
@@ -122,15 +123,15 @@ module _ (start : Start) (lists : List (List Entry)) (multi bank : ℕ) (base : 
         some = λ other. ⊎_elim
             (λ (r : (offset : ℕ) × (members : List Member) × Has start.recorded (records.Multi multi offset members)).
             let c = has_contains start.recorded (records.Multi multi r.0 r.1) r.2 in (r.0, held r.0 r.1 c, inr (r.1, c)))
-            (λ (no : (offset : ℕ) (members : List Member) → Has start.recorded (records.Multi multi offset members) → ⊥).
-            absurd (other (ap word_held (empty no))))
+            (λ (never_there : (offset : ℕ) (members : List Member) → Has start.recorded (records.Multi multi offset members) → ⊥).
+            absurd (other (ap word_held (empty never_there))))
             (recorded_or_not multi start.recorded);
       }
     where
       empty : ((offset : ℕ) (members : List Member) → Has start.recorded (records.Multi multi offset members) → ⊥) → before multi ≡ None
-      empty no = ⊎_elim
+      empty never_there = ⊎_elim
           (λ (past : start.base.multi ≤ multi). clean.clean multi past to)
-          (λ (old : multi < start.base.multi). clean.other multi full from old (λ offset members c. no offset members (contains_has start.recorded (records.Multi multi offset members) c)))
+          (λ (old : multi < start.base.multi). clean.other multi full from old (λ offset members c. never_there offset members (contains_has start.recorded (records.Multi multi offset members) c)))
           (le_or_over start.base.multi multi)
 
   -- so it is in each case

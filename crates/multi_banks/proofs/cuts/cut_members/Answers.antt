@@ -54,7 +54,7 @@ leave_quiet-requires-in-Err-clause-may g c =
     let t = c.enter_members-held.new.caller in
     let pages = is_members_lock start c.args.bank c.requires.bank.0 in
     may_fault_cut start u.seen (members_lock c.args.bank) (member_page_in_full c.args.oldest) (faults_of c.truncate.new.self) (by_at t.number t.session.levels.commands) c.with_cut-fault.result.value pages (members_cut_by start u.seen c.args.bank c.requires.told.0 c.requires.told.1 c.args.oldest (truncated_later start v.seen u.seen c.requires.told.0 c.requires.told.1 c.args.oldest e.entered.learns.knows.grows c.requires.told.2))
-    (risen_past (faults_told start (members_lock c.args.bank) (at u.seen (members_lock c.args.bank))) (faults_of c.deref_mut-store.result.now) _ (subst (λ l. IsMembersOf (start_of c.args.hall.now) c.args.bank l (at (view c.enter_members-held.new.caller.pass).seen (members_lock c.args.bank))) (sym c.deref_mut-store.ensures.value) c.enter_members-held.ensures.stands).stands.count (c.in-Err.ensures.bank.sweeps.fault tt).1)
+    (risen_past (faults_told start (members_lock c.args.bank) (at u.seen (members_lock c.args.bank))) (faults_of c.deref_mut-store.result.now) _ (subst (λ l. IsMembersOf (start_of c.args.hall.now) c.args.bank l (at (view c.enter_members-held.new.caller.pass).seen (members_lock c.args.bank))) (sym c.deref_mut-store.ensures.value) c.enter_members-held.ensures.stands).stands.count (c.in-Err.ensures.bank.sweeps.fault refl).1)
     ((c.with_cut-fault.ensures ∙ ap (cut_too c.member_page_in_full-page.result) (c.fault_note.ensures ∙ ap (λ (b : By). fault_by b (faults_of c.truncate.new.self)) c.command_of-by.ensures)) ∙ (λ j. cut_fault_by (by_at t.number t.session.levels.commands) (c.member_page_in_full-page.ensures.page j) (faults_of c.truncate.new.self))) (e.at.turns (members_lock c.args.bank))
 
 pub leave_quiet-requires-in-Err-clause-stands : goal.leave_quiet-requires-in-Err-clause-stands
@@ -83,16 +83,16 @@ returns-in-Err-clause-section g c =
     let e = c.enter_members-held.ensures in
     let v = view c.args.caller.now.pass in
     let u = view c.enter_members-held.new.caller.pass in
-    let w = view c.leave_quiet-2.new.caller.pass in
+    let w = view c.leave_quiet-in-Err.new.caller.pass in
     let t = c.enter_members-held.new.caller in
     let s = c.args.caller.now.session in
     let n = c.args.caller.now.number in
     let pages = is_members_lock start c.args.bank c.requires.bank.0 in
-    let told = (c.in-Err.ensures.bank.sweeps.fault tt).0 in
+    let told = (c.in-Err.ensures.bank.sweeps.fault refl).0 in
     let is : c.in-Err.refusal ≡ refused.DiskFault = cc in
-    subst (λ (z : BankRefusal). CutSection start (members_lock c.args.bank) (by_at n s.levels.commands) (member_page_in_full c.args.oldest) v w (Err z)) (sym is)
+    subst (λ (z : BankRefusal). CutSection {T = Unit {0}} start (members_lock c.args.bank) (by_at n s.levels.commands) (member_page_in_full c.args.oldest) v w (Err z)) (sym is)
     (faults_of c.truncate.new.self, section_of start v u w (members_lock c.args.bank) c.with_cut-fault.result.value (cut_fault_by (by_at n s.levels.commands) (member_page_in_full c.args.oldest) (faults_of c.truncate.new.self)) e.entered
-    ((c.with_cut-fault.ensures ∙ ap (cut_too c.member_page_in_full-page.result) (c.fault_note.ensures ∙ ap (λ (b : By). fault_by b (faults_of c.truncate.new.self)) c.command_of-by.ensures)) ∙ (λ j. cut_fault_by (same_command n t.number s t.session e.same.1 e.same.0 j) (c.member_page_in_full-page.ensures.page j) (faults_of c.truncate.new.self))) c.leave_quiet-2.ensures.left)
+    ((c.with_cut-fault.ensures ∙ ap (cut_too c.member_page_in_full-page.result) (c.fault_note.ensures ∙ ap (λ (b : By). fault_by b (faults_of c.truncate.new.self)) c.command_of-by.ensures)) ∙ (λ j. cut_fault_by (same_command n t.number s t.session e.same.1 e.same.0 j) (c.member_page_in_full-page.ensures.page j) (faults_of c.truncate.new.self))) c.leave_quiet-in-Err.ensures.left)
 
 pub returns-in-Err-clause-went : goal.returns-in-Err-clause-went
 returns-in-Err-clause-went g c =
@@ -100,12 +100,12 @@ returns-in-Err-clause-went g c =
     let e = c.enter_members-held.ensures in
     let v = view c.args.caller.now.pass in
     let u = view c.enter_members-held.new.caller.pass in
-    let w = view c.leave_quiet-2.new.caller.pass in
+    let w = view c.leave_quiet-in-Err.new.caller.pass in
     let s = c.args.caller.now.session in
     let n = c.args.caller.now.number in
     let pages = is_members_lock start c.args.bank c.requires.bank.0 in
     let q = (c.with_cut-fault.ensures ∙ ap (cut_too c.member_page_in_full-page.result) (c.fault_note.ensures ∙ ap (λ (b : By). fault_by b (faults_of c.truncate.new.self)) c.command_of-by.ensures)) in
-    visited start v u w n (members_lock c.args.bank) s c.requires.ready.at pages e.entered c.with_cut-fault.result.value (ap event_of q) (ap multi_of q) (ap asks_in q) c.leave_quiet-2.ensures.left
+    visited start v u w n (members_lock c.args.bank) s c.requires.ready.at pages e.entered c.with_cut-fault.result.value (ap event_of q) (ap multi_of q) (ap asks_in q) c.leave_quiet-in-Err.ensures.left
 
 pub returns-in-Err-clause-fault : goal.returns-in-Err-clause-fault
 returns-in-Err-clause-fault g c is =
@@ -113,14 +113,14 @@ returns-in-Err-clause-fault g c is =
     let e = c.enter_members-held.ensures in
     let v = view c.args.caller.now.pass in
     let u = view c.enter_members-held.new.caller.pass in
-    let w = view c.leave_quiet-2.new.caller.pass in
+    let w = view c.leave_quiet-in-Err.new.caller.pass in
     let t = c.enter_members-held.new.caller in
     let s = c.args.caller.now.session in
     let n = c.args.caller.now.number in
     let pages = is_members_lock start c.args.bank c.requires.bank.0 in
-    cut_met start v u w n (members_lock c.args.bank) s c.requires.ready.at pages e.entered t.number t.session e.same.1 e.same.0 c.member_page_in_full-page.result (faults_of c.truncate.new.self) c.with_cut-fault.result.value (c.with_cut-fault.ensures ∙ ap (cut_too c.member_page_in_full-page.result) (c.fault_note.ensures ∙ ap (λ (b : By). fault_by b (faults_of c.truncate.new.self)) c.command_of-by.ensures)) c.leave_quiet-2.ensures.left
+    cut_met start v u w n (members_lock c.args.bank) s c.requires.ready.at pages e.entered t.number t.session e.same.1 e.same.0 c.member_page_in_full-page.result (faults_of c.truncate.new.self) c.with_cut-fault.result.value (c.with_cut-fault.ensures ∙ ap (cut_too c.member_page_in_full-page.result) (c.fault_note.ensures ∙ ap (λ (b : By). fault_by b (faults_of c.truncate.new.self)) c.command_of-by.ensures)) c.leave_quiet-in-Err.ensures.left
 
 pub returns-in-Err-clause-uncut : goal.returns-in-Err-clause-uncut
 returns-in-Err-clause-uncut g c cutoff is =
-    let told = (c.in-Err.ensures.bank.sweeps.fault tt).0 in
+    let told = (c.in-Err.ensures.bank.sweeps.fault refl).0 in
     absurd cc

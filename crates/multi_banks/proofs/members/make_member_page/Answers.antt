@@ -1,6 +1,5 @@
 use Rattle.std.proofs.Common.{refl, sym, ap, subst, Err, ◌∙◌, ◌/◌}
 use Rattle.tx_core.specs.declared.entry.Kind.TheVariants as kinds
-use Rattle.slru_bank.specs.declared.refusal.BankRefusal.TheVariants as refused
 use Rattle.engine_parts.proofs.May.{may_make}
 use Rattle.engine_parts.specs.Parts.{IsMembersOf}
 use Rattle.engine_parts.specs.Sessions.{by_at}

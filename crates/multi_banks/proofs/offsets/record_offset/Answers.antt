@@ -1,5 +1,4 @@
 use Rattle.std.proofs.Common.{refl, sym, ap, subst, Err, ℕ, ◌∙◌, ◌/◌, ◌%◌}
-use Rattle.slru_bank.specs.declared.refusal.BankRefusal.TheVariants as refused
 use Rattle.engine_parts.proofs.Sectioning.{same_command}
 use Rattle.engine_parts.specs.Parts.{IsOffsetsOf}
 use Rattle.engine_parts.specs.Sessions.{by_at}

@@ -125,7 +125,7 @@ module _ (start : Start) (lists : List (List Entry)) (x bank : ℕ) (base : IsBa
       let o = (ordered start.base base (multi_history lists) (multis_are_legal start lists k)).given r.by s.multi s.first s.members (contains_has (multi_history lists) _ r.given) in
       let in_run = place_within s.members (slot.offset - s.first) slot.member s.member in
       let behind = s.behind in
-      record { from = o.0; to = o.1.0; inside = omega arith }
+      record { from = o.0; to = o.1; inside = omega arith }
 
   -- one offset is of one multixact, so it has one member
   one_slot : (a b : SetSlot) → Has slots a → Has slots b → a.offset ≡ x → b.offset ≡ x → a.member ≡ b.member

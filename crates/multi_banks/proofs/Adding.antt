@@ -1,5 +1,5 @@
 -- What a session may add to the list of a bank, from what it has seen.
-use Rattle.std.proofs.Common.{None, Some, ◌≡◌, ℕ, zero, suc, ◌+◌, ◌%◌, ◌<◌, inl, inr, ⊎_elim, List, [], ◌∷◌, Contains, refl, sym, ap, subst, ◌∙◌, length, arith}
+use Rattle.std.proofs.Common.{Some, ◌≡◌, ℕ, zero, suc, ◌+◌, ◌%◌, ◌<◌, inl, ⊎_elim, List, [], ◌∷◌, refl, sym, ap, subst, ◌∙◌, length, arith}
 use Rattle.std.specs.List.{AllByRecursion, slice_get}
 use Rattle.notes.specs.Lists.{Grows, at}
 use Rattle.disk_core.specs.Faults.{HasRisen}

@@ -1,5 +1,5 @@
 -- A bank behind one call and one entry, whatever the store: what it stands for, and the step of its course.
-use Rattle.std.proofs.Common.{◌≡◌, ◌⊎◌, inl, inr, ⊎_elim, ℕ, suc, ◌+◌, ◌%◌, ◌^◌, ◌<◌, ◌≤◌, ◌==◌, nat_lt, Bool, true, false, Contains, List, [], ◌∷◌, ◌++◌, IsTrue, MatchBool, None, Some, Option, cond, refl, sym, ap, subst, ◌∙◌, arith}
+use Rattle.std.proofs.Common.{◌≡◌, inl, inr, ⊎_elim, ℕ, suc, ◌+◌, ◌%◌, ◌^◌, ◌<◌, ◌≤◌, ◌==◌, nat_lt, Bool, true, false, Contains, List, [], ◌∷◌, ◌++◌, IsTrue, MatchBool, None, Some, Option, cond, refl, sym, ap, subst, ◌∙◌, arith}
 use Rattle.std.proofs.lemmas.Bool.{false≢true}
 use Rattle.std.proofs.lemmas.Bool.Decides.{nat_tests}
 use Rattle.std.proofs.lemmas.List.Elements.{Contains-append_left}
@@ -21,8 +21,8 @@ use Rattle.tx_core.specs.Entries.{cut_in}
 use Rattle.tx_core.specs.FaultsRise.{faults_told}
 use Rattle.tx_core.specs.PagesBeforeIds.{WasMade}
 use Rattle.tx_core.specs.Pages.{Pages, Store, after_entry, pages_after, set_by, zeroed, zeroed_in}
-use Rattle.engine_parts.specs.BankCourse.{CameTo, Came, CutBefore, IsQuiet, LookedAt, MadePage, NotedOnly, Rack, StepsTo, cutoff_past, cuts_page}
-use Rattle.engine_parts.specs.Shelf.{ArePagesNear, IsCutoffOf, IsReadNow, Shelf, ShowsNow, StoreStands, last_on, shows_on}
+use Rattle.engine_parts.specs.BankCourse.{Came, CutBefore, LookedAt, MadePage, NotedOnly, Rack, StepsTo, cutoff_past, cuts_page}
+use Rattle.engine_parts.specs.Shelf.{ArePagesNear, IsCutoffOf, IsReadNow, Shelf, StoreStands, last_on, shows_on}
 use Rattle.engine_parts.proofs.Shelving.{pages_push}
 
 -- what a call leaves of a bank that changed nothing of it: the pages, the last made one and the cutoff stay, and no fault

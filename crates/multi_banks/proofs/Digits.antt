@@ -1,5 +1,5 @@
 -- Numbers of four bytes on a page, byte by byte.
-use Rattle.std.proofs.Common.{◌≡◌, ℕ, zero, suc, ◌+◌, ◌*◌, ◌/◌, ◌%◌, ◌^◌, ◌<◌, List, slice_index, Some, sym, ap, ◌∙◌, arith}
+use Rattle.std.proofs.Common.{◌≡◌, ℕ, zero, suc, ◌+◌, ◌*◌, ◌/◌, ◌%◌, ◌^◌, ◌<◌, List, slice_index, sym, ap, ◌∙◌, arith}
 use Rattle.store_pages.specs.Layouts.{number_in}
 use Rattle.tx_events.specs.Ids.{low_half}
 use Rattle.tx_core.specs.StoredBytes.{byte_of}

@@ -1,12 +1,12 @@
 -- Numbers of multixacts and of members while others go on, and what was set of them.
-use Rattle.std.proofs.Common.{◌≡◌, ◌⊎◌, ⊎_elim, inl, inr, ℕ, zero, suc, ◌+◌, ◌-◌, ◌*◌, ◌/◌, ◌%◌, ◌^◌, ◌≤◌, ◌<◌, List, [], ◌∷◌, ◌++◌, Some, Contains, length, take, take-append-drop, drop, append-nil, append_assoc, refl, sym, ap, subst, ◌∙◌, arith}
-use Rattle.std.specs.List.{filter_map, flat_map, slice_get}
+use Rattle.std.proofs.Common.{◌≡◌, ⊎_elim, inl, inr, ℕ, zero, suc, ◌+◌, ◌-◌, ◌%◌, ◌^◌, ◌≤◌, List, [], ◌∷◌, ◌++◌, Some, Contains, length, take, take-append-drop, drop, append-nil, append_assoc, refl, sym, ap, subst, ◌∙◌, arith}
+use Rattle.std.specs.List.{flat_map, slice_get}
 use Rattle.std.proofs.lemmas.Grind.{flat_map-append}
 use Rattle.std.proofs.lemmas.List.Elements.{Contains-append_left}
 use Rattle.std.proofs.lemmas.List.Sums.{fold_push}
 use Rattle.notes.specs.Lists.{Grows, at}
 use Rattle.notes.proofs.Growing.{begins_same}
-use Rattle.tx_events.proofs.Membership.{Has, by_end, contains_has, has_contains, has_flat_map, has_left, has_right}
+use Rattle.tx_events.proofs.Membership.{Has, by_end, contains_has, has_contains, has_left, has_right}
 use Rattle.tx_events.proofs.PlaceLemmas.{each_place_last, each_place_start}
 use Rattle.tx_events.specs.Base.{IsBase}
 use Rattle.tx_events.specs.Ids.{low_half}
@@ -20,18 +20,18 @@ use Rattle.tx_core.specs.declared.entry.Entry.{Entry}
 use Rattle.tx_core.specs.declared.entry.Kind.TheVariants as kinds
 use Rattle.tx_core.specs.declared.entry.Start.{Start}
 use Rattle.tx_core.specs.EngineInvariant.{EngineInvariant}
-use Rattle.tx_core.specs.Entries.{asked_in, asks_in, mark_of}
+use Rattle.tx_core.specs.Entries.{asks_in}
 use Rattle.tx_core.specs.Locks.{member_page_in_full, members_lock, members_lock_of, offsets_lock, offsets_lock_of}
 use Rattle.tx_core.specs.MembersBeforeOffset.{SlotOf}
 use Rattle.tx_core.specs.MultiEntries.{IsOffsetSet, IsSlotSet, SetOffset, SetSlot, multi_history, offsets_in, slots_in}
 use Rattle.tx_core.specs.PagesBeforeIds.{IsMultiOf, IsOffsetOf, WasMade}
 use Rattle.tx_core.proofs.MultiGiven.{gen_below}
-use Rattle.tx_core.proofs.MultiOrder.{Ordered, ordered}
+use Rattle.tx_core.proofs.MultiOrder.{ordered}
 use Rattle.tx_core.proofs.MultiRaised.{first_past}
 use Rattle.tx_core.proofs.Nearness.{multis_are_legal}
 use Rattle.tx_core.proofs.Rising.{made_more, multis_grow, taken_begins}
 use Rattle.recoverable.proofs.Offsets.{given_from}
-use Rattle.multi_banks.specs.Members.{SharePage, slots_set}
+use Rattle.multi_banks.specs.Members.{SharePage}
 use Rattle.multi_banks.proofs.Adding.{offset_entry, place_within, share_lock, slots_entry}
 
 -- a page that was made stays made

@@ -1,5 +1,5 @@
 -- A slot that was read of a bank holds the member that stands there.
-use Rattle.std.proofs.Common.{◌≡◌, ◌≢◌, ◌⊎◌, ⊎_elim, inl, inr, ℕ, zero, suc, ◌+◌, ◌-◌, ◌*◌, ◌/◌, ◌%◌, ◌^◌, ◌≤◌, ◌<◌, ◌==◌, Bool, true, false, cond, IsTrue, List, [], ◌∷◌, slice_index, Option, None, Some, Contains, length, refl, sym, ap, subst, ◌∙◌, arith}
+use Rattle.std.proofs.Common.{◌≡◌, ⊎_elim, inl, ℕ, zero, suc, ◌+◌, ◌-◌, ◌%◌, ◌^◌, ◌≤◌, ◌<◌, ◌==◌, Bool, false, cond, IsTrue, List, [], ◌∷◌, slice_index, Option, None, Some, Contains, length, refl, sym, ap, subst, ◌∙◌, arith}
 use Rattle.std.proofs.Math.Seq.{take-length}
 use Rattle.std.proofs.lemmas.Bool.Decides.{nat_tests}
 use Rattle.std.specs.List.{filter_map, flat_map, last_or, slice_get}
@@ -22,7 +22,6 @@ use Rattle.tx_events.specs.Multis.{free_offset, oldest_offset}
 use Rattle.tx_events.specs.declared.multi.Member.{Member}
 use Rattle.tx_events.specs.declared.multi.Mode.{Mode}
 use Rattle.tx_events.specs.declared.multi.Mode.TheVariants as modes
-use Rattle.tx_events.specs.declared.multi.MultiEvent.TheVariants as multis
 use Rattle.tx_core.specs.declared.entry.Entry.{Entry}
 use Rattle.tx_core.specs.declared.entry.Start.{Start}
 use Rattle.tx_core.specs.CleanMultis.{CleanMembers}
@@ -39,7 +38,6 @@ use Rattle.recoverable.proofs.BytesShow.{in_id, last_some, member_bytes_show, sl
 use Rattle.engine_parts.specs.Parts.{IsMembersOf}
 use Rattle.engine_parts.specs.Shelf.{ArePagesNear, IsReadNow, shows_on}
 use Rattle.engine_parts.specs.Shelves.{member_shelf, slot_held, word_held}
-use Rattle.engine_parts.proofs.OffsetShelf.{word_made}
 use Rattle.multi_banks.specs.Members.{HasMember, IsRecordedMember, IsSlotRead, SharePage}
 use Rattle.multi_banks.proofs.Adding.{place_within, share_lock, share_stored}
 use Rattle.multi_banks.proofs.Coursing.{same_last}

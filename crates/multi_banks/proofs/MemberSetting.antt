@@ -1,5 +1,5 @@
 -- Members that are set on a page, one behind another.
-use Rattle.std.proofs.Common.{None, Option, Some, ap, arith, inl, refl, inr, subst, sym, ⊎_elim, Bool, true, false, cond, List, [], ◌∷◌, ◌++◌, length, zero, suc, ℕ, ◌⊎◌, ◌≡◌, ◌≢◌, ◌+◌, ◌-◌, ◌*◌, ◌/◌, ◌%◌, ◌^◌, ◌<◌, ◌≤◌, ◌==◌, ◌∙◌, eqb-true}
+use Rattle.std.proofs.Common.{None, Option, Some, ap, arith, inl, refl, inr, subst, sym, ⊎_elim, Bool, true, false, cond, List, [], ◌∷◌, ◌++◌, length, zero, suc, ℕ, ◌⊎◌, ◌≡◌, ◌≢◌, ◌+◌, ◌%◌, ◌^◌, ◌<◌, ◌≤◌, ◌==◌, ◌∙◌, eqb-true}
 use Rattle.std.proofs.lemmas.Bool.Decides.{nat_tests}
 use Rattle.std.specs.List.{cons_option, filter_map, last_or, slice_get, slice_index}
 use Rattle.disk_core.specs.declared.page_disk.PageDisk as disks
@@ -17,13 +17,13 @@ use Rattle.tx_events.specs.declared.multi.Member.{Member}
 use Rattle.tx_core.specs.declared.entry.Entry.{Entry}
 use Rattle.tx_core.specs.declared.entry.Kind.TheVariants as kinds
 use Rattle.tx_core.specs.declared.entry.Start.{Start}
-use Rattle.tx_core.specs.MultiEntries.{SetSlot, slot_of}
+use Rattle.tx_core.specs.MultiEntries.{slot_of}
 use Rattle.tx_core.specs.PagesBeforeIds.{WasMade}
 use Rattle.tx_core.specs.StoredBytes.{HasZeroTails, StoredBytes, byte_of, slot_bytes, slot_bytes_for, slot_place_of}
 use Rattle.engine_parts.specs.BankCourse.{IsMemberOn, SetThem, member_rack}
 use Rattle.engine_parts.specs.Shelf.{IsRoomFor}
 use Rattle.engine_parts.specs.ShelfLaws.{SetsShown}
-use Rattle.engine_parts.specs.Shelves.{member_shelf, slot_held, word_held}
+use Rattle.engine_parts.specs.Shelves.{member_shelf, slot_held}
 use Rattle.engine_parts.proofs.OffsetShelf.{same_or_not, word_made}
 use Rattle.multi_banks.specs.Members.{SharePage, slots_set}
 use Rattle.multi_banks.proofs.Adding.{slots_entry}

@@ -1,9 +1,8 @@
 -- A bank of members stands for its list behind each of its calls.
-use Rattle.std.proofs.Common.{◌≡◌, ◌≢◌, ◌⊎◌, ℕ, zero, suc, ◌+◌, ◌*◌, ◌/◌, ◌%◌, ◌^◌, ◌≤◌, ◌<◌, ◌==◌, inl, inr, ⊎_elim, Bool, true, false, cond, List, [], ◌∷◌, ◌++◌, length, slice_index, IsTrue, None, Some, refl, sym, ap, subst, ◌∙◌, arith}
+use Rattle.std.proofs.Common.{◌≡◌, ℕ, ◌+◌, ◌/◌, ◌%◌, ◌^◌, ◌≤◌, ◌<◌, inl, inr, ⊎_elim, List, [], ◌∷◌, ◌++◌, length, IsTrue, None, Some, refl, sym, subst, arith}
 use Rattle.disk_core.specs.declared.page_disk.PageDisk as disks
 use Rattle.store_pages.specs.declared.page_rule.PageRule as rules
-use Rattle.store_pages.specs.Layouts.{member_page_of, member_place_of, mode_place_of, number_in}
-use Rattle.store_pages.specs.Pages.{id_at, mode_at}
+use Rattle.store_pages.specs.Layouts.{member_page_of}
 use Rattle.slru_bank.specs.declared.bank.SlruBank.{SlruBank}
 use Rattle.slru_bank.specs.declared.refusal.BankRefusal.{BankRefusal}
 use Rattle.slru_bank.specs.declared.refusal.BankRefusal.TheVariants as refused
@@ -28,9 +27,9 @@ use Rattle.tx_core.specs.Pages.{zeroed_in}
 use Rattle.tx_core.specs.PagesBeforeIds.{WasMade}
 use Rattle.tx_core.specs.StoredBytes.{HasZeroTails}
 use Rattle.tx_core.proofs.PageRing.{first_rises, member_on}
-use Rattle.engine_parts.specs.BankCourse.{IsMemberOn, SetThem, member_rack}
+use Rattle.engine_parts.specs.BankCourse.{IsMemberOn, member_rack}
 use Rattle.engine_parts.specs.Parts.{IsMembersOf}
-use Rattle.engine_parts.specs.Shelf.{IsNearBy, IsRoomFor}
+use Rattle.engine_parts.specs.Shelf.{IsNearBy}
 use Rattle.engine_parts.specs.ShelfLaws.{KeepsStore}
 use Rattle.engine_parts.specs.Shelves.{member_shelf}
 use Rattle.engine_parts.proofs.MemberShelf.{members_keep}
@@ -39,7 +38,7 @@ use Rattle.multi_banks.specs.Refusals.{entry_of_refusal}
 use Rattle.multi_banks.proofs.Adding.{slots_entry}
 use Rattle.multi_banks.proofs.Coursing.{IsSame, Makes, came_cut, came_made, came_noted, came_same, came_then, made_far, set_far, stands_past, stands_same}
 use Rattle.multi_banks.proofs.MemberSetting.{members_set, set_slots_then}
-use Rattle.multi_banks.proofs.Quiet.{now_told, refused_still, refused_told, same_told}
+use Rattle.multi_banks.proofs.Quiet.{refused_still, refused_told, same_told}
 use Rattle.multi_banks.proofs.Uncut.{members_span}
 
 module _ {P O : Type 0} {g : disks.Ghosts P} {r : rules.Ghosts O} (start : Start) (bank : ℕ) (base : IsBase start.base) where

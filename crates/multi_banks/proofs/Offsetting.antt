@@ -1,9 +1,9 @@
 -- A bank of offsets stands for its list behind each of its calls.
-use Rattle.std.proofs.Common.{◌≡◌, ◌≢◌, ℕ, ◌+◌, ◌*◌, ◌/◌, ◌%◌, ◌^◌, ◌≤◌, ◌<◌, ◌==◌, ◌⊎◌, inl, inr, ⊎_elim, Bool, cond, List, [], ◌∷◌, ◌++◌, slice_index, IsTrue, None, Some, refl, sym, ap, subst, ◌∙◌, arith}
+use Rattle.std.proofs.Common.{◌≡◌, ◌≢◌, ℕ, ◌+◌, ◌/◌, ◌%◌, ◌^◌, ◌≤◌, ◌<◌, ◌==◌, ◌⊎◌, inl, inr, ⊎_elim, Bool, cond, List, [], ◌∷◌, ◌++◌, slice_index, IsTrue, None, Some, refl, sym, ap, subst, ◌∙◌, arith}
 use Rattle.std.specs.List.{cons_option, last_or}
 use Rattle.disk_core.specs.declared.page_disk.PageDisk as disks
 use Rattle.store_pages.specs.declared.page_rule.PageRule as rules
-use Rattle.store_pages.specs.Layouts.{number_in, word_page_of, word_place_of}
+use Rattle.store_pages.specs.Layouts.{word_page_of, word_place_of}
 use Rattle.slru_bank.specs.declared.bank.SlruBank.{SlruBank}
 use Rattle.slru_bank.specs.declared.refusal.BankRefusal.{BankRefusal}
 use Rattle.slru_bank.specs.declared.refusal.BankRefusal.TheVariants as refused
@@ -34,11 +34,11 @@ use Rattle.engine_parts.specs.Shelf.{IsNearBy, IsRoomFor}
 use Rattle.engine_parts.specs.ShelfLaws.{KeepsStore}
 use Rattle.engine_parts.specs.Shelves.{offset_shelf}
 use Rattle.engine_parts.proofs.OffsetShelf.{offset_set, offsets_keep, other_number, own_number, same_or_not}
-use Rattle.multi_banks.specs.Refusals.{cut_fault_by, entry_of_refusal}
+use Rattle.multi_banks.specs.Refusals.{entry_of_refusal}
 use Rattle.multi_banks.proofs.Adding.{offset_entry}
 use Rattle.multi_banks.proofs.Coursing.{IsSame, Makes, came_cut, came_made, came_noted, came_same, came_then, made_far, set_far, stands_past, stands_same}
 use Rattle.multi_banks.proofs.Digits.{bytes_are, bytes_same}
-use Rattle.multi_banks.proofs.Quiet.{now_told, refused_still, refused_told, same_told}
+use Rattle.multi_banks.proofs.Quiet.{refused_still, refused_told, same_told}
 
 stop_upto : (oldest : ℕ) → multi_stop_limit oldest ≤ oldest + 2 ^ 31
 stop_upto oldest = grind arith

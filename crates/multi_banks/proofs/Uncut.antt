@@ -1,9 +1,8 @@
 -- Which pages of offsets and of members may be cut.
-use Rattle.std.proofs.Common.{◌≡◌, ◌⊎◌, ⊎_elim, ℕ, ◌+◌, ◌%◌, ◌/◌, ◌^◌, ◌≤◌, ◌<◌, List, Bool, false, true, IsTrue, Contains, None, Some, refl, sym, ap, subst, ◌∙◌, take, arith}
+use Rattle.std.proofs.Common.{◌≡◌, ⊎_elim, ℕ, ◌+◌, ◌%◌, ◌/◌, ◌^◌, ◌≤◌, ◌<◌, List, Bool, false, true, sym, subst, ◌∙◌, arith}
 use Rattle.std.proofs.lemmas.Bool.{false≢true}
 use Rattle.notes.specs.Lists.{at}
 use Rattle.store_pages.specs.Layouts.{member_page_of, multi_before, word_page_of}
-use Rattle.tx_events.proofs.Membership.{contains_has}
 use Rattle.tx_events.specs.Base.{IsBase}
 use Rattle.tx_events.specs.Ids.{low_half}
 use Rattle.tx_events.specs.Limits.{member_stop}
@@ -14,13 +13,12 @@ use Rattle.tx_core.specs.declared.entry.Entry.{Entry}
 use Rattle.tx_core.specs.declared.entry.Start.{Start}
 use Rattle.tx_core.specs.CutsFollow.{IsMemberGone, IsOffsetGone}
 use Rattle.tx_core.specs.EngineInvariant.{EngineInvariant}
-use Rattle.tx_core.specs.Held.{IsHeld}
 use Rattle.tx_core.specs.Locks.{member_page_in_full, members_lock, offset_page, offsets_lock}
 use Rattle.tx_core.specs.MultiEntries.{AreFewMultis, multi_history}
 use Rattle.tx_core.proofs.Holding.{pages_held}
 use Rattle.tx_core.proofs.Nearness.{free_upto, multis_are_legal}
 use Rattle.tx_core.proofs.Room.{multis_have_room}
-use Rattle.engine_parts.specs.Shelf.{IsCutoffOf, IsGone, Shelf}
+use Rattle.engine_parts.specs.Shelf.{IsGone}
 use Rattle.engine_parts.specs.Shelves.{member_shelf, offset_shelf}
 use Rattle.multi_banks.specs.Sections.{IsMemberCut, IsOffsetCut}
 

@@ -10,10 +10,13 @@ ghost use Rattle.engine_parts.specs.Sessions.{IsReady, by_at};
 ghost use Rattle.engine_parts.specs.Steps.{WentMulti};
 ghost use Rattle.multi_banks.specs.Sections.{CutSection};
 
-use crate::stored::{page_before, stored_members, stored_offsets};
 use crate::entries::{cut_note, with_cut};
+use crate::stored::{page_before, stored_members, stored_offsets};
 use disk_core::{LogDisk, PageDisk};
-use engine_parts::{Caller, EngineLaw, Part, Passing, command_of, enter_members, enter_offsets, fault_note, leave_quiet};
+use engine_parts::{
+    Caller, EngineLaw, Part, Passing, command_of, enter_members, enter_offsets, fault_note,
+    leave_quiet,
+};
 use hall::Hall;
 use slru_bank::BankRefusal;
 use store_pages::member_page_in_full;

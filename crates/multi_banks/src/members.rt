@@ -26,7 +26,8 @@ use crate::refused::leave_refused;
 use crate::stored::low_offset;
 use disk_core::{LogDisk, PageDisk};
 use engine_parts::{
-    Caller, EngineLaw, Part, Passing, command_of, enter_members, fault_note, leave_looked, leave_quiet,
+    Caller, EngineLaw, Part, Passing, command_of, enter_members, fault_note, leave_looked,
+    leave_quiet,
 };
 use hall::{Hall, Note};
 use multi_members::{Slot, read_members as stored_members, write_members};
@@ -192,4 +193,3 @@ pub fn read_members<R: Passing, L: LogDisk, P: PageDisk>(
         }
     }
 }
-

@@ -24,7 +24,8 @@ use crate::refused::leave_refused;
 use crate::stored::low_offset;
 use disk_core::{LogDisk, PageDisk};
 use engine_parts::{
-    Caller, EngineLaw, Part, Passing, command_of, enter_offsets, fault_note, leave_looked, leave_quiet,
+    Caller, EngineLaw, Part, Passing, command_of, enter_offsets, fault_note, leave_looked,
+    leave_quiet,
 };
 use hall::{Hall, Note};
 use multi_offsets::{offset as stored_offset, set_offset};
@@ -182,4 +183,3 @@ pub fn read_offset<R: Passing, L: LogDisk, P: PageDisk>(
         }
     }
 }
-

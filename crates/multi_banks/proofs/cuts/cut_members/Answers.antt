@@ -41,9 +41,12 @@ leave_quiet-requires-clause-may g c =
 pub leave_quiet-requires-clause-stands : goal.leave_quiet-requires-clause-stands
 leave_quiet-requires-clause-stands g c =
     let r = c.in-Ok.ensures in
-    let q = c.cut_note-entry.ensures in
-    (c.args.bank, refl, members_cut (start_of c.args.hall.now) c.args.bank c.requires.ready.at.base c.deref_mut-store.result.now c.truncate.new.self (at (view c.enter_members-held.new.caller.pass).seen (members_lock c.args.bank)) c.member_page_in_full-page.result _ (ap (λ (e : Entry). cut_in e.kind) q) (ap slots_in q) (ap (λ (e : Entry). zeroed_in e.kind) q) (same_told (start_of c.args.hall.now) (members_lock c.args.bank) _ (faults_of c.deref_mut-store.result.now) (faults_of c.truncate.new.self) (at (view c.enter_members-held.new.caller.pass).seen (members_lock c.args.bank)) (ap (λ (e : Entry). count_in e.kind) q) (subst (λ l. IsMembersOf (start_of c.args.hall.now) c.args.bank l (at (view c.enter_members-held.new.caller.pass).seen (members_lock c.args.bank))) (sym c.deref_mut-store.ensures.value) c.enter_members-held.ensures.stands).stands.count r.bank.sweeps.count)
-    (r.cutoff ∙ ap (λ z. later_cutoff Offsets 1636 (cutoff_of c.deref_mut-store.result.now) z) (c.stored_members.ensures)) r.bank.others r.bank.sweeps.last r.bank.crash (subst (λ l. IsMembersOf (start_of c.args.hall.now) c.args.bank l (at (view c.enter_members-held.new.caller.pass).seen (members_lock c.args.bank))) (sym c.deref_mut-store.ensures.value) c.enter_members-held.ensures.stands))
+    let q = c.cut_note-entry.ensures in (
+      c.args.bank,
+      refl,
+      members_cut (start_of c.args.hall.now) c.args.bank c.requires.ready.at.base c.deref_mut-store.result.now c.truncate.new.self (at (view c.enter_members-held.new.caller.pass).seen (members_lock c.args.bank)) c.member_page_in_full-page.result _ (ap (λ (e : Entry). cut_in e.kind) q) (ap slots_in q) (ap (λ (e : Entry). zeroed_in e.kind) q) (same_told (start_of c.args.hall.now) (members_lock c.args.bank) _ (faults_of c.deref_mut-store.result.now) (faults_of c.truncate.new.self) (at (view c.enter_members-held.new.caller.pass).seen (members_lock c.args.bank)) (ap (λ (e : Entry). count_in e.kind) q) (subst (λ l. IsMembersOf (start_of c.args.hall.now) c.args.bank l (at (view c.enter_members-held.new.caller.pass).seen (members_lock c.args.bank))) (sym c.deref_mut-store.ensures.value) c.enter_members-held.ensures.stands).stands.count r.bank.sweeps.count)
+          (r.cutoff ∙ ap (λ z. later_cutoff Offsets 1636 (cutoff_of c.deref_mut-store.result.now) z) (c.stored_members.ensures)) r.bank.others r.bank.sweeps.last r.bank.crash (subst (λ l. IsMembersOf (start_of c.args.hall.now) c.args.bank l (at (view c.enter_members-held.new.caller.pass).seen (members_lock c.args.bank))) (sym c.deref_mut-store.ensures.value) c.enter_members-held.ensures.stands),
+    )
 
 pub leave_quiet-requires-in-Err-clause-may : goal.leave_quiet-requires-in-Err-clause-may
 leave_quiet-requires-in-Err-clause-may g c =
@@ -60,9 +63,12 @@ leave_quiet-requires-in-Err-clause-may g c =
 pub leave_quiet-requires-in-Err-clause-stands : goal.leave_quiet-requires-in-Err-clause-stands
 leave_quiet-requires-in-Err-clause-stands g c =
     let r = c.in-Err.ensures in
-    let q = (c.with_cut-fault.ensures ∙ ap (cut_too c.member_page_in_full-page.result) (c.fault_note.ensures ∙ ap (λ (b : By). fault_by b (faults_of c.truncate.new.self)) c.command_of-by.ensures)) in
-    (c.args.bank, refl, members_cut (start_of c.args.hall.now) c.args.bank c.requires.ready.at.base c.deref_mut-store.result.now c.truncate.new.self (at (view c.enter_members-held.new.caller.pass).seen (members_lock c.args.bank)) c.member_page_in_full-page.result _ (ap (λ (e : Entry). cut_in e.kind) q) (ap slots_in q) (ap (λ (e : Entry). zeroed_in e.kind) q) (now_told (start_of c.args.hall.now) (members_lock c.args.bank) _ (faults_of c.truncate.new.self) (at (view c.enter_members-held.new.caller.pass).seen (members_lock c.args.bank)) (ap (λ (e : Entry). count_in e.kind) q))
-    (r.cutoff ∙ ap (λ z. later_cutoff Offsets 1636 (cutoff_of c.deref_mut-store.result.now) z) (c.stored_members.ensures)) r.bank.others r.bank.sweeps.last r.bank.crash (subst (λ l. IsMembersOf (start_of c.args.hall.now) c.args.bank l (at (view c.enter_members-held.new.caller.pass).seen (members_lock c.args.bank))) (sym c.deref_mut-store.ensures.value) c.enter_members-held.ensures.stands))
+    let q = (c.with_cut-fault.ensures ∙ ap (cut_too c.member_page_in_full-page.result) (c.fault_note.ensures ∙ ap (λ (b : By). fault_by b (faults_of c.truncate.new.self)) c.command_of-by.ensures)) in (
+      c.args.bank,
+      refl,
+      members_cut (start_of c.args.hall.now) c.args.bank c.requires.ready.at.base c.deref_mut-store.result.now c.truncate.new.self (at (view c.enter_members-held.new.caller.pass).seen (members_lock c.args.bank)) c.member_page_in_full-page.result _ (ap (λ (e : Entry). cut_in e.kind) q) (ap slots_in q) (ap (λ (e : Entry). zeroed_in e.kind) q) (now_told (start_of c.args.hall.now) (members_lock c.args.bank) _ (faults_of c.truncate.new.self) (at (view c.enter_members-held.new.caller.pass).seen (members_lock c.args.bank)) (ap (λ (e : Entry). count_in e.kind) q))
+          (r.cutoff ∙ ap (λ z. later_cutoff Offsets 1636 (cutoff_of c.deref_mut-store.result.now) z) (c.stored_members.ensures)) r.bank.others r.bank.sweeps.last r.bank.crash (subst (λ l. IsMembersOf (start_of c.args.hall.now) c.args.bank l (at (view c.enter_members-held.new.caller.pass).seen (members_lock c.args.bank))) (sym c.deref_mut-store.ensures.value) c.enter_members-held.ensures.stands),
+    )
 
 pub returns-in-Ok-clause-went : goal.returns-in-Ok-clause-went
 returns-in-Ok-clause-went g c =
@@ -90,9 +96,11 @@ returns-in-Err-clause-section g c =
     let pages = is_members_lock start c.args.bank c.requires.bank.0 in
     let told = (c.in-Err.ensures.bank.sweeps.fault refl).0 in
     let is : c.in-Err.refusal ≡ refused.DiskFault = cc in
-    subst (λ (z : BankRefusal). CutSection {T = Unit {0}} start (members_lock c.args.bank) (by_at n s.levels.commands) (member_page_in_full c.args.oldest) v w (Err z)) (sym is)
-    (faults_of c.truncate.new.self, section_of start v u w (members_lock c.args.bank) c.with_cut-fault.result.value (cut_fault_by (by_at n s.levels.commands) (member_page_in_full c.args.oldest) (faults_of c.truncate.new.self)) e.entered
-    ((c.with_cut-fault.ensures ∙ ap (cut_too c.member_page_in_full-page.result) (c.fault_note.ensures ∙ ap (λ (b : By). fault_by b (faults_of c.truncate.new.self)) c.command_of-by.ensures)) ∙ (λ j. cut_fault_by (same_command n t.number s t.session e.same.1 e.same.0 j) (c.member_page_in_full-page.ensures.page j) (faults_of c.truncate.new.self))) c.leave_quiet-in-Err.ensures.left)
+    subst (λ (z : BankRefusal). CutSection {T = Unit {0}} start (members_lock c.args.bank) (by_at n s.levels.commands) (member_page_in_full c.args.oldest) v w (Err z)) (sym is) (
+      faults_of c.truncate.new.self,
+      section_of start v u w (members_lock c.args.bank) c.with_cut-fault.result.value (cut_fault_by (by_at n s.levels.commands) (member_page_in_full c.args.oldest) (faults_of c.truncate.new.self)) e.entered
+          ((c.with_cut-fault.ensures ∙ ap (cut_too c.member_page_in_full-page.result) (c.fault_note.ensures ∙ ap (λ (b : By). fault_by b (faults_of c.truncate.new.self)) c.command_of-by.ensures)) ∙ (λ j. cut_fault_by (same_command n t.number s t.session e.same.1 e.same.0 j) (c.member_page_in_full-page.ensures.page j) (faults_of c.truncate.new.self))) c.leave_quiet-in-Err.ensures.left,
+    )
 
 pub returns-in-Err-clause-went : goal.returns-in-Err-clause-went
 returns-in-Err-clause-went g c =

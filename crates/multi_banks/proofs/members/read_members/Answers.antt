@@ -30,9 +30,12 @@ read_members-requires-clause-lap g c =
     (share_fits c.args.offset c.args.count c.low_offset.result c.low_offset.ensures c.requires.some c.requires.share).1
 
 pub leave_looked-requires-clause-stands : goal.leave_looked-requires-clause-stands
-leave_looked-requires-clause-stands g c =
-    (c.args.bank, refl, members_looked (start_of c.args.hall.now) c.args.bank c.requires.ready.at.base c.read_members.new.bank (by_at c.enter_members-held.new.caller.number c.enter_members-held.new.caller.session.levels.commands) (at (view c.enter_members-held.new.caller.pass).seen (members_lock c.args.bank))
-    (members_same (start_of c.args.hall.now) c.args.bank c.requires.ready.at.base c.deref_mut-store.result.now c.read_members.new.bank (at (view c.enter_members-held.new.caller.pass).seen (members_lock c.args.bank)) (record { last = c.read_members.ensures.bank.last; cutoff = c.read_members.ensures.bank.calls.cutoff; count = c.read_members.ensures.bank.calls.count; pages = c.read_members.ensures.same; crash = c.read_members.ensures.bank.calls.crash }) (subst (λ l. IsMembersOf (start_of c.args.hall.now) c.args.bank l (at (view c.enter_members-held.new.caller.pass).seen (members_lock c.args.bank))) (sym c.deref_mut-store.ensures.value) c.enter_members-held.ensures.stands)))
+leave_looked-requires-clause-stands g c = (
+  c.args.bank,
+  refl,
+  members_looked (start_of c.args.hall.now) c.args.bank c.requires.ready.at.base c.read_members.new.bank (by_at c.enter_members-held.new.caller.number c.enter_members-held.new.caller.session.levels.commands) (at (view c.enter_members-held.new.caller.pass).seen (members_lock c.args.bank))
+      (members_same (start_of c.args.hall.now) c.args.bank c.requires.ready.at.base c.deref_mut-store.result.now c.read_members.new.bank (at (view c.enter_members-held.new.caller.pass).seen (members_lock c.args.bank)) (record { last = c.read_members.ensures.bank.last; cutoff = c.read_members.ensures.bank.calls.cutoff; count = c.read_members.ensures.bank.calls.count; pages = c.read_members.ensures.same; crash = c.read_members.ensures.bank.calls.crash }) (subst (λ l. IsMembersOf (start_of c.args.hall.now) c.args.bank l (at (view c.enter_members-held.new.caller.pass).seen (members_lock c.args.bank))) (sym c.deref_mut-store.ensures.value) c.enter_members-held.ensures.stands)),
+)
 
 pub returns-in-Ok-clause-went : goal.returns-in-Ok-clause-went
 returns-in-Ok-clause-went g c =
@@ -61,14 +64,13 @@ returns-in-Ok-clause-slots g c told from =
     let looked = members_looked start c.args.bank c.requires.ready.at.base c.read_members.new.bank (by_at t.number t.session.levels.commands) (at (view c.enter_members-held.new.caller.pass).seen (members_lock c.args.bank))
     (members_same start c.args.bank c.requires.ready.at.base c.deref_mut-store.result.now c.read_members.new.bank (at (view c.enter_members-held.new.caller.pass).seen (members_lock c.args.bank)) (record { last = c.read_members.ensures.bank.last; cutoff = c.read_members.ensures.bank.calls.cutoff; count = c.read_members.ensures.bank.calls.count; pages = c.read_members.ensures.same; crash = c.read_members.ensures.bank.calls.crash }) (subst (λ l. IsMembersOf (start_of c.args.hall.now) c.args.bank l (at (view c.enter_members-held.new.caller.pass).seen (members_lock c.args.bank))) (sym c.deref_mut-store.ensures.value) c.enter_members-held.ensures.stands)) in
     let left = list_left start v u w n (members_lock c.args.bank) s c.requires.ready.at pages e.entered _ c.leave_looked.ensures.left in
-    let slots = slots_on (pages_of c.deref_mut-store.result.now (member_page_of c.args.offset)) (low_half c.args.offset % 1636) c.args.count in
-    (
+    let slots = slots_on (pages_of c.deref_mut-store.result.now (member_page_of c.args.offset)) (low_half c.args.offset % 1636) c.args.count in (
       slots,
       subst (λ z. c.read_members.new.into.items ≡ c.args.into.now.items ++ slots_on (pages_of c.deref_mut-store.result.now (z / 1636)) (z % 1636) c.args.count) c.low_offset.ensures (c.in-Ok.ensures.slots told),
       slots_long (pages_of c.deref_mut-store.result.now (member_page_of c.args.offset)) (low_half c.args.offset % 1636) c.args.count,
       (λ few k slot is.
-      slots_seen start w.seen c.args.bank c.read_members.new.bank c.args.offset c.args.count c.requires.ready.at.base c.leave_looked.ensures.ready.at.kept (subst (λ (l : List Entry). IsMembersOf start c.args.bank c.read_members.new.bank l) (sym left) looked) c.requires.here c.requires.some c.requires.share told from few k slot
-      (subst (λ (l : List ℕ). slice_get (slots_on l (low_half c.args.offset % 1636) c.args.count) k ≡ Some slot) (sym (r.same told (member_page_of c.args.offset))) is)),
+          slots_seen start w.seen c.args.bank c.read_members.new.bank c.args.offset c.args.count c.requires.ready.at.base c.leave_looked.ensures.ready.at.kept (subst (λ (l : List Entry). IsMembersOf start c.args.bank c.read_members.new.bank l) (sym left) looked) c.requires.here c.requires.some c.requires.share told from few k slot
+          (subst (λ (l : List ℕ). slice_get (slots_on l (low_half c.args.offset % 1636) c.args.count) k ≡ Some slot) (sym (r.same told (member_page_of c.args.offset))) is)),
     )
 
 pub leave_refused-requires-clause-stands : goal.leave_refused-requires-clause-stands

@@ -50,14 +50,17 @@ pub leave_quiet-requires-clause-stands : goal.leave_quiet-requires-clause-stands
 leave_quiet-requires-clause-stands g c =
     let r = c.in-Ok.ensures in
     let e = c.enter_members-held.ensures in
-    let fits = share_fits c.args.offset (length c.args.members.now) c.low_offset.result c.low_offset.ensures c.requires.some c.requires.share in
-    (c.args.bank, refl, members_put (start_of c.args.hall.now) c.args.bank c.requires.ready.at.base c.deref_mut-store.result.now c.write_members.new.bank (at (view c.enter_members-held.new.caller.pass).seen (members_lock c.args.bank)) c.command_of-by.result c.args.offset c.args.members.now c.set_note-entry.result.value c.set_note-entry.ensures
-    (given_offset (start_of c.args.hall.now) (view c.args.caller.now.pass).seen (view c.args.caller.now.pass).seen c.args.offset c.args.members.now _ c.requires.ready.at.base c.requires.ready.at.kept (grows_same _) c.requires.some c.requires.may).0 c.requires.some c.requires.share
-    (subst (λ z. z % 1636 + length c.args.members.now ≤ 1636) c.low_offset.ensures fits.0) (subst (λ z. z + length c.args.members.now ≤ 2 ^ 32) c.low_offset.ensures fits.1)
-    (made_later (view c.args.caller.now.pass).seen (view c.enter_members-held.new.caller.pass).seen (members_lock c.args.bank) _ _ e.entered.learns.knows.grows c.requires.made)
-    r.bank.last r.bank.calls.cutoff r.bank.calls.count
-    (λ told. subst (λ (z : ℕ). SetsMembers (z / 1636) (z % 1636) c.args.members.now (length c.args.members.now) (pages_of c.deref_mut-store.result.now) (pages_of c.write_members.new.bank)) c.low_offset.ensures (r.ok told))
-    r.bank.calls.crash (subst (λ l. IsMembersOf (start_of c.args.hall.now) c.args.bank l (at (view c.enter_members-held.new.caller.pass).seen (members_lock c.args.bank))) (sym c.deref_mut-store.ensures.value) c.enter_members-held.ensures.stands))
+    let fits = share_fits c.args.offset (length c.args.members.now) c.low_offset.result c.low_offset.ensures c.requires.some c.requires.share in (
+      c.args.bank,
+      refl,
+      members_put (start_of c.args.hall.now) c.args.bank c.requires.ready.at.base c.deref_mut-store.result.now c.write_members.new.bank (at (view c.enter_members-held.new.caller.pass).seen (members_lock c.args.bank)) c.command_of-by.result c.args.offset c.args.members.now c.set_note-entry.result.value c.set_note-entry.ensures
+          (given_offset (start_of c.args.hall.now) (view c.args.caller.now.pass).seen (view c.args.caller.now.pass).seen c.args.offset c.args.members.now _ c.requires.ready.at.base c.requires.ready.at.kept (grows_same _) c.requires.some c.requires.may).0 c.requires.some c.requires.share
+          (subst (λ z. z % 1636 + length c.args.members.now ≤ 1636) c.low_offset.ensures fits.0) (subst (λ z. z + length c.args.members.now ≤ 2 ^ 32) c.low_offset.ensures fits.1)
+          (made_later (view c.args.caller.now.pass).seen (view c.enter_members-held.new.caller.pass).seen (members_lock c.args.bank) _ _ e.entered.learns.knows.grows c.requires.made)
+          r.bank.last r.bank.calls.cutoff r.bank.calls.count
+          (λ told. subst (λ (z : ℕ). SetsMembers (z / 1636) (z % 1636) c.args.members.now (length c.args.members.now) (pages_of c.deref_mut-store.result.now) (pages_of c.write_members.new.bank)) c.low_offset.ensures (r.ok told))
+          r.bank.calls.crash (subst (λ l. IsMembersOf (start_of c.args.hall.now) c.args.bank l (at (view c.enter_members-held.new.caller.pass).seen (members_lock c.args.bank))) (sym c.deref_mut-store.ensures.value) c.enter_members-held.ensures.stands),
+    )
 
 pub returns-in-Ok-clause-went : goal.returns-in-Ok-clause-went
 returns-in-Ok-clause-went g c =

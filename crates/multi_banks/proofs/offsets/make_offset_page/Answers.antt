@@ -36,9 +36,12 @@ leave_quiet-requires-clause-may g c =
 
 pub leave_quiet-requires-clause-stands : goal.leave_quiet-requires-clause-stands
 leave_quiet-requires-clause-stands g c =
-    let r = c.in-Ok.ensures in
-    (c.args.bank, refl, offsets_made (start_of c.args.hall.now) c.args.bank c.requires.ready.at.base c.deref_mut-store.result.now c.zero.new.self (at (view c.enter_offsets-held.new.caller.pass).seen (offsets_lock c.args.bank)) c.command_of-by.result c.args.multi c.offset_page_in_full.result c.offset_page.result c.zeroed_note-entry.result.value
-    c.requires.wanted.0 c.zeroed_note-entry.ensures (c.offset_page_in_full.ensures.page) (c.offset_page.ensures.page ∙ ap (λ z. z / 2048) c.low.ensures) (record { last = r.last; cutoff = r.calls.cutoff; count = r.calls.count; pages = r.ok; crash = r.calls.crash }) (subst (λ l. IsOffsetsOf (start_of c.args.hall.now) c.args.bank l (at (view c.enter_offsets-held.new.caller.pass).seen (offsets_lock c.args.bank))) (sym c.deref_mut-store.ensures.value) c.enter_offsets-held.ensures.stands))
+    let r = c.in-Ok.ensures in (
+      c.args.bank,
+      refl,
+      offsets_made (start_of c.args.hall.now) c.args.bank c.requires.ready.at.base c.deref_mut-store.result.now c.zero.new.self (at (view c.enter_offsets-held.new.caller.pass).seen (offsets_lock c.args.bank)) c.command_of-by.result c.args.multi c.offset_page_in_full.result c.offset_page.result c.zeroed_note-entry.result.value
+          c.requires.wanted.0 c.zeroed_note-entry.ensures (c.offset_page_in_full.ensures.page) (c.offset_page.ensures.page ∙ ap (λ z. z / 2048) c.low.ensures) (record { last = r.last; cutoff = r.calls.cutoff; count = r.calls.count; pages = r.ok; crash = r.calls.crash }) (subst (λ l. IsOffsetsOf (start_of c.args.hall.now) c.args.bank l (at (view c.enter_offsets-held.new.caller.pass).seen (offsets_lock c.args.bank))) (sym c.deref_mut-store.ensures.value) c.enter_offsets-held.ensures.stands),
+    )
 
 pub returns-in-Ok-clause-went : goal.returns-in-Ok-clause-went
 returns-in-Ok-clause-went g c =

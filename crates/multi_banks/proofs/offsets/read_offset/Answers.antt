@@ -19,9 +19,12 @@ use Rattle.tx_core.specs.declared.entry.Entry.{Entry}
 use Rattle.multi_banks.proofs.offsets.read_offset.Goals as goal
 
 pub leave_looked-requires-clause-stands : goal.leave_looked-requires-clause-stands
-leave_looked-requires-clause-stands g c =
-    (c.args.bank, refl, offsets_looked (start_of c.args.hall.now) c.args.bank c.requires.ready.at.base c.offset.new.bank (by_at c.enter_offsets-held.new.caller.number c.enter_offsets-held.new.caller.session.levels.commands) (at (view c.enter_offsets-held.new.caller.pass).seen (offsets_lock c.args.bank))
-    (offsets_same (start_of c.args.hall.now) c.args.bank c.requires.ready.at.base c.deref_mut-store.result.now c.offset.new.bank (at (view c.enter_offsets-held.new.caller.pass).seen (offsets_lock c.args.bank)) (record { last = c.offset.ensures.bank.last; cutoff = c.offset.ensures.bank.calls.cutoff; count = c.offset.ensures.bank.calls.count; pages = c.offset.ensures.same; crash = c.offset.ensures.bank.calls.crash }) (subst (λ l. IsOffsetsOf (start_of c.args.hall.now) c.args.bank l (at (view c.enter_offsets-held.new.caller.pass).seen (offsets_lock c.args.bank))) (sym c.deref_mut-store.ensures.value) c.enter_offsets-held.ensures.stands)))
+leave_looked-requires-clause-stands g c = (
+  c.args.bank,
+  refl,
+  offsets_looked (start_of c.args.hall.now) c.args.bank c.requires.ready.at.base c.offset.new.bank (by_at c.enter_offsets-held.new.caller.number c.enter_offsets-held.new.caller.session.levels.commands) (at (view c.enter_offsets-held.new.caller.pass).seen (offsets_lock c.args.bank))
+      (offsets_same (start_of c.args.hall.now) c.args.bank c.requires.ready.at.base c.deref_mut-store.result.now c.offset.new.bank (at (view c.enter_offsets-held.new.caller.pass).seen (offsets_lock c.args.bank)) (record { last = c.offset.ensures.bank.last; cutoff = c.offset.ensures.bank.calls.cutoff; count = c.offset.ensures.bank.calls.count; pages = c.offset.ensures.same; crash = c.offset.ensures.bank.calls.crash }) (subst (λ l. IsOffsetsOf (start_of c.args.hall.now) c.args.bank l (at (view c.enter_offsets-held.new.caller.pass).seen (offsets_lock c.args.bank))) (sym c.deref_mut-store.ensures.value) c.enter_offsets-held.ensures.stands)),
+)
 
 pub returns-in-Ok-clause-went : goal.returns-in-Ok-clause-went
 returns-in-Ok-clause-went g c =

@@ -43,13 +43,16 @@ pub leave_quiet-requires-clause-stands : goal.leave_quiet-requires-clause-stands
 leave_quiet-requires-clause-stands g c =
     let r = c.in-Ok.ensures in
     let e = c.enter_offsets-held.ensures in
-    let given = c.requires.may.recorded in
-    (c.args.bank, refl, offsets_set (start_of c.args.hall.now) c.args.bank c.requires.ready.at.base c.deref_mut-store.result.now c.set_offset.new.bank (at (view c.enter_offsets-held.new.caller.pass).seen (offsets_lock c.args.bank)) c.command_of-by.result c.args.multi c.args.offset c.set_note-entry.result.value c.set_note-entry.ensures
-    (given_from (start_of c.args.hall.now) (view c.args.caller.now.pass).seen given.by c.args.multi c.args.offset c.requires.may.members c.requires.ready.at.kept given.given)
-    (made_later (view c.args.caller.now.pass).seen (view c.enter_offsets-held.new.caller.pass).seen (offsets_lock c.args.bank) _ _ e.entered.learns.knows.grows c.requires.made)
-    r.bank.last r.bank.calls.cutoff r.bank.calls.count
-    (λ told. subst (λ (z : ℕ × ℕ). SetsEntry (z.0 / 2048) (z.0 % 2048) z.1 (pages_of c.deref_mut-store.result.now) (pages_of c.set_offset.new.bank)) (λ j. (c.low.ensures j, c.low_offset.ensures j)) (r.ok told))
-    r.bank.calls.crash (subst (λ l. IsOffsetsOf (start_of c.args.hall.now) c.args.bank l (at (view c.enter_offsets-held.new.caller.pass).seen (offsets_lock c.args.bank))) (sym c.deref_mut-store.ensures.value) c.enter_offsets-held.ensures.stands))
+    let given = c.requires.may.recorded in (
+      c.args.bank,
+      refl,
+      offsets_set (start_of c.args.hall.now) c.args.bank c.requires.ready.at.base c.deref_mut-store.result.now c.set_offset.new.bank (at (view c.enter_offsets-held.new.caller.pass).seen (offsets_lock c.args.bank)) c.command_of-by.result c.args.multi c.args.offset c.set_note-entry.result.value c.set_note-entry.ensures
+          (given_from (start_of c.args.hall.now) (view c.args.caller.now.pass).seen given.by c.args.multi c.args.offset c.requires.may.members c.requires.ready.at.kept given.given)
+          (made_later (view c.args.caller.now.pass).seen (view c.enter_offsets-held.new.caller.pass).seen (offsets_lock c.args.bank) _ _ e.entered.learns.knows.grows c.requires.made)
+          r.bank.last r.bank.calls.cutoff r.bank.calls.count
+          (λ told. subst (λ (z : ℕ × ℕ). SetsEntry (z.0 / 2048) (z.0 % 2048) z.1 (pages_of c.deref_mut-store.result.now) (pages_of c.set_offset.new.bank)) (λ j. (c.low.ensures j, c.low_offset.ensures j)) (r.ok told))
+          r.bank.calls.crash (subst (λ l. IsOffsetsOf (start_of c.args.hall.now) c.args.bank l (at (view c.enter_offsets-held.new.caller.pass).seen (offsets_lock c.args.bank))) (sym c.deref_mut-store.ensures.value) c.enter_offsets-held.ensures.stands),
+    )
 
 pub returns-in-Ok-clause-went : goal.returns-in-Ok-clause-went
 returns-in-Ok-clause-went g c =

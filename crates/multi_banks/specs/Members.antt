@@ -22,7 +22,8 @@ slots_set by offset (member ∷ members) = changes.Slot by offset member ∷ slo
 abbrev pub SharePage : ℕ → ℕ → Type 0
 SharePage offset count = (k : ℕ) → k < count → member_page_in_full (offset + k) ≡ member_page_in_full offset
 
--- A multixact that is recorded from before the life has this member at the offset. It is one from the first oldest one on.
+-- A multixact that is recorded from before the life has this member at the offset. It is one from the first oldest one
+-- on.
 pub record IsRecordedMember (start : Start) (offset : ℕ) (member : Member) : Type 0 where
   pub multi : ℕ
   pub first : ℕ
@@ -47,4 +48,5 @@ IsSlotRead start lists offset slot =
 -- these slots were read from an offset on
 abbrev pub AreSlotsRead : Start → List (List Entry) → ℕ → List Slot → Type 0
 AreSlotsRead start lists offset slots =
-    AreFewMultis lists → (k : ℕ) (slot : Slot) → slice_get slots k ≡ Some slot → IsSlotRead start lists (offset + k) slot
+    AreFewMultis lists → (k : ℕ) (slot : Slot) → slice_get slots k ≡ Some slot
+    → IsSlotRead start lists (offset + k) slot

@@ -28,10 +28,12 @@ abbrev pub BankSection : {T : Type 0} → Start → ℕ → By → (ℕ → Type
 BankSection start lock by cut done v w (Ok x) = Section start lock (record { by = by; kind = done }) v w
 BankSection start lock by cut done v w (Err refusal) = BankRefused start lock by cut v w refusal
 
--- What lies before a page in full is removed. Only a volume that fails refuses it, and the entry is the fault with the cut.
+-- What lies before a page in full is removed. Only a volume that fails refuses it, and the entry is the fault with the
+-- cut.
 abbrev pub CutSection : {T : Type 0} → Start → ℕ → By → ℕ → Knowledge → Knowledge → Result T BankRefusal → Type 0
 CutSection start lock by page v w (Ok x) = Section start lock (record { by = by; kind = kinds.Cut page }) v w
-CutSection start lock by page v w (Err refused.DiskFault) = (count : ℕ) × Section start lock (cut_fault_by by page count) v w
+CutSection start lock by page v w (Err refused.DiskFault) =
+    (count : ℕ) × Section start lock (cut_fault_by by page count) v w
 CutSection start lock by page v w (Err (refused.Cut cutoff)) = ⊥
 
 -- the cutoff of the bank, one that its list has, cuts this stored page of offsets

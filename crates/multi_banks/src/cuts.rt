@@ -36,8 +36,10 @@ pub fn cut_offsets<R: Passing, L: LogDisk, P: PageDisk>(
     requires laid { hall.now.cells ≡ 3 + 4 * (start_of hall.now).banks }
     requires bank { (bank < (start_of hall.now).banks) × ((start_of hall.now).banks ≤ 16) }
     requires ready { IsReady (start_of hall.now) (view caller.old.pass) caller.old.number caller.old.session }
-    requires told { (id : ℕ) × (offset : ℕ) × IsTruncated (start_of hall.now) (view caller.old.pass).seen id oldest offset }
-    ensures section { CutSection (start_of hall.now) (offsets_lock bank) (by_at caller.old.number caller.old.session.levels.commands)
+    requires told { (id : ℕ) × (offset : ℕ) × IsTruncated (start_of hall.now)
+        (view caller.old.pass).seen id oldest offset }
+    ensures section { CutSection (start_of hall.now) (offsets_lock bank)
+        (by_at caller.old.number caller.old.session.levels.commands)
         (offset_page (multi_before oldest)) (view caller.old.pass) (view caller.new.pass) result }
     ensures own { IsOf hall.now caller.new.pass }
     ensures ready { IsReady (start_of hall.now) (view caller.new.pass) caller.new.number caller.new.session }
@@ -80,8 +82,10 @@ pub fn cut_members<R: Passing, L: LogDisk, P: PageDisk>(
     requires laid { hall.now.cells ≡ 3 + 4 * (start_of hall.now).banks }
     requires bank { (bank < (start_of hall.now).banks) × ((start_of hall.now).banks ≤ 16) }
     requires ready { IsReady (start_of hall.now) (view caller.old.pass) caller.old.number caller.old.session }
-    requires told { (id : ℕ) × (multi : ℕ) × IsTruncated (start_of hall.now) (view caller.old.pass).seen id multi oldest }
-    ensures section { CutSection (start_of hall.now) (members_lock bank) (by_at caller.old.number caller.old.session.levels.commands)
+    requires told { (id : ℕ) × (multi : ℕ) × IsTruncated (start_of hall.now)
+        (view caller.old.pass).seen id multi oldest }
+    ensures section { CutSection (start_of hall.now) (members_lock bank)
+        (by_at caller.old.number caller.old.session.levels.commands)
         (member_page_in_full oldest) (view caller.old.pass) (view caller.new.pass) result }
     ensures own { IsOf hall.now caller.new.pass }
     ensures ready { IsReady (start_of hall.now) (view caller.new.pass) caller.new.number caller.new.session }

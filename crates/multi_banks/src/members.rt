@@ -57,13 +57,15 @@ pub fn make_member_page<R: Passing, L: LogDisk, P: PageDisk>(
     requires ready { IsReady (start_of hall.now) (view caller.old.pass) caller.old.number caller.old.session }
     requires here { members_lock_of (start_of hall.now) offset ≡ members_lock bank }
     requires wanted { IsOffsetOf (start_of hall.now) (view caller.old.pass).seen offset }
-    ensures section { BankSection (start_of hall.now) (members_lock bank) (by_at caller.old.number caller.old.session.levels.commands)
+    ensures section { BankSection (start_of hall.now) (members_lock bank)
+        (by_at caller.old.number caller.old.session.levels.commands)
         (IsMemberCut (start_of hall.now) (view caller.new.pass).seen bank (member_page_of offset))
         (kinds.Zero (member_page_in_full offset)) (view caller.old.pass) (view caller.new.pass) result }
     ensures own { IsOf hall.now caller.new.pass }
     ensures ready { IsReady (start_of hall.now) (view caller.new.pass) caller.new.number caller.new.session }
     ensures went { WentMulti caller.old.number [] (view caller.old.pass).seen (view caller.new.pass).seen }
-    ensures made { OnOk result (Stands (view caller.new.pass).seen (members_lock bank) (kinds.Zero (member_page_in_full offset))) }
+    ensures made { OnOk result (Stands (view caller.new.pass).seen (members_lock bank) (kinds.Zero
+        (member_page_in_full offset))) }
     ensures fault { result ≡ Err DiskFault → MetFault (view caller.new.pass).seen (members_lock bank)
         (by_at caller.old.number caller.old.session.levels.commands) }
     ensures gone { AreFewMultis (view caller.new.pass).seen → (cutoff : ℕ) → result ≡ Err (Cut cutoff)
@@ -105,12 +107,21 @@ pub fn record_members<R: Passing, L: LogDisk, P: PageDisk>(
     requires here { members_lock_of (start_of hall.now) offset ≡ members_lock bank }
     requires some { 1 ≤ length members.now }
     requires share { SharePage offset (length members.now) }
-    requires made { WasMade (at (view caller.old.pass).seen (members_lock bank)) (member_page_in_full (start_of hall.now).base.offset) (member_page_in_full offset) }
-    requires may { (k : ℕ) (member : Member) → slice_get members.now k ≡ Some member → SlotOf (view caller.old.pass).seen
-        (record { caller = by_at caller.old.number caller.old.session.levels.commands; offset = offset + k; member = member }) }
-    ensures section { BankSection (start_of hall.now) (members_lock bank) (by_at caller.old.number caller.old.session.levels.commands)
+    requires made { WasMade (at (view caller.old.pass).seen (members_lock bank)) (member_page_in_full
+        (start_of hall.now).base.offset) (member_page_in_full offset) }
+    requires may { (k : ℕ) (member : Member) → slice_get members.now k ≡ Some member → SlotOf
+        (view caller.old.pass).seen
+        (record {
+          caller = by_at caller.old.number caller.old.session.levels.commands;
+          offset = offset + k;
+          member =
+              member;
+        }) }
+    ensures section { BankSection (start_of hall.now) (members_lock bank)
+        (by_at caller.old.number caller.old.session.levels.commands)
         (IsMemberCut (start_of hall.now) (view caller.new.pass).seen bank (member_page_of offset))
-        (kinds.Set (slots_set (by_at caller.old.number caller.old.session.levels.commands) offset members.now)) (view caller.old.pass) (view caller.new.pass) result }
+        (kinds.Set (slots_set (by_at caller.old.number caller.old.session.levels.commands) offset members.now))
+        (view caller.old.pass) (view caller.new.pass) result }
     ensures own { IsOf hall.now caller.new.pass }
     ensures ready { IsReady (start_of hall.now) (view caller.new.pass) caller.new.number caller.new.session }
     ensures went { WentMulti caller.old.number [] (view caller.old.pass).seen (view caller.new.pass).seen }
@@ -160,19 +171,23 @@ pub fn read_members<R: Passing, L: LogDisk, P: PageDisk>(
     requires some { 1 ≤ count }
     requires share { SharePage offset count }
     requires room { length into.old.items + count ≤ vec_capacity into.old }
-    ensures section { BankSection (start_of hall.now) (members_lock bank) (by_at caller.old.number caller.old.session.levels.commands)
+    ensures section { BankSection (start_of hall.now) (members_lock bank)
+        (by_at caller.old.number caller.old.session.levels.commands)
         (IsMemberCut (start_of hall.now) (view caller.new.pass).seen bank (member_page_of offset))
         kinds.Look (view caller.old.pass) (view caller.new.pass) result }
     ensures own { IsOf hall.now caller.new.pass }
     ensures ready { IsReady (start_of hall.now) (view caller.new.pass) caller.new.number caller.new.session }
     ensures went { WentMulti caller.old.number [] (view caller.old.pass).seen (view caller.new.pass).seen }
-    ensures slots { IsTrue P.tells → oldest_offset (start_of hall.now).base.oldest_offset (multi_history (view caller.new.pass).seen) ≤ offset
-        → OnOk result ((slots : List Slot) × (into.new.items ≡ into.old.items ++ slots) × (length slots ≡ count) × AreSlotsRead (start_of hall.now) (view caller.new.pass).seen offset slots) }
+    ensures slots { IsTrue P.tells → oldest_offset (start_of hall.now).base.oldest_offset (multi_history
+        (view caller.new.pass).seen) ≤ offset
+        → OnOk result ((slots : List Slot) × (into.new.items ≡ into.old.items ++ slots) × (length slots ≡ count)
+        × AreSlotsRead (start_of hall.now) (view caller.new.pass).seen offset slots) }
     ensures none { OnErr result (into.new.items ≡ into.old.items) }
     ensures room { vec_capacity into.new ≡ vec_capacity into.old }
     ensures fault { result ≡ Err DiskFault → MetFault (view caller.new.pass).seen (members_lock bank)
         (by_at caller.old.number caller.old.session.levels.commands) }
-    ensures uncut { AreFewMultis (view caller.new.pass).seen → oldest_offset (start_of hall.now).base.oldest_offset (multi_history (view caller.new.pass).seen) ≤ offset
+    ensures uncut { AreFewMultis (view caller.new.pass).seen → oldest_offset (start_of hall.now).base.oldest_offset
+        (multi_history (view caller.new.pass).seen) ≤ offset
         → offset ≤ free_offset (start_of hall.now).base.offset (multi_history (view caller.new.pass).seen)
         → (cutoff : ℕ) → result ≡ Err (Cut cutoff) → ⊥ }
     ensures same { (caller.new.session ≡ caller.old.session) × (caller.new.number ≡ caller.old.number) }

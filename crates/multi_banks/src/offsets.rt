@@ -55,13 +55,15 @@ pub fn make_offset_page<R: Passing, L: LogDisk, P: PageDisk>(
     requires ready { IsReady (start_of hall.now) (view caller.old.pass) caller.old.number caller.old.session }
     requires here { offsets_lock_of (start_of hall.now) multi ≡ offsets_lock bank }
     requires wanted { IsMultiOf (start_of hall.now) (view caller.old.pass).seen multi }
-    ensures section { BankSection (start_of hall.now) (offsets_lock bank) (by_at caller.old.number caller.old.session.levels.commands)
+    ensures section { BankSection (start_of hall.now) (offsets_lock bank)
+        (by_at caller.old.number caller.old.session.levels.commands)
         (IsOffsetCut (start_of hall.now) (view caller.new.pass).seen bank (word_page_of multi))
         (kinds.Zero (offset_page multi)) (view caller.old.pass) (view caller.new.pass) result }
     ensures own { IsOf hall.now caller.new.pass }
     ensures ready { IsReady (start_of hall.now) (view caller.new.pass) caller.new.number caller.new.session }
     ensures went { WentMulti caller.old.number [] (view caller.old.pass).seen (view caller.new.pass).seen }
-    ensures made { OnOk result (Stands (view caller.new.pass).seen (offsets_lock bank) (kinds.Zero (offset_page multi))) }
+    ensures made { OnOk result (Stands (view caller.new.pass).seen (offsets_lock bank) (kinds.Zero
+        (offset_page multi))) }
     ensures fault { result ≡ Err DiskFault → MetFault (view caller.new.pass).seen (offsets_lock bank)
         (by_at caller.old.number caller.old.session.levels.commands) }
     // Where it is cut in a life of few multixacts an entry cut it.
@@ -102,10 +104,16 @@ pub fn record_offset<R: Passing, L: LogDisk, P: PageDisk>(
     requires bank { (bank < (start_of hall.now).banks) × ((start_of hall.now).banks ≤ 16) }
     requires ready { IsReady (start_of hall.now) (view caller.old.pass) caller.old.number caller.old.session }
     requires here { offsets_lock_of (start_of hall.now) multi ≡ offsets_lock bank }
-    requires made { WasMade (at (view caller.old.pass).seen (offsets_lock bank)) (offset_page (start_of hall.now).base.multi) (offset_page multi) }
+    requires made { WasMade (at (view caller.old.pass).seen (offsets_lock bank)) (offset_page
+        (start_of hall.now).base.multi) (offset_page multi) }
     requires may { OffsetOf (start_of hall.now) (view caller.old.pass).seen
-        (record { caller = by_at caller.old.number caller.old.session.levels.commands; multi = multi; offset = offset }) }
-    ensures section { BankSection (start_of hall.now) (offsets_lock bank) (by_at caller.old.number caller.old.session.levels.commands)
+        (record {
+          caller = by_at caller.old.number caller.old.session.levels.commands;
+          multi = multi;
+          offset = offset;
+        }) }
+    ensures section { BankSection (start_of hall.now) (offsets_lock bank)
+        (by_at caller.old.number caller.old.session.levels.commands)
         (IsOffsetCut (start_of hall.now) (view caller.new.pass).seen bank (word_page_of multi))
         (kinds.Set (changes.Offset (by_at caller.old.number caller.old.session.levels.commands) multi offset ∷ []))
         (view caller.old.pass) (view caller.new.pass) result }
@@ -151,18 +159,21 @@ pub fn read_offset<R: Passing, L: LogDisk, P: PageDisk>(
     requires bank { (bank < (start_of hall.now).banks) × ((start_of hall.now).banks ≤ 16) }
     requires ready { IsReady (start_of hall.now) (view caller.old.pass) caller.old.number caller.old.session }
     requires here { offsets_lock_of (start_of hall.now) multi ≡ offsets_lock bank }
-    ensures section { BankSection (start_of hall.now) (offsets_lock bank) (by_at caller.old.number caller.old.session.levels.commands)
+    ensures section { BankSection (start_of hall.now) (offsets_lock bank)
+        (by_at caller.old.number caller.old.session.levels.commands)
         (IsOffsetCut (start_of hall.now) (view caller.new.pass).seen bank (word_page_of multi))
         kinds.Look (view caller.old.pass) (view caller.new.pass) result }
     ensures own { IsOf hall.now caller.new.pass }
     ensures ready { IsReady (start_of hall.now) (view caller.new.pass) caller.new.number caller.new.session }
     ensures went { WentMulti caller.old.number [] (view caller.old.pass).seen (view caller.new.pass).seen }
     // Of one whose page may be gone nothing is told, so only of one from the announced oldest one on.
-    ensures offset { IsTrue P.tells → oldest_multi (start_of hall.now).base.oldest_multi (multi_history (view caller.new.pass).seen) ≤ multi
+    ensures offset { IsTrue P.tells → oldest_multi (start_of hall.now).base.oldest_multi (multi_history
+        (view caller.new.pass).seen) ≤ multi
         → IfOk result (IsOffsetRead (start_of hall.now) (view caller.new.pass).seen multi) }
     ensures fault { result ≡ Err DiskFault → MetFault (view caller.new.pass).seen (offsets_lock bank)
         (by_at caller.old.number caller.old.session.levels.commands) }
-    ensures uncut { AreFewMultis (view caller.new.pass).seen → oldest_multi (start_of hall.now).base.oldest_multi (multi_history (view caller.new.pass).seen) ≤ multi
+    ensures uncut { AreFewMultis (view caller.new.pass).seen → oldest_multi (start_of hall.now).base.oldest_multi
+        (multi_history (view caller.new.pass).seen) ≤ multi
         → multi ≤ next_made (start_of hall.now).base.multi (multi_history (view caller.new.pass).seen)
         → (cutoff : ℕ) → result ≡ Err (Cut cutoff) → ⊥ }
     ensures same { (caller.new.session ≡ caller.old.session) × (caller.new.number ≡ caller.old.number) }

@@ -23,8 +23,8 @@ use store_pages::member_page_in_full;
 use tx_events::FullMulti;
 
 /// Removes the offsets of the multixacts before the one before the oldest one of a truncation that is on disk
-/// (`PerformOffsetsTruncation`), by whole segments. Where the volume fails the cut stands all the same, and some pages may
-/// still be there.
+/// (`PerformOffsetsTruncation`), by whole segments. Where the volume fails the cut stands all the same, and some pages
+/// may still be there.
 pub fn cut_offsets<R: Passing, L: LogDisk, P: PageDisk>(
     rt: &R,
     hall: &Hall<EngineLaw<L, P>>,

@@ -152,8 +152,8 @@ pub fn record_members<R: Passing, L: LogDisk, P: PageDisk>(
 }
 
 /// What stands in so many slots of one page from an offset on, which are put behind those that are there
-/// (`GetMultiXactIdMembers`). Where the offset isn't before the announced oldest one its page isn't cut, in a life of few
-/// multixacts. After an error none is put there.
+/// (`GetMultiXactIdMembers`). Where the offset isn't before the announced oldest one, nor past the next free one, its
+/// page isn't cut, in a life of few multixacts. After an error none is put there.
 pub fn read_members<R: Passing, L: LogDisk, P: PageDisk>(
     rt: &R,
     hall: &Hall<EngineLaw<L, P>>,

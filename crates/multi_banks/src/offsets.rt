@@ -40,8 +40,8 @@ fn set_note(by: By, multi: FullMulti, offset: u64) -> Note<Entry>
     Note::by(&(by, multi, offset))
 }
 
-/// Makes the page of the offset of a multixact that was given or comes next, where the bank's last made page is before it
-/// (`ExtendMultiXactOffset` of `src/backend/access/transam/multixact.c`).
+/// Makes the page of the offset of a multixact that was given or comes next, where the bank's last made page is before
+/// it (`ExtendMultiXactOffset` of `src/backend/access/transam/multixact.c`).
 pub fn make_offset_page<R: Passing, L: LogDisk, P: PageDisk>(
     rt: &R,
     hall: &Hall<EngineLaw<L, P>>,
@@ -89,8 +89,8 @@ pub fn make_offset_page<R: Passing, L: LogDisk, P: PageDisk>(
     }
 }
 
-/// Sets the offset of a multixact that the session recorded, all of whose members stand (`RecordNewMultiXact`). Its page was
-/// made before.
+/// Sets the offset of a multixact that the session recorded, all of whose members stand (`RecordNewMultiXact`). Its page
+/// was made before. After an error nothing is set.
 pub fn record_offset<R: Passing, L: LogDisk, P: PageDisk>(
     rt: &R,
     hall: &Hall<EngineLaw<L, P>>,
@@ -145,8 +145,8 @@ pub fn record_offset<R: Passing, L: LogDisk, P: PageDisk>(
     }
 }
 
-/// The low half of the offset of a multixact, None where none stands (`GetMultiXactIdMembers`). Where it isn't before the
-/// announced oldest one, nor past the next one, its page isn't cut, in a life of few multixacts.
+/// The low half of the offset of a multixact, None where none stands (`GetMultiXactIdMembers`). Where the multixact isn't
+/// before the announced oldest one, nor past the next one, its page isn't cut, in a life of few multixacts.
 pub fn read_offset<R: Passing, L: LogDisk, P: PageDisk>(
     rt: &R,
     hall: &Hall<EngineLaw<L, P>>,

@@ -1,0 +1,15 @@
+pub mod Quiet
+pub mod Coursing
+pub mod Visiting
+pub mod Uncut
+pub mod Adding
+pub mod Digits
+pub mod Offsetting
+pub mod MemberSetting
+pub mod Membering
+pub mod Parting
+pub mod Cutting
+pub mod Later
+pub mod Seeing
+pub mod OffsetSeen
+pub mod MemberSeen

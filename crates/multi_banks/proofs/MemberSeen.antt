@@ -1,0 +1,266 @@
+-- A slot that was read of a bank holds the member that stands there.
+use Rattle.std.proofs.Common.{◌≡◌, ⊎_elim, inl, ℕ, zero, suc, ◌+◌, ◌-◌, ◌%◌, ◌^◌, ◌≤◌, ◌<◌, ◌==◌, Bool, false, cond, IsTrue, List, [], ◌∷◌, slice_index, Option, None, Some, Contains, length, refl, sym, ap, subst, ◌∙◌, arith}
+use Rattle.std.proofs.Math.Seq.{take-length}
+use Rattle.std.proofs.lemmas.Bool.Decides.{nat_tests}
+use Rattle.std.specs.List.{filter_map, flat_map, last_or, slice_get}
+use Rattle.disk_core.specs.declared.page_disk.PageDisk as disks
+use Rattle.notes.specs.Lists.{at}
+use Rattle.store_pages.specs.declared.page_rule.PageRule as rules
+use Rattle.store_pages.specs.Layouts.{member_page_of, member_place_of, mode_place_of, number_in}
+use Rattle.store_pages.specs.Pages.{id_at, member_page_in_full, mode_at}
+use Rattle.slru_bank.specs.declared.bank.SlruBank.{SlruBank}
+use Rattle.slru_bank.specs.Calls.{pages_of}
+use Rattle.multi_members.specs.declared.slot.Slot.{Slot}
+use Rattle.multi_members.specs.declared.slot.Slot.TheVariants as found
+use Rattle.multi_members.specs.Runs.{slots_on}
+use Rattle.multi_members.specs.Slots.{slot_of, used_slot}
+use Rattle.tx_events.proofs.Membership.{Has, all_at, contains_has, has_filter_map, has_flat_map}
+use Rattle.tx_events.specs.Base.{IsBase}
+use Rattle.tx_events.specs.Ids.{low_half}
+use Rattle.tx_events.specs.Modes.{mode_number, mode_of}
+use Rattle.tx_events.specs.Multis.{free_offset, oldest_offset}
+use Rattle.tx_events.specs.declared.multi.Member.{Member}
+use Rattle.tx_events.specs.declared.multi.Mode.{Mode}
+use Rattle.tx_events.specs.declared.multi.Mode.TheVariants as modes
+use Rattle.tx_core.specs.declared.entry.Entry.{Entry}
+use Rattle.tx_core.specs.declared.entry.Start.{Start}
+use Rattle.tx_core.specs.CleanMultis.{CleanMembers}
+use Rattle.tx_core.specs.EngineInvariant.{EngineInvariant}
+use Rattle.tx_core.specs.Locks.{members_lock, members_lock_of}
+use Rattle.tx_core.specs.MembersBeforeOffset.{NeedsSlots, SlotOf}
+use Rattle.tx_core.specs.MultiEntries.{AreFewMultis, IsSlotSet, SetSlot, multi_history, slots_in}
+use Rattle.tx_core.specs.Pages.{member_store, pages_after}
+use Rattle.tx_core.specs.StoredBytes.{StoredBytes, byte_held, byte_of, slot_bytes, slot_bytes_for, stored_members}
+use Rattle.tx_core.proofs.Asking.{upheld_has}
+use Rattle.tx_core.proofs.MultiOrder.{ordered}
+use Rattle.tx_core.proofs.Nearness.{free_upto, made_near, multis_are_legal}
+use Rattle.recoverable.proofs.BytesShow.{in_id, last_some, member_bytes_show, slot_at, slot_to}
+use Rattle.engine_parts.specs.Parts.{IsMembersOf}
+use Rattle.engine_parts.specs.Shelf.{ArePagesNear, IsReadNow, shows_on}
+use Rattle.engine_parts.specs.Shelves.{member_shelf, slot_held, word_held}
+use Rattle.multi_banks.specs.Members.{HasMember, IsRecordedMember, IsSlotRead, SharePage}
+use Rattle.multi_banks.proofs.Adding.{place_within, share_lock, share_stored}
+use Rattle.multi_banks.proofs.Coursing.{same_last}
+use Rattle.multi_banks.proofs.Later.{share_fits}
+use Rattle.multi_banks.proofs.OffsetSeen.{word_of_bytes}
+use Rattle.multi_banks.proofs.Seeing.{filter_map_has}
+use Rattle.multi_banks.proofs.Uncut.{member_held}
+
+-- ---- slots as they are read
+
+pub slots_long : (bytes : List ℕ) (place count : ℕ) → length (slots_on bytes place count) ≡ count
+slots_long bytes place zero = refl
+slots_long bytes place (suc n) = ap (λ z. suc z) (slots_long bytes (place + 1) n)
+
+record IsAt (bytes : List ℕ) (place count k : ℕ) (slot : Slot) : Type 0 where
+  inside : k < count
+  is : slot ≡ slot_of (slice_index bytes (mode_at (place + k))) (number_in bytes (id_at (place + k)))
+
+slot_there : (bytes : List ℕ) (place count k : ℕ) (slot : Slot) → slice_get (slots_on bytes place count) k ≡ Some slot → IsAt bytes place count k slot
+slot_there bytes place zero k slot e = absurd cc
+slot_there bytes place (suc n) zero slot e =
+    let p : place ≡ place + 0 = omega arith in
+    let same : slot_of (slice_index bytes (mode_at place)) (number_in bytes (id_at place)) ≡ slot = cc in
+    record { inside = omega arith; is = sym same ∙ ap (λ z. slot_of (slice_index bytes (mode_at z)) (number_in bytes (id_at z))) p }
+slot_there bytes place (suc n) (suc k) slot e =
+    let r = slot_there bytes (place + 1) n k slot e in
+    let inside = r.inside in
+    let p : place + 1 + k ≡ place + suc k = omega arith in
+    record { inside = omega arith; is = r.is ∙ ap (λ z. slot_of (slice_index bytes (mode_at z)) (number_in bytes (id_at z))) p }
+
+mode_back : (m : Mode) → mode_of (mode_number m) ≡ Some m
+mode_back modes.KeySh = refl
+mode_back modes.Sh = refl
+mode_back modes.ForNoKeyUpd = refl
+mode_back modes.ForUpd = refl
+mode_back modes.NoKeyUpd = refl
+mode_back modes.Upd = refl
+
+-- the mode and the id of a member make it
+slot_made : (m : Mode) (id : ℕ) → 1 ≤ id → slot_of (mode_number m) id ≡ found.Is (record { number = id }) m
+slot_made m id some =
+    let test : (id == 0) ≡ false = grind (arith, nat_tests) in
+    ap (λ (b : Bool). cond b found.Unused (used_slot (mode_number m) id (mode_of (mode_number m)))) test ∙ ap (used_slot (mode_number m) id) (mode_back m)
+
+-- a slot's bytes read as its mode and its id
+slot_of_bytes : (o : Option StoredBytes) (member : Member) → ((i : ℕ) → i < 5 → byte_held o i ≡ slot_bytes member i) → slot_held o ≡ (mode_number member.mode, low_half member.id)
+slot_of_bytes o member each =
+    let mode : byte_held o 4 ≡ mode_number member.mode = each 4 (omega arith) in
+    let word : word_held o ≡ low_half member.id = word_of_bytes o member.id (λ i lt. each i (omega arith) ∙ ap (λ (b : Bool). cond b (mode_number member.mode) (byte_of member.id i)) (in_id i lt)) in
+    (λ j. (mode j, word j))
+
+rises : (a b : ℕ) → a ≤ b → member_page_in_full a ≤ member_page_in_full b
+rises a b le = omega arith
+
+-- the pages that were made are near
+members_near : (start : Start) (lists : List (List Entry)) (bank : ℕ) → EngineInvariant start lists → AreFewMultis lists → ArePagesNear (member_shelf start) (at lists (members_lock bank))
+members_near start lists bank k few =
+    let es = at lists (members_lock bank) in
+    let last = ((made_near start lists bank k).members few).last (λ x. None) in
+    let to = last.to in
+    let same : (pages_after stored_members start.base.offset (λ x. None) es).last ≡ (pages_after member_store start.base.offset (λ x. None) es).last = same_last stored_members member_store (λ x. refl) start.base.offset es in
+    subst (λ z. z ≤ member_page_in_full (start.base.offset + 2 ^ 29)) (sym (same ∙ last.on)) (rises last.number (start.base.offset + 2 ^ 29) (omega arith))
+
+module _ (start : Start) (lists : List (List Entry)) (x bank : ℕ) (base : IsBase start.base) (k : EngineInvariant start lists) (here : members_lock_of start x ≡ members_lock bank) where
+  abbrev slots : List SetSlot
+  slots = flat_map slots_in (at lists (members_lock bank))
+
+  slot_given : (slot : SetSlot) → Has slots slot → SlotOf lists slot
+  slot_given slot there =
+      let found = has_flat_map slots_in (at lists (members_lock bank)) slot there in
+      let need = upheld_has NeedsSlots lists (members_lock bank) found.0 k.members.slots found.1 in
+      all_at (SlotOf lists) (slots_in found.0) slot need.1 found.2
+
+  -- where its multixact lies
+  record Lies (slot : SetSlot) (s : SlotOf lists slot) : Type 0 where
+    from : start.base.offset ≤ s.first
+    to : s.first + length s.members ≤ free_offset start.base.offset (multi_history lists)
+    inside : slot.offset < s.first + length s.members
+
+  lies : (slot : SetSlot) (s : SlotOf lists slot) → Lies slot s
+  lies slot s =
+      let r = s.recorded in
+      let o = (ordered start.base base (multi_history lists) (multis_are_legal start lists k)).given r.by s.multi s.first s.members (contains_has (multi_history lists) _ r.given) in
+      let in_run = place_within s.members (slot.offset - s.first) slot.member s.member in
+      let behind = s.behind in
+      record { from = o.0; to = o.1; inside = omega arith }
+
+  -- one offset is of one multixact, so it has one member
+  one_slot : (a b : SetSlot) → Has slots a → Has slots b → a.offset ≡ x → b.offset ≡ x → a.member ≡ b.member
+  one_slot a b ha hb ax bx =
+      let s = slot_given a ha in
+      let t = slot_given b hb in
+      let p = lies a s in
+      let q = lies b t in
+      let pi = p.inside in
+      let qi = q.inside in
+      let sb = s.behind in
+      let tb = t.behind in
+      let o = ordered start.base base (multi_history lists) (multis_are_legal start lists k) in
+      ⊎_elim
+      (λ (l : (s.multi < t.multi) × (s.first + length s.members ≤ t.first)). absurd (let z = l.1 in omega (arith, ax, bx, pi, tb, z)))
+      (λ rest. ⊎_elim
+      (λ (l : (t.multi < s.multi) × (t.first + length t.members ≤ s.first)). absurd (let z = l.1 in omega (arith, ax, bx, qi, sb, z)))
+      (λ (e : (s.multi ≡ t.multi) × (s.first ≡ t.first) × (s.members ≡ t.members)).
+      let at_a : slice_get s.members (x - s.first) ≡ Some a.member = subst (λ z. slice_get s.members (z - s.first) ≡ Some a.member) ax s.member in
+      let at_b : slice_get t.members (x - t.first) ≡ Some b.member = subst (λ z. slice_get t.members (z - t.first) ≡ Some b.member) bx t.member in
+      let both : slice_get s.members (x - s.first) ≡ slice_get t.members (x - t.first) = λ j. slice_get (e.2 j) (x - e.1 j) in
+      some_same (sym at_a ∙ (both ∙ at_b)))
+      rest)
+      (o.apart s.recorded.by t.recorded.by s.multi t.multi s.first t.first s.members t.members (contains_has (multi_history lists) _ s.recorded.given) (contains_has (multi_history lists) _ t.recorded.given))
+    where
+      some_same : {a b : Member} → Some a ≡ Some b → a ≡ b
+      some_same e = cc
+
+  slot_here : (member : Member) → IsSlotSet start lists x member → (slot : SetSlot) × Has slots slot × (slot.offset ≡ x) × (slot.member ≡ member)
+  slot_here member s =
+      let slot : SetSlot = record { caller = s.0; offset = x; member = member } in
+      (slot, contains_has slots slot (subst (λ z. Contains (flat_map slots_in (at lists z)) slot) here s.1), refl, refl)
+
+  -- where a member was set the value is its
+  held_set : (o : Option StoredBytes) (slot : SetSlot) → Has slots slot → slot.offset ≡ x → slot_held (last_or o (filter_map (slot_bytes_for x) slots)) ≡ (mode_number slot.member.mode, low_half slot.member.id)
+  held_set o slot there same =
+      let bytes : StoredBytes = λ i. slot_bytes slot.member i in
+      let value : last_or o (filter_map (slot_bytes_for x) slots) ≡ Some bytes = last_some o (filter_map (slot_bytes_for x) slots) bytes (filter_map_has (slot_bytes_for x) slots slot bytes there (slot_to x slot same)) (λ y q.
+      let r = has_filter_map (slot_bytes_for x) slots y q in
+      let z = slot_at x y r.0 r.2 in
+      let e = one_slot r.0 slot r.1 there z.0 same in
+      let f : Member → StoredBytes = λ m i. slot_bytes m i in
+      sym z.1 ∙ ap f e) in
+      slot_of_bytes (last_or o (filter_map (slot_bytes_for x) slots)) slot.member (λ i lt. ap (λ z. byte_held z i) value)
+
+  -- and of one that is recorded it is that of the start, as none was set there
+  held_start : (before : ℕ → Option StoredBytes) (member : Member) → CleanMembers start before → IsRecordedMember start x member → slot_held (last_or (before x) (filter_map (slot_bytes_for x) slots)) ≡ (mode_number member.mode, low_half member.id)
+  held_start before member clean m = by_said (filter_map (slot_bytes_for x) slots) refl
+    where
+      below : x < start.base.offset
+      below =
+          let w = clean.in_order.within m.multi m.first m.members m.stands m.kept in
+          let to = w.1 in
+          let inside = place_within m.members m.place member m.among in
+          let at_x = m.at in
+          omega arith
+
+      by_said : (xs : List StoredBytes) → filter_map (slot_bytes_for x) slots ≡ xs → slot_held (last_or (before x) (filter_map (slot_bytes_for x) slots)) ≡ (mode_number member.mode, low_half member.id)
+      by_said [] q = ap (λ (xs : List StoredBytes). slot_held (last_or (before x) xs)) q ∙ slot_of_bytes (before x) member (λ i lt. ap (λ z. byte_held (before z) i) (sym m.at) ∙ clean.recorded m.multi m.first m.place m.members member m.stands m.kept m.among i lt)
+      by_said (y ∷ ys) q =
+          let r = has_filter_map (slot_bytes_for x) slots y (subst (λ (xs : List StoredBytes). Has xs y) (sym q) (inl refl)) in
+          let z = (slot_at x y r.0 r.2).0 in
+          let s = slot_given r.0 r.1 in
+          let l = lies r.0 s in
+          let from = l.from in
+          let behind = s.behind in
+          absurd (let b = below in omega (arith, z, from, behind, b))
+
+  -- the offset of a member that stands is one in use
+  record InUse : Type 0 where
+    from : start.base.oldest_offset ≤ x
+    to : x ≤ free_offset start.base.offset (multi_history lists)
+
+  in_use : (before : ℕ → Option StoredBytes) (member : Member) → CleanMembers start before → HasMember start lists x member → InUse
+  in_use before member clean has = ⊎_elim
+      (λ (set : IsSlotSet start lists x member).
+      let t = slot_here member set in
+      let s = slot_given t.0 t.1 in
+      let l = lies t.0 s in
+      let from = l.from in
+      let to = l.to in
+      let inside = l.inside in
+      let behind = s.behind in
+      let same = t.2 in
+      let low = base.oldest_offset in
+      record { from = omega arith; to = omega arith })
+      (λ (m : IsRecordedMember start x member).
+      let w = clean.in_order.within m.multi m.first m.members m.stands m.kept in
+      let from = w.0 in
+      let to = w.1 in
+      let inside = place_within m.members m.place member m.among in
+      let at_x = m.at in
+      let free = (ordered start.base base (multi_history lists) (multis_are_legal start lists k)).from in
+      record { from = omega arith; to = omega arith })
+      has
+
+  held : (before : ℕ → Option StoredBytes) (member : Member) → CleanMembers start before → HasMember start lists x member → slot_held (last_or (before x) (filter_map (slot_bytes_for x) slots)) ≡ (mode_number member.mode, low_half member.id)
+  held before member clean has = ⊎_elim
+      (λ (set : IsSlotSet start lists x member).
+      let t = slot_here member set in
+      held_set (before x) t.0 t.1 t.2 ∙ ap (λ (m : Member). (mode_number m.mode, low_half m.id)) t.3)
+      (λ (m : IsRecordedMember start x member). held_start before member clean m)
+      has
+
+module _ {P O : Type 0} {g : disks.Ghosts P} {r : rules.Ghosts O} where
+  slot_seen : (start : Start) (lists : List (List Entry)) (bank : ℕ) (store : SlruBank P O g r) (x : ℕ) (slot : Slot) → IsBase start.base → EngineInvariant start lists → IsMembersOf start bank store (at lists (members_lock bank)) → members_lock_of start x ≡ members_lock bank → IsTrue g.tells → AreFewMultis lists
+      → oldest_offset start.base.oldest_offset (multi_history lists) ≤ x → slot ≡ slot_of (slice_index (pages_of store (member_page_of x)) (mode_place_of x)) (number_in (pages_of store (member_page_of x)) (member_place_of x)) → IsSlotRead start lists x slot
+  slot_seen start lists bank store x slot base k s here told few announced is member has full =
+      let es = at lists (members_lock bank) in
+      let old = s.stands.shown told (members_near start lists bank k few) in
+      let bounds = in_use start lists x bank base k here old.0 member old.1 has in
+      let from = bounds.from in
+      let to = bounds.to in
+      let upto = free_upto start.base (multi_history lists) (multis_are_legal start lists k) in
+      let near : x < start.base.offset + 2 ^ 30 = omega arith in
+      let now : IsReadNow (member_shelf start) es (pages_of store) (shows_on (member_shelf start) old.0 es x) x = old.2.each x (record { from = from; to = near }) (bank_at start x bank here) in
+      let shows : shows_on (member_shelf start) old.0 es x ≡ last_or (old.0 x) (filter_map (slot_bytes_for x) (flat_map slots_in es)) =
+      subst (λ (t : List Entry). (pages_after stored_members start.base.offset old.0 t).shows x ≡ last_or (old.0 x) (filter_map (slot_bytes_for x) (flat_map slots_in t))) (take-length es) (member_bytes_show start lists old.0 (members_lock bank) (length es) x k old.1.behind near) in
+      ⊎_elim
+      (λ (e : (slice_index (pages_of store (member_page_of x)) (mode_place_of x), number_in (pages_of store (member_page_of x)) (member_place_of x)) ≡ slot_held (shows_on (member_shelf start) old.0 es x)).
+      let both = e ∙ (ap slot_held shows ∙ held start lists x bank base k here old.0 member old.1 has) in
+      is ∙ (ap (λ (z : ℕ × ℕ). slot_of z.0 z.1) both ∙ slot_made member.mode (low_half member.id) full))
+      (λ gone. absurd (member_held start lists bank k base few x announced to gone.1))
+      now
+    where
+      bank_at : (start : Start) (x bank : ℕ) → members_lock_of start x ≡ members_lock bank → member_page_of x % start.banks ≡ bank
+      bank_at start x bank q = omega arith
+
+  pub slots_seen : (start : Start) (lists : List (List Entry)) (bank : ℕ) (store : SlruBank P O g r) (offset count : ℕ) → IsBase start.base → EngineInvariant start lists → IsMembersOf start bank store (at lists (members_lock bank)) → members_lock_of start offset ≡ members_lock bank → 1 ≤ count → SharePage offset count → IsTrue g.tells
+      → oldest_offset start.base.oldest_offset (multi_history lists) ≤ offset → AreFewMultis lists → (k : ℕ) (slot : Slot) → slice_get (slots_on (pages_of store (member_page_of offset)) (low_half offset % 1636) count) k ≡ Some slot → IsSlotRead start lists (offset + k) slot
+  slots_seen start lists bank store offset count base inv s here some share told announced few k slot is =
+      let there = slot_there (pages_of store (member_page_of offset)) (low_half offset % 1636) count k slot is in
+      let fits = share_fits offset count (low_half offset) refl some share in
+      let place = run_place offset k count there.inside fits.0 fits.1 in
+      let page = share_stored offset count k share there.inside in
+      slot_seen start lists bank store (offset + k) slot base inv s (share_lock start offset count k (members_lock bank) share there.inside here) told few (let a = announced in omega arith)
+      (there.is ∙ (λ j. slot_of (slice_index (pages_of store (sym page j)) (mode_at (sym place j))) (number_in (pages_of store (sym page j)) (id_at (sym place j)))))
+    where
+      run_place : (offset k count : ℕ) → k < count → low_half offset % 1636 + count ≤ 1636 → low_half offset + count ≤ 2 ^ 32 → low_half (offset + k) % 1636 ≡ low_half offset % 1636 + k
+      run_place offset k count lt page lap = omega arith

@@ -1,0 +1,6 @@
+use Rattle.tx_core.specs.declared.entry.Kind.TheVariants as kinds
+use Rattle.multi_banks.specs.Members.{slots_set}
+use Rattle.multi_banks.proofs.members.set_note.Given as goal
+
+abbrev pub ghost-by : goal.ghost-by
+ghost-by a = record { by = a._about.now.0; kind = kinds.Set (slots_set a._about.now.0 a._about.now.1 a._about.now.2.now) }

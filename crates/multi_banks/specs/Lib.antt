@@ -1,0 +1,4 @@
+pub mod Refusals
+pub mod Sections
+pub mod Offsets
+pub mod Members

@@ -1,0 +1,52 @@
+-- What a bank of members says of the slots of a page, by the bank's list, in a life of few.
+use Rattle.std.specs.Prelude.{◌≡◌, ◌⊎◌, ℕ, ◌+◌, ◌<◌, ◌≤◌, List, [], ◌∷◌, Some, Contains, slice_get}
+use Rattle.tx_events.specs.Ids.{low_half}
+use Rattle.tx_events.specs.declared.event.By.{By}
+use Rattle.tx_events.specs.declared.multi.Member.{Member}
+use Rattle.tx_events.specs.declared.record.Rec.TheVariants as records
+use Rattle.multi_members.specs.declared.slot.Slot.{Slot}
+use Rattle.multi_members.specs.declared.slot.Slot.TheVariants as found
+use Rattle.tx_core.specs.declared.entry.Change.{Change}
+use Rattle.tx_core.specs.declared.entry.Change.TheVariants as changes
+use Rattle.tx_core.specs.declared.entry.Entry.{Entry}
+use Rattle.tx_core.specs.declared.entry.Start.{Start}
+use Rattle.tx_core.specs.Locks.{member_page_in_full}
+use Rattle.tx_core.specs.MultiEntries.{AreFewMultis, IsSlotSet}
+
+-- members are set one behind another, from an offset on
+abbrev pub slots_set : By → ℕ → List Member → List Change
+slots_set by offset [] = []
+slots_set by offset (member ∷ members) = changes.Slot by offset member ∷ slots_set by (offset + 1) members
+
+-- so many offsets from one on share a page, by its number in full
+abbrev pub SharePage : ℕ → ℕ → Type 0
+SharePage offset count = (k : ℕ) → k < count → member_page_in_full (offset + k) ≡ member_page_in_full offset
+
+-- A multixact that is recorded from before the life has this member at the offset. It is one from the first oldest one
+-- on.
+pub record IsRecordedMember (start : Start) (offset : ℕ) (member : Member) : Type 0 where
+  pub multi : ℕ
+  pub first : ℕ
+  pub place : ℕ
+  pub members : List Member
+  pub stands : Contains start.recorded (records.Multi multi first members)
+  pub kept : start.base.oldest_multi ≤ multi
+  pub among : slice_get members place ≡ Some member
+  pub at : first + place ≡ offset
+
+-- the member at an offset stands: it was set, or is recorded from before the life
+abbrev pub HasMember : Start → List (List Entry) → ℕ → Member → Type 0
+HasMember start lists offset member = IsSlotSet start lists offset member ⊎ IsRecordedMember start offset member
+
+-- A slot that was read holds the member that stands there: its mode, and the low half of its id. An id of low half 0 is
+-- stored as none; no full id has it.
+abbrev pub IsSlotRead : Start → List (List Entry) → ℕ → Slot → Type 0
+IsSlotRead start lists offset slot =
+    (member : Member) → HasMember start lists offset member → 1 ≤ low_half member.id
+    → slot ≡ found.Is (record { number = low_half member.id }) member.mode
+
+-- these slots were read from an offset on
+abbrev pub AreSlotsRead : Start → List (List Entry) → ℕ → List Slot → Type 0
+AreSlotsRead start lists offset slots =
+    AreFewMultis lists → (k : ℕ) (slot : Slot) → slice_get slots k ≡ Some slot
+    → IsSlotRead start lists (offset + k) slot

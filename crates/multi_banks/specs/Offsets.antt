@@ -1,0 +1,33 @@
+-- What a bank of offsets says of a multixact, by the bank's list, in a life of few: else two full pages of one stored
+-- number couldn't be told apart.
+use Rattle.std.specs.Prelude.{◌≡◌, ◌⊎◌, ℕ, ◌+◌, ◌^◌, ◌<◌, ◌≤◌, List, Option, None, Some, Contains}
+use Rattle.tx_events.specs.Ids.{IsFullMulti, low_half}
+use Rattle.tx_events.specs.declared.multi.Member.{Member}
+use Rattle.tx_events.specs.declared.record.Rec.TheVariants as records
+use Rattle.tx_core.specs.declared.entry.Entry.{Entry}
+use Rattle.tx_core.specs.declared.entry.Start.{Start}
+use Rattle.tx_core.specs.MultiEntries.{AreFewMultis, IsOffsetSet}
+
+-- the offset of a multixact stands: it was set, or is recorded from before the life
+abbrev pub HasOffset : Start → List (List Entry) → ℕ → ℕ → Type 0
+HasOffset start lists multi offset =
+    IsOffsetSet start lists multi offset
+    ⊎ ((members : List Member) × Contains start.recorded (records.Multi multi offset members))
+
+-- None was set, and one that is recorded is stored as none: its low half is 0. No life's base has one that begins there
+-- (`stored` of `AreInOrder`).
+pub record HasNoOffset (start : Start) (lists : List (List Entry)) (multi : ℕ) : Type 0 where
+  pub unset : (offset : ℕ) → IsOffsetSet start lists multi offset → ⊥
+  pub unstored : (offset : ℕ) (members : List Member) → Contains start.recorded (records.Multi multi offset members)
+      → low_half offset ≡ 0
+
+-- what was read of a multixact is the low half of the offset that stands; or none does
+abbrev pub IsOffsetFound : Start → List (List Entry) → ℕ → Option ℕ → Type 0
+IsOffsetFound start lists multi None = HasNoOffset start lists multi
+IsOffsetFound start lists multi (Some low) = (offset : ℕ) × (low ≡ low_half offset) × HasOffset start lists multi offset
+
+-- so of each multixact from the life's first oldest one on
+abbrev pub IsOffsetRead : Start → List (List Entry) → ℕ → Option ℕ → Type 0
+IsOffsetRead start lists multi found =
+    IsFullMulti multi → start.base.oldest_multi ≤ multi → multi < start.base.multi + 2 ^ 30 → AreFewMultis lists
+    → IsOffsetFound start lists multi found

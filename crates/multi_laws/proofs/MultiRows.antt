@@ -29,10 +29,12 @@ use Rattle.tx_model.specs.declared.reply.Verdict.TheVariants as verdicts
 use Rattle.tx_model.specs.Replies.{RoundSpan, taken_by}
 use Rattle.tx_model.specs.Stance.{Stance}
 use Rattle.life_law.specs.MultiLines.{AreVerdicts, HasMembers, IsGenOf, IsHeldBack, IsMemberStop, IsMemberVerdict, IsMultiBackward, IsMultiFuture, IsMultiStop, IsMultiTooOld, IsMultiWarned, IsNotGiven, IsOldMember, IsPinnedOrNext, IsTold, IsUngiven, MayCarry}
-use Rattle.life_law.specs.MultiPlaces.{Recorded}
+use Rattle.life_law.specs.MultiPlaces.{IsPinAt, Recorded}
 use Rattle.life_law.specs.MultiReplies.{MayReplyMulti}
-use Rattle.multi_laws.specs.MultiGrowth.{Widens}
-use Rattle.multi_laws.proofs.Widening.{front_of, multis_front, reads_before, reads_in, reads_multis}
+use Rattle.std.proofs.lemmas.Bool.{cases_lt}
+use Rattle.std.proofs.lemmas.List.{take-append-le}
+use Rattle.multi_laws.specs.MultiGrowth.{IsLaterThan, Widens}
+use Rattle.multi_laws.proofs.Widening.{all_behind, front_item, front_of, multis_front, reads_before, reads_in, reads_multis}
 
 -- ---- by the multixacts' events
 
@@ -46,12 +48,36 @@ module _ (base : Counters) (by : By) (all rest : List MultiEvent) where
     late = subst (λ (h : List MultiEvent). multi_warn_limit (oldest_multi base.oldest_multi h) ≤ multi) (sym (take-grows all rest (multi_events.Gen by multi w.offset w.members) w.place w.given)) w.late;
   }
 
+  -- later events are of no command before
+  warned_more : (multi : ℕ) (span wider : RoundSpan) → Widens multi_by by all (all ++ rest) span wider → IsMultiWarned base (all ++ rest) by multi → IsMultiWarned base all by multi
+  warned_more multi span wider v w =
+      let within = v.within in
+      let low : w.place < length all = ⊎_elim
+      (λ (l : w.place < length all). l)
+      (λ (l : length all ≤ w.place).
+      let later = all_behind (λ e. IsLaterThan by (multi_by e)) (all ++ rest) span.to w.place (multi_events.Gen by multi w.offset w.members) v.later (omega arith) w.given in
+      let less : by.command < by.command = later refl in
+      absurd (omega arith))
+      (cases_lt w.place (length all)) in
+      record {
+        place = w.place;
+        offset = w.offset;
+        members = w.members;
+        given = sym (front_item all rest w.place low) ∙ w.given;
+        late = subst (λ (h : List MultiEvent). multi_warn_limit (oldest_multi base.oldest_multi h) ≤ multi) (take-append-le w.place all rest (omega arith)) w.late;
+      }
+
   raised_next : (multi : ℕ) → IsPinnedOrNext base all by multi → IsPinnedOrNext base (all ++ rest) by multi
   raised_next multi p = ⊎_elim
-      (λ (pin : (place multi : ℕ) × (slice_get all place ≡ Some (multi_events.Hold by multi))). inl (pin.0, pin.1, slice_get-grows all rest (multi_events.Hold by pin.1) pin.0 pin.2))
+      (λ (pin : (place : ℕ) × IsPinAt all by place). inl (pin.0, (pin.1.0, slice_get-grows all rest (multi_events.Hold by pin.1.0) pin.0 pin.1.1)))
       (λ (raise : (place raised offset : ℕ) × (slice_get all place ≡ Some (multi_events.Raise by raised offset)) × (multi ≡ next_made base.multi (take place all))).
-      inr (raise.0, raise.1, raise.2, slice_get-grows all rest (multi_events.Raise by raise.1 raise.2) raise.0 raise.3,
-      raise.4 ∙ ap (next_made base.multi) (sym (take-grows all rest (multi_events.Raise by raise.1 raise.2) raise.0 raise.3))))
+      inr (
+        raise.0,
+        raise.1,
+        raise.2,
+        slice_get-grows all rest (multi_events.Raise by raise.1 raise.2) raise.0 raise.3,
+        raise.4 ∙ ap (next_made base.multi) (sym (take-grows all rest (multi_events.Raise by raise.1 raise.2) raise.0 raise.3)),
+      ))
       p
 
   module _ (span wider : RoundSpan) (w : Widens multi_by by all (all ++ rest) span wider) where
@@ -201,7 +227,8 @@ verdicts_stay base committed recorded h rest all more span wider by number vs w 
 pub rows_stay : (told told' : Type 0) (NotYet NotYet' : ℕ → Type 0) (base : Counters) (committed : List ℕ) (recorded : List Recorded) (h rest : List Event) (all more : List MultiEvent) (span wider multis multis' : RoundSpan) (by : By) (s : Stance) (command : Command) (reply : Reply)
     → (told' → told) → ((m : ℕ) → NotYet m → NotYet' m) → Widens by_of by h (h ++ rest) span wider → Widens multi_by by all (all ++ more) multis multis'
     → MayReplyMulti told NotYet base committed recorded h all span multis by s command reply → MayReplyMulti told' NotYet' base committed recorded (h ++ rest) (all ++ more) wider multis' by s command reply
-rows_stay t t' N N' base committed recorded h rest all more r r' q q' by s (commands.Multi pairs) (replies.Multi multi offset warn) less yet w v a = ?
+rows_stay t t' N N' base committed recorded h rest all more r r' q q' by s (commands.Multi pairs) (replies.Multi multi offset warn) less yet w v a =
+    (λ t. warned_less base by all more multi (a.0 t), λ u. a.1 (warned_more base by all more multi q q' v u))
 rows_stay t t' N N' base committed recorded h rest all more r r' q q' by s (commands.Multi pairs) (replies.Refused (refusals.NotGiven x)) less yet w v a = not_given base by h rest r r' w pairs x.number a
 rows_stay t t' N N' base committed recorded h rest all more r r' q q' by s (commands.Multi pairs) (replies.Refused (refusals.TooOld oldest)) less yet w v a = old_member base by h rest r r' w pairs oldest a
 rows_stay t t' N N' base committed recorded h rest all more r r' q q' by s (commands.Multi pairs) (replies.Refused (refusals.MultiStop next stop)) less yet w v a = multi_stops base by all more q q' v next stop a

@@ -1,5 +1,5 @@
 -- A command's reply on multixacts while lists grow.
-use Rattle.std.specs.Prelude.{◌≡◌, ℕ, ◌<◌, ◌≤◌, Bool, List, drop, length, take}
+use Rattle.std.specs.Prelude.{◌≡◌, ℕ, ◌<◌, ◌≤◌, Bool, List, drop, length}
 use Rattle.std.specs.List.{AllByRecursion}
 use Rattle.notes.specs.Lists.{Grows}
 use Rattle.tx_events.specs.declared.event.By.{By}
@@ -22,13 +22,13 @@ use Rattle.engine_parts.specs.MultiAnswers.{MayAnswerMulti}
 abbrev pub IsLaterThan : By → By → Type 0
 IsLaterThan by other = other.session ≡ by.session → by.command < other.command
 
--- The second span, of a longer list, holds the first one, of this list, and what is more of it behind is of other sessions
+-- The second span, of a longer list, holds the first one, of this list, and all that stands behind this is of other sessions
 -- or of later commands.
 pub record Widens {X : Type 0} (by_of : X → By) (by : By) (h more : List X) (span wider : RoundSpan) : Type 0 where
   pub from : wider.from ≤ span.from
   pub to : span.to ≤ wider.to
   pub within : span.to ≤ length h
-  pub later : AllByRecursion (λ e. IsLaterThan by (by_of e)) (drop span.to (take wider.to more))
+  pub later : AllByRecursion (λ e. IsLaterThan by (by_of e)) (drop span.to more)
 
 abbrev pub MultiAnswersStay : Type 0
 MultiAnswersStay =

@@ -5,5 +5,4 @@ ghost use Rattle.multi_laws.specs.MultiGrowth.{MultiAnswersStay};
 /// events that are more are of other sessions or of later commands.
 pub fn multi_answers_stay()
     ensures { MultiAnswersStay }
-{
-}
+{}

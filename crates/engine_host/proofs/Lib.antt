@@ -2,6 +2,6 @@ pub mod Starting
 pub mod Hosting
 pub mod Parking
 mod Multis
-mod Refusing
+pub mod Refusing
 mod Counting
 pub mod Homing

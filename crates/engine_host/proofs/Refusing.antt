@@ -35,7 +35,9 @@ use Rattle.recoverable.specs.Clusters.{HasFailedAt}
 use Rattle.engine_host.specs.declared.refusal.OpenRefusal.{OpenRefusal}
 use Rattle.engine_host.specs.declared.refusal.OpenRefusal.TheVariants as refusals
 use Rattle.engine_host.specs.Refused.{AreInPlace, HaveDisks, IsBack, IsBankRefusal, IsBeginRefusal, IsFailed, IsRefusal, IsStartRefusal, OpensEmpty, OpensFirst, refusal_by}
-use Rattle.engine_host.specs.Stores.{Store, banks_of, disk_in, disks_in, lock_named, of_members, of_offsets, of_subtrans, of_xact, volumes_in}
+use Rattle.std.specs.Global.{Vec}
+use Rattle.std.specs.Prelude.{vec_capacity}
+use Rattle.engine_host.specs.Stores.{HaveEach, Store, banks_of, disk_in, disks_in, lock_named, of_members, of_offsets, of_subtrans, of_xact, volumes_in}
 use Rattle.engine_host.specs.declared.cluster.BankVolumes.{BankVolumes}
 use Rattle.multi_store.specs.declared.generator.MultiGen.{MultiGen}
 
@@ -70,6 +72,14 @@ module _ {X Y : Type 0} (f : X → Option Y) where
   pub passed_length : (old new : List X) (x : X) → old ≡ new ++ x ∷ [] → f x ≡ None
       → length (filter_map f old) ≡ length (filter_map f new)
   passed_length old new x e is = ap length (with_none old new x e is)
+
+  -- so there is room as before
+  pub still_room : (old new : List X) (x : X) (rest room : ℕ) → old ≡ new ++ x ∷ [] → f x ≡ None → length (filter_map f old) + rest ≤ room → length (filter_map f new) + rest ≤ room
+  still_room old new x rest room e is le = let l = passed_length old new x e is in omega (arith, l, le)
+
+  -- the first ones, of which none has one
+  pub first_off : (old rest : List X) (x : X) → old ≡ x ∷ rest → f x ≡ None → filter_map f old ≡ filter_map f rest
+  first_off old rest x e is = ap (filter_map f) e ∙ ap (λ (o : Option Y). cons_option o (filter_map f rest)) is
 
   -- the parts of a bank more
   pub with_four : (xs whole : List X) (a b v w : X) → whole ≡ xs ++ a ∷ b ∷ v ∷ w ∷ [] → filter_map f whole ≡ filter_map f xs ++ filter_map f (a ∷ b ∷ v ∷ w ∷ [])
@@ -151,6 +161,20 @@ pub four_more : {X : Type 0} (xs : List X) (a b v w : X) → (((xs ++ a ∷ []) 
 four_more xs a b v w =
     append_assoc ((xs ++ a ∷ []) ++ b ∷ []) (v ∷ []) (w ∷ [])
     ∙ (append_assoc (xs ++ a ∷ []) (b ∷ []) (v ∷ w ∷ []) ∙ append_assoc xs (a ∷ []) (b ∷ v ∷ w ∷ []))
+
+-- what is given for each of the four stores
+abbrev pub by_store : {X : Type 0} → X → X → X → X → Store → X
+by_store a b c d of_xact = a
+by_store a b c d of_subtrans = b
+by_store a b c d of_offsets = c
+by_store a b c d of_members = d
+
+-- of each of the four stores
+pub each_store : (F : Store → Type 0) → F of_xact → F of_subtrans → F of_offsets → F of_members → (k : Store) → F k
+each_store F a b c d of_xact = a
+each_store F a b c d of_subtrans = b
+each_store F a b c d of_offsets = c
+each_store F a b c d of_members = d
 
 -- ---- the log
 
@@ -245,6 +269,25 @@ module _ {P : Type 0} (p : disks.Ghosts P) where
   }
 
 module _ {L P : Type 0} {l : logs.Ghosts L} {p : disks.Ghosts P} where
+  -- the parts that have no bank have no volume of one
+  pub log_has_none : (k : Store) (part : Part L P l p) (x : Box (WalLog L l) Global) → part ≡ parts.Log x → disk_in k part ≡ None
+  log_has_none k part x e = ap (disk_in k) e ∙ each_store (λ j. ◌≡◌ {A = Option P} (disk_in {L = L} {P = P} {l = l} {p = p} j (parts.Log x)) None) refl refl refl refl k
+
+  pub table_has_none : (k : Store) (part : Part L P l p) (x : Box Table Global) → part ≡ parts.Proc x → disk_in k part ≡ None
+  table_has_none k part x e = ap (disk_in k) e ∙ each_store (λ j. ◌≡◌ {A = Option P} (disk_in {L = L} {P = P} {l = l} {p = p} j (parts.Proc x)) None) refl refl refl refl k
+
+  pub multis_have_none : (k : Store) (part : Part L P l p) (x : Box MultiGen Global) → part ≡ parts.Multi x → disk_in k part ≡ None
+  multis_have_none k part x e = ap (disk_in k) e ∙ each_store (λ j. ◌≡◌ {A = Option P} (disk_in {L = L} {P = P} {l = l} {p = p} j (parts.Multi x)) None) refl refl refl refl k
+
+  -- the vectors of volumes have room for those that were taken of them
+  pub room_left : (banks : ℕ) (old new : BankVolumes P) (locks : List (Part L P l p)) → HaveEach banks old → ((k : Store) → vec_capacity (volumes_in k new) ≡ vec_capacity (volumes_in k old))
+      → ((k : Store) → length (disks_in k locks) + length (volumes_in k new).items ≡ banks) → (k : Store) → length (disks_in k locks) + length (volumes_in k new).items ≤ vec_capacity (volumes_in k new)
+  room_left banks old new locks each same all k =
+      let long = fits (volumes_in k old) in let have = each k in let room = same k in let count = all k in omega (arith, long, have, room, count)
+    where
+      fits : (v : Vec P) → length v.items ≤ vec_capacity v
+      fits v = omega (arith, v.ok.0, v.ok.1)
+
   -- with the parts of a bank more, each of which has a volume
   pub disks_more : (n : ℕ) (xs whole : List (Part L P l p)) (a b v w : Part L P l p) (d : Store → P) → HaveDisks n xs → whole ≡ xs ++ a ∷ b ∷ v ∷ w ∷ []
       → ((k : Store) → disks_in k (a ∷ b ∷ v ∷ w ∷ []) ≡ d k ∷ []) → HaveDisks (n + 1) whole

@@ -1,5 +1,5 @@
 -- What new parts stand for.
-use Rattle.std.proofs.Common.{Box, Global, ℕ, zero, suc, ◌/◌, option_map, length-append, Result, Ok, Err, is_ok, IsOk, if◌then◌else◌, insert, ◌+◌, ◌*◌, ◌%◌, ◌^◌, ◌<◌, ◌≤◌, ◌≡◌, ◌⊎◌, ⊎_elim, Bool, false, true, cond, IsTrue, List, [], ◌∷◌, ◌++◌, Option, None, Some, Contains, append-nil, drop, length, map, max, get_or, inl, refl, take, sym, ap, subst, ◌∙◌, arith}
+use Rattle.std.proofs.Common.{Box, Global, ℕ, zero, suc, ◌/◌, option_map, length-append, Result, Ok, Err, is_ok, IfOk, IsOk, if◌then◌else◌, insert, ◌+◌, ◌*◌, ◌%◌, ◌^◌, ◌<◌, ◌≤◌, ◌≡◌, ◌⊎◌, ⊎_elim, Bool, false, true, cond, IsTrue, List, [], ◌∷◌, ◌++◌, Option, None, Some, Contains, append-nil, drop, length, map, max, get_or, inl, refl, take, sym, ap, subst, ◌∙◌, arith}
 use Rattle.std.proofs.lemmas.Option.{slice_get-map, get_or_from_slice_get}
 use Rattle.std.specs.List.{slice_get}
 use Rattle.disk_core.specs.declared.log_disk.LogDisk as logs
@@ -37,7 +37,9 @@ use Rattle.engine_parts.specs.Course.{HasCourse, IsOpened}
 use Rattle.engine_parts.specs.Parts.{PartStands}
 use Rattle.engine_parts.specs.Stand.{GivesStart, LogStands, XactStands}
 use Rattle.engine_host.specs.declared.cluster.Cluster.{Cluster}
-use Rattle.engine_host.specs.Opening.{AllOnDisk, AllShowNothing, AllShowStates, AreNew, Beginning, IsNewPart, IsOnDisk, ShowNothing, ShowStates, bytes_left, faults_behind, life_from, life_of, new_life}
+use Rattle.engine_host.specs.Opening.{AllOnDisk, AllShowNothing, AllShowStates, AreNew, Beginning, IsNewPart, IsOnDisk, MayBeginOver, ShowStates, bytes_left, faults_behind, life_from, life_of, new_life}
+use Rattle.engine_host.specs.Stores.{Store, of_members, of_offsets, of_subtrans, of_xact, volumes_in}
+use Rattle.engine_host.specs.declared.cluster.BankVolumes.{BankVolumes}
 
 -- ---- the log
 
@@ -190,6 +192,12 @@ course_begins {P} {O} {g} {r} c b bank store left counts last cutoff shows same 
     same_bank : (n m : ℕ) → xact_lock n ≡ xact_lock m → n ≡ m
     same_bank n m e = omega (arith, e)
 
+-- a bank that was opened, by what is told of it
+pub of_bank : {X E : Type 0} (r : Result X E) (T : Type 0) (Q A B C D : X → Type 0) → ((x : X) → A x → B x → (T → C x) → (T → D x) → Q x)
+    → IfOk r A → IfOk r B → (T → IfOk r C) → (T → IfOk r D) → IfOk r Q
+of_bank (Ok x) T Q A B C D f a b c d = f x a b c d
+of_bank (Err e) T Q A B C D f a b c d = tt
+
 -- ---- the pages that are left
 
 module _ {P : Type 0} (p : disks.Ghosts P) (disk : P) where
@@ -225,6 +233,18 @@ rest_empty p removed n xs all m disk at = all (n + m) disk (drop_at n m xs disk 
 
 pub rest_on_disk : {P : Type 0} (p : disks.Ghosts P) (n : ℕ) (xs : List P) → AllOnDisk p xs → AllOnDisk p (drop n xs)
 rest_on_disk p n xs all m disk at = all (n + m) disk (drop_at n m xs disk at)
+
+-- the life may begin over the rest of the volumes, too
+pub rest_begin : {P : Type 0} (p : disks.Ghosts P) (c : Cluster) (b : Beginning) (removed : Bool) (n : ℕ) (all rest : BankVolumes P) → ((k : Store) → (volumes_in k rest).items ≡ drop n (volumes_in k all).items)
+    → MayBeginOver p c b removed 0 all → MayBeginOver p c b removed n rest
+rest_begin {P} p c b removed n all rest is may = record {
+  states = subst (λ (xs : List P). AllShowStates p c b removed n xs) (sym (is of_xact)) (rest_show p c b removed n all.xact.items may.states);
+  parents = subst (λ (xs : List P). AllShowNothing p removed xs) (sym (is of_subtrans)) (rest_empty p removed n all.subtrans.items may.parents);
+  offsets = subst (λ (xs : List P). AllShowNothing p removed xs) (sym (is of_offsets)) (rest_empty p removed n all.offsets.items may.offsets);
+  members = subst (λ (xs : List P). AllShowNothing p removed xs) (sym (is of_members)) (rest_empty p removed n all.members.items may.members);
+  none = may.none;
+  durable = λ kept k. subst (λ (xs : List P). AllOnDisk p xs) (sym (is k)) (rest_on_disk p n (volumes_in k all).items (may.durable kept k));
+}
 
 -- ---- the parts
 

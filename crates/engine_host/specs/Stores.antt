@@ -1,5 +1,6 @@
 -- The four stores of an engine: what each has among its volumes and its parts.
-use Rattle.std.specs.Prelude.{◌≡◌, ℕ, Global, List, None, Option, Some, Vec, length}
+use Rattle.std.specs.Prelude.{◌≡◌, ℕ, List, None, Option, Some, length}
+use Rattle.std.specs.Global.{Vec}
 use Rattle.std.specs.List.{filter_map}
 use Rattle.disk_core.specs.declared.log_disk.LogDisk as logs
 use Rattle.disk_core.specs.declared.media.Volumes.{Volumes}
@@ -41,7 +42,7 @@ lock_named of_offsets bank = locks.Offsets bank
 lock_named of_members bank = locks.Members bank
 
 module _ {P : Type 0} where
-  abbrev pub volumes_in : Store → BankVolumes P → Vec P Global
+  abbrev pub volumes_in : Store → BankVolumes P → Vec P
   volumes_in of_xact volumes = volumes.xact
   volumes_in of_subtrans volumes = volumes.subtrans
   volumes_in of_offsets volumes = volumes.offsets

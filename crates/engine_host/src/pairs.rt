@@ -33,6 +33,7 @@ pub(crate) fn open_states<P: PageDisk + Drop>(
     ensures new { IfOk result (λ banks. IsNewXact cluster.now begins bank banks.0.value × IsNewSubtrans cluster.now begins bank banks.1.value) }
     ensures opened { IfOk result (λ banks. OpensFirst removes xact.old.items xact.new.items banks.0.value
         × OpensFirst removes subtrans.old.items subtrans.new.items banks.1.value) }
+    ensures room { IfOk result (λ banks. (length xact.new.items < vec_capacity xact.new) × (length subtrans.new.items < vec_capacity subtrans.new)) }
     ensures back { OnErr result (IsBack removes xact.old.items xact.new.items × IsBack removes subtrans.old.items subtrans.new.items) }
     ensures capacity { (vec_capacity xact.new ≡ vec_capacity xact.old) × (vec_capacity subtrans.new ≡ vec_capacity subtrans.old) }
     ensures refused { IfErr result (λ refusal. IsFailed P.PageDisk (locks.Xact bank) xact.old.items xact.new.items refusal
@@ -73,6 +74,7 @@ pub(crate) fn open_multis<P: PageDisk + Drop>(
     ensures new { IfOk result (λ banks. IsNewOffsets cluster.now begins bank banks.0.value × IsNewMembers cluster.now begins bank banks.1.value) }
     ensures opened { IfOk result (λ banks. OpensFirst removes offsets.old.items offsets.new.items banks.0.value
         × OpensFirst removes members.old.items members.new.items banks.1.value) }
+    ensures room { IfOk result (λ banks. (length offsets.new.items < vec_capacity offsets.new) × (length members.new.items < vec_capacity members.new)) }
     ensures back { OnErr result (IsBack removes offsets.old.items offsets.new.items × IsBack removes members.old.items members.new.items) }
     ensures capacity { (vec_capacity offsets.new ≡ vec_capacity offsets.old) × (vec_capacity members.new ≡ vec_capacity members.old) }
     ensures refused { IfErr result (λ refusal. IsFailed P.PageDisk (locks.Offsets bank) offsets.old.items offsets.new.items refusal

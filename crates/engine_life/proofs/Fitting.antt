@@ -17,7 +17,6 @@ use Rattle.tx_core.specs.MultiEntries.{multi_history}
 use Rattle.recoverable.specs.Fit.{KeptLog}
 use Rattle.recoverable.specs.Whole.{BeganRight, IsShort}
 use Rattle.recoverable.proofs.NoneRecorded.{none_recorded}
-use Rattle.bank_follows.specs.Ends.{IsOnlySynced}
 use Rattle.bank_follows.specs.Holding.{LogHolds}
 use Rattle.bank_follows.proofs.Ended.{cluster_fits}
 use Rattle.engine_life.specs.Lives.{EndFit, FollowsList, HaveFollowed}
@@ -28,9 +27,8 @@ short_of lists few quiet = record { ids = few; multis = subst (λ (h : List Mult
 
 module _ {L P : Type 0} (l : logs.Ghosts L) (p : disks.Ghosts P) where
   pub end_fit : (start : Start) (lists : List (List Entry)) (volumes : Volumes L P) (kept : KeptLog) (recs : List Rec) (next first : ℕ) → EngineInvariant start lists → BeganRight start → start.recorded ≡ [] → AreFewIds lists → multi_history lists ≡ []
-      → LogHolds start (at lists log_lock) kept recs next first (l.images volumes.log) → kept.flushed ≡ flushed_to start (at lists log_lock) → length volumes.xact.items ≡ start.banks → HaveFollowed p start lists volumes.xact.items
-      → ((bank k : ℕ) → k < 2 → bank < start.banks → IsOnlySynced (at lists (5 + 4 * bank + k))) → EndFit l p start lists volumes
-  end_fit start lists volumes kept recs next first k right none few quiet held flushed count states banks = record {
+      → LogHolds start (at lists log_lock) kept recs next first (l.images volumes.log) → kept.flushed ≡ flushed_to start (at lists log_lock) → length volumes.xact.items ≡ start.banks → HaveFollowed p start lists volumes.xact.items → EndFit l p start lists volumes
+  end_fit start lists volumes kept recs next first k right none few quiet held flushed count states = record {
     kept = kept;
     follows = held.is_of;
     flushed = flushed;
@@ -42,8 +40,7 @@ module _ {L P : Type 0} (l : logs.Ghosts L) (p : disks.Ghosts P) where
           let s = states bank (omega (arith, within, count)) in
           subst (λ (d : P). FollowsList p start lists bank d) (same_Some s.0 disk (sym s.1 ∙ found)) s.2;
       recorded = none;
-      offsets = λ bank low. let same : 5 + 4 * bank + 0 ≡ 5 + 4 * bank = omega arith in subst (λ n. IsOnlySynced (at lists n)) same (banks bank 0 (omega arith) low);
-      members = λ bank low. let same : 5 + 4 * bank + 1 ≡ 6 + 4 * bank = omega arith in subst (λ n. IsOnlySynced (at lists n)) same (banks bank 1 (omega arith) low);
+      unmade = quiet;
     });
     unrecorded = none_recorded start lists kept k held.is_of none quiet;
   }

@@ -38,7 +38,7 @@ use Rattle.engine_parts.specs.Parts.{PartStands}
 use Rattle.engine_parts.specs.Stand.{number_of_state}
 use Rattle.engine_parts.specs.declared.part.Part.{Part}
 use Rattle.engine_parts.specs.declared.part.Part.TheVariants as parts
-use Rattle.engine_host.specs.Refused.{xact_disk}
+use Rattle.engine_host.specs.Stores.{disk_in, of_xact}
 use Rattle.engine_life.specs.Lives.{FollowsList}
 
 -- the bits of a state
@@ -165,7 +165,7 @@ module _ {P : Type 0} (g : disks.Ghosts P) (start : Start) (bank : ℕ) (told : 
 
 -- each image of the volume of the part behind a bank's lock follows the list
 module _ {L P : Type 0} {l : logs.Ghosts L} (p : disks.Ghosts P) (start : Start) (lists : List (List Entry)) (told : IsTrue p.tells) (only_now : (d : P) (c : Pages) → p.left_at d (p.moment d) c → p.images d c) (kept : EngineInvariant start lists) (few : AreFewIds lists) where
-  pub follows_here : (bank : ℕ) (part : Part L P l p) → PartStands start (xact_lock bank) part (at lists (xact_lock bank)) → (v : P) × (xact_disk part ≡ Some v) × FollowsList p start lists bank v
+  pub follows_here : (bank : ℕ) (part : Part L P l p) → PartStands start (xact_lock bank) part (at lists (xact_lock bank)) → (v : P) × (disk_in of_xact part ≡ Some v) × FollowsList p start lists bank v
   follows_here bank (parts.Log log) k = absurd (let e = k.0 in omega (arith, e))
   follows_here bank (parts.Proc table) k = absurd (let e = k.0 in omega (arith, e))
   follows_here bank (parts.Xact store) k =
@@ -173,4 +173,6 @@ module _ {L P : Type 0} {l : logs.Ghosts L} (p : disks.Ghosts P) (start : Start)
       let course = subst (λ b. HasCourse start b store.value (at lists (xact_lock bank))) same (k.2.course told) in
       (volume_of store.value, refl, states_follow p start bank told only_now lists store.value kept few course)
   follows_here bank (parts.Subtrans store) k = absurd (let e = k.1 in omega (arith, e))
-  follows_here bank parts.Vacant k = absurd (k.xact bank refl)
+  follows_here bank (parts.Multi gen) k = absurd (let e = k.0 in omega (arith, e))
+  follows_here bank (parts.Offsets store) k = absurd (let e = k.1 in omega (arith, e))
+  follows_here bank (parts.Members store) k = absurd (let e = k.1 in omega (arith, e))

@@ -1,34 +1,18 @@
 -- Volumes that come back where no life goes on.
-use Rattle.std.proofs.Common.{List, subst, sym, ◌≡◌}
+use Rattle.std.proofs.Common.{subst, sym}
 use Rattle.disk_core.specs.declared.log_disk.LogDisk as logs
 use Rattle.disk_core.specs.declared.page_disk.PageDisk as disks
 use Rattle.disk_core.specs.declared.media.Volumes.{Volumes}
 use Rattle.disk_core.specs.Images.{Only}
 use Rattle.recoverable.specs.Fit.{KeptLog}
-use Rattle.recoverable.specs.declared.cluster.ClusterVolumes.{ClusterVolumes}
-use Rattle.replay_core.specs.Refused.{IsRefusal}
 use Rattle.replay_core.specs.Volumes.{LeavesFit}
 use Rattle.replay_core.specs.declared.refusal.RecoverRefusal.{RecoverRefusal}
 use Rattle.replay_core.specs.declared.refusal.RecoverRefusal.TheVariants as refusals
 use Rattle.engine_life.specs.declared.refusal.NotReopened.TheVariants as not_reopened
 use Rattle.recoverable.proofs.Crashed.{crash_keeps_fit}
-use Rattle.engine_life.specs.NextLives.{CrashGoesOn, StayFit, WhenRefused, cluster_volumes}
+use Rattle.engine_life.specs.NextLives.{CrashGoesOn, StayFit, WhenRefused}
 
 module _ {L P : Type 0} (l : logs.Ghosts L) (p : disks.Ghosts P) where
-  -- an engine's volumes, put together with others, are there as they were
-  together_same : (v : ClusterVolumes L P) (all : Volumes L P) → all.log ≡ v.log → all.xact ≡ v.xact → all.subtrans ≡ v.subtrans → v ≡ cluster_volumes all
-  together_same v all log xact subtrans = λ i. record { log = sym log i; xact = sym xact i; subtrans = sym subtrans i }
-
-  pub refused_together : (old v : ClusterVolumes L P) (all : Volumes L P) (refusal : RecoverRefusal) → all.log ≡ v.log → all.xact ≡ v.xact → all.subtrans ≡ v.subtrans
-      → IsRefusal l p old v refusal → IsRefusal l p old (cluster_volumes all) refusal
-  refused_together old v all refusal log xact subtrans is =
-      subst (λ (z : ClusterVolumes L P). IsRefusal l p old z refusal) (together_same v all log xact subtrans) is
-
-  pub fit_together : (kept : KeptLog) (old : List P) (v : ClusterVolumes L P) (all : Volumes L P) → all.log ≡ v.log → all.xact ≡ v.xact → all.subtrans ≡ v.subtrans
-      → LeavesFit l p old v.log v.xact.items kept → LeavesFit l p old all.log all.xact.items kept
-  fit_together kept old v all log xact subtrans fit =
-      subst (λ (z : ClusterVolumes L P). LeavesFit l p old z.log z.xact.items kept) (together_same v all log xact subtrans) fit
-
   -- behind a crash the next life may go on from what it left
   pub crash_goes_on : CrashGoesOn l p
   crash_goes_on kept old new crashed may told =

@@ -1,11 +1,12 @@
 -- What a recovery leaves is what a life begins with.
-use Rattle.std.proofs.Common.{Bool, IsTrue, List, None, Option, Some, [], ap, arith, false, inr, length, refl, subst, suc, sym, take, true, zero, ℕ, ◌%◌, ◌+◌, ◌-◌, ◌/◌, ◌<◌, ◌∙◌, ◌∷◌, ◌≡◌, ◌≤◌}
+use Rattle.std.proofs.Common.{Bool, IsTrue, List, None, Option, Some, [], ap, arith, cond, false, inr, length, refl, subst, suc, sym, take, true, zero, ℕ, ◌%◌, ◌+◌, ◌-◌, ◌/◌, ◌==◌, ◌<◌, ◌∙◌, ◌∷◌, ◌≡◌, ◌≤◌}
 use Rattle.std.proofs.Math.Seq.{take-length}
 use Rattle.std.specs.List.{slice_get, slice_index}
 use Rattle.disk_core.specs.declared.log_disk.LogDisk as logs
 use Rattle.disk_core.specs.declared.page_disk.PageDisk as disks
-use Rattle.disk_core.specs.Pages.{Pages, page_bytes}
-use Rattle.store_pages.specs.Layouts.{state_in, xact_page_of, xact_place_of}
+use Rattle.disk_core.specs.Pages.{Pages, page_bytes, zero_page}
+use Rattle.slru_bank.proofs.ZeroBytes.{zero_byte}
+use Rattle.store_pages.specs.Layouts.{member_place_of, mode_place_of, number_in, state_in, word_place_of, xact_page_of, xact_place_of}
 use Rattle.tx_events.proofs.Membership.{contains_has}
 use Rattle.tx_events.specs.Ids.{IsFullMulti}
 use Rattle.tx_events.specs.declared.record.Counters.{Counters}
@@ -14,6 +15,7 @@ use Rattle.tx_events.specs.declared.record.Rec.TheVariants as records
 use Rattle.wal_core.specs.LogViews.{log_checkpoint, KeepsAll, log_counters, log_disk, log_down, log_first, log_flushed, log_next, log_recs}
 use Rattle.wal_core.specs.declared.wal_log.WalLog.{WalLog}
 use Rattle.tx_core.specs.declared.entry.Start.{Start}
+use Rattle.tx_core.specs.CleanMultis.{CleanMembers, CleanOffsets}
 use Rattle.recoverable.specs.Fit.{KeptLog, base_at, log_end, recs_below}
 use Rattle.recoverable.specs.Laws.{life_base}
 use Rattle.log_bases.specs.LifeBase.{LifeBase, base_after}
@@ -33,8 +35,10 @@ use Rattle.engine_parts.specs.Sessions.{AreGivenBefore}
 use Rattle.engine_parts.specs.Stand.{GivesStart, number_of_state}
 use Rattle.engine_host.specs.declared.cluster.Cluster.{Cluster}
 use Rattle.engine_host.specs.Counted.{AreCounted}
-use Rattle.engine_host.specs.Opening.{AllShowNothing, AllShowStates, Beginning, IsBegunLog, life_from}
-use Rattle.engine_host.proofs.Starting.{log_begins}
+use Rattle.engine_host.specs.declared.cluster.BankVolumes.{BankVolumes}
+use Rattle.engine_host.specs.Opening.{AllOnDisk, AllShowNothing, AllShowStates, Beginning, HasNoMultis, IsBegunLog, life_from}
+use Rattle.engine_host.specs.Stores.{Store, of_members, of_offsets, of_subtrans, of_xact, volumes_in}
+use Rattle.engine_host.proofs.Starting.{log_begins, zero_number}
 use Rattle.engine_life.specs.Reopening.{IsBaseAt, KeepsStart, behind, cluster_over}
 
 -- the records that are kept, and that they give the life's begin where the volumes told it
@@ -42,6 +46,13 @@ kept_told : (told : Bool) (K G : ℕ → List Rec → Type 0) → (IsTrue told �
     → (number : ℕ) × (past : List Rec) × K number past × (IsTrue told → G number past)
 kept_told true K G given any = let k = given refl in (k.0, k.1, k.2, λ t. k.3)
 kept_told false K G given any = (any.0, any.1, any.2, λ t. let z : false ≡ true = t in absurd cc)
+
+-- of each store its own
+pub each_store : (Q : Store → Type 0) → Q of_xact → Q of_subtrans → Q of_offsets → Q of_members → (k : Store) → Q k
+each_store Q a b c d of_xact = a
+each_store Q a b c d of_subtrans = b
+each_store Q a b c d of_offsets = c
+each_store Q a b c d of_members = d
 
 -- the log that a recovery left is begun
 pub settled_begins : {D : Type 0} {g : logs.Ghosts D} (c : Cluster) (b : Beginning) (from : ℕ) (log : WalLog D g) → IsSettled from c.base log → b.number ≡ from → (IsTrue g.tells → IsTrue b.told → KeepsStart c b log) → IsBegunLog c b log
@@ -121,6 +132,25 @@ module _ {L P : Type 0} (l : logs.Ghosts L) (p : disks.Ghosts P) where
     clean : BeganClean start (shown_on (length xact') left)
     clean = restored_begins start r.recovered.later from left goes_on restored
 
+    -- pages that are empty show no multixact, and the life is clean over them
+    pub no_multis : HasNoMultis cluster begins
+    no_multis = record {
+      offsets = subst (CleanOffsets start) (λ i x. no_offset x i) clean.offsets;
+      members = subst (CleanMembers start) (λ i x. no_member x i) clean.members;
+    }
+      where
+        none_on : {V : Type 0} (n : ℕ) (v : Option V) → n ≡ 0 → cond (n == 0) None v ≡ None
+        none_on n v q = ap (λ m. cond (m == 0) None v) q
+
+        no_offset : (x : ℕ) → (shown_on (length xact') left).offsets x ≡ None
+        no_offset x = none_on (number_in zero_page (word_place_of x)) _ (zero_number (word_place_of x))
+
+        no_member : (x : ℕ) → (shown_on (length xact') left).members x ≡ None
+        no_member x =
+            let number = zero_number (member_place_of x) in
+            let mode = zero_byte (mode_place_of x) in
+            none_on (number_in zero_page (member_place_of x) + slice_index zero_page (mode_place_of x)) _ (omega (arith, number, mode))
+
     pub given_before : AreGivenBefore start
     given_before = clean.right.base.committed
 
@@ -183,18 +213,14 @@ module _ {L P : Type 0} (l : logs.Ghosts L) (p : disks.Ghosts P) where
 
 module _ {L P : Type 0} (l : logs.Ghosts L) (p : disks.Ghosts P) where
   -- The counts of a life aren't below those of the volumes before the recovery, in which none fell.
-  pub counted_before : (disk disk' : L) (states states' parents parents' : List P) (faults : List ℕ) → length states' ≡ length states → length parents' ≡ length parents
-      → l.faults disk ≤ l.faults disk' → NoCountFell p states states' → NoCountFell p parents parents' → AreCounted l p disk' states' parents' faults → AreCounted l p disk states parents faults
-  counted_before disk disk' states states' parents parents' faults some others up states_up parents_up have = record {
+  pub counted_before : (disk disk' : L) (old new : BankVolumes P) (faults : List ℕ) → ((k : Store) → length (volumes_in k new).items ≡ length (volumes_in k old).items)
+      → l.faults disk ≤ l.faults disk' → ((k : Store) → NoCountFell p (volumes_in k old).items (volumes_in k new).items) → AreCounted l p disk' new faults → AreCounted l p disk old faults
+  counted_before disk disk' old new faults as_many up each_up have = record {
     log = let more = have.log in omega (arith, up, more);
-    xact = λ bank v at.
-        let now = had states' states (sym some) bank v at in
-        let more = states_up bank v now.0 at now.1 in
-        let have_it = have.xact bank now.0 now.1 in omega (arith, more, have_it);
-    subtrans = λ bank v at.
-        let now = had parents' parents (sym others) bank v at in
-        let more = parents_up bank v now.0 at now.1 in
-        let have_it = have.subtrans bank now.0 now.1 in omega (arith, more, have_it);
+    banks = λ k bank v at.
+        let now = had (volumes_in k new).items (volumes_in k old).items (sym (as_many k)) bank v at in
+        let more = each_up k bank v now.0 at now.1 in
+        let have_it = have.banks k bank now.0 now.1 in omega (arith, more, have_it);
   }
 
 -- over volumes that don't tell nothing is committed
@@ -203,7 +229,11 @@ none_before kept from sessions banks counters x k = absurd (contains_has [] x k)
 
 -- empty pages show nothing
 pub empty_shown : {P : Type 0} (p : disks.Ghosts P) (volumes : List P) → ((disk : P) → p.images disk (p.pages disk)) → AreEmpty p volumes → AllShowNothing p false volumes
-empty_shown p volumes each empty n disk at q small = empty n disk at (p.pages disk) (each disk) q small
+empty_shown p volumes each empty n disk at q small = (empty n disk at).zeros (p.pages disk) (each disk) q small
+
+-- and are on disk
+pub empty_durable : {P : Type 0} (p : disks.Ghosts P) (volumes : List P) → AreEmpty p volumes → AllOnDisk p volumes
+empty_durable p volumes empty n disk at = (empty n disk at).on_disk
 
 pub before_any : (tells : Bool) (kept : KeptLog) (from sessions banks : ℕ) (counters : Counters)
     → (IsTrue tells → AreGivenBefore (life_from (cluster_over counters banks sessions) (behind true kept from) [])) → AreGivenBefore (life_from (cluster_over counters banks sessions) (behind tells kept from) [])

@@ -15,7 +15,7 @@ use Rattle.tx_core.specs.declared.entry.Entry.{Entry}
 use Rattle.tx_core.specs.declared.entry.Start.{Start}
 use Rattle.tx_core.specs.Entries.{flushed_to}
 use Rattle.tx_core.specs.FaultsRise.{faults_told}
-use Rattle.tx_core.specs.Locks.{log_lock, subtrans_lock, xact_lock}
+use Rattle.tx_core.specs.Locks.{log_lock, members_lock, offsets_lock, subtrans_lock, xact_lock}
 use Rattle.recoverable.specs.Whole.{BeganRight, StatesLeft}
 use Rattle.wal_core.specs.declared.wal_log.WalLog.{WalLog}
 use Rattle.wal_core.specs.LogViews.{log_disk, log_end, log_flushed, log_next, log_recs}
@@ -27,13 +27,9 @@ use Rattle.engine_host.specs.declared.cluster.Cluster.{Cluster}
 use Rattle.engine_host.specs.Counted.{AreCounted}
 use Rattle.engine_host.specs.Hosts.{HasSeenNothing, HoldsAllBut, IsHost, IsNewSession, IsParked}
 use Rattle.engine_host.specs.Opening.{life_of}
+use Rattle.engine_host.specs.Stores.{banks_of}
 use Rattle.engine_life.specs.declared.closed.ClosedLife.{ClosedLife}
 use Rattle.engine_life.specs.declared.life.OpenLife.{OpenLife}
-
--- the volumes of the multixacts' stores are as they were
-pub record LeaveMultis {L P : Type 0} (old new : Volumes L P) : Type 0 where
-  pub offsets : new.offsets ≡ old.offsets
-  pub members : new.members ≡ old.members
 
 module _ {L P : Type 0} {l : logs.Ghosts L} {p : disks.Ghosts P} where
   -- Nothing was done yet in a life that starts so, and each of its sessions may be let in.
@@ -46,15 +42,13 @@ module _ {L P : Type 0} {l : logs.Ghosts L} {p : disks.Ghosts P} where
     pub parked : (n : ℕ) (s : Session) → n < c.sessions → IsNewSession s → IsParked life.hall life.host n s
 
   -- It begins over a new log, with a base from which a life may start, at counts of faults that aren't below those of
-  -- these volumes, and has set those of the multixacts' stores aside.
+  -- these volumes.
   pub record IsNewLife (c : Cluster) (volumes : Volumes L P) (life : OpenLife L P l p) : Type 0 where
     pub banks : HasBanks c.banks volumes
     pub faults : List ℕ
-    pub counted : AreCounted l p volumes.log volumes.xact.items volumes.subtrans.items faults
+    pub counted : AreCounted l p volumes.log (banks_of volumes) faults
     pub begun : IsBegun c (life_of c faults) life
     pub right : BeganRight (life_of c faults)
-    pub offsets : life.aside.offsets ≡ volumes.offsets
-    pub members : life.aside.members ≡ volumes.members
 
 -- the volumes of a life that is over, each in its place
 abbrev pub volumes_left : {L P : Type 0} → {l : logs.Ghosts L} → ClosedLife L P l → Volumes L P
@@ -66,23 +60,29 @@ volumes_left life = record {
   members = life.members;
 }
 
--- so many volumes of the stores that the life used
+-- so many volumes of each of the four stores
 pub record HaveVolumes {L P : Type 0} (banks : ℕ) (volumes : Volumes L P) : Type 0 where
   pub xact : length volumes.xact.items ≡ banks
   pub subtrans : length volumes.subtrans.items ≡ banks
+  pub offsets : length volumes.offsets.items ≡ banks
+  pub members : length volumes.members.items ≡ banks
 
 -- the number of the first record that it appended
 abbrev pub number_of : {L P : Type 0} → {l : logs.Ghosts L} → ClosedLife L P l → ℕ
 number_of life = log_next life.log - length (log_recs life.log)
 
 module _ {L P : Type 0} (l : logs.Ghosts L) (p : disks.Ghosts P) where
-  -- Each volume that the life used has counted at least the faults that its lock's list tells.
+  -- Each volume has counted at least the faults that its lock's list tells.
   pub record HaveCountedTold (start : Start) (lists : List (List Entry)) (volumes : Volumes L P) : Type 0 where
     pub log : faults_told start log_lock (at lists log_lock) ≤ l.faults volumes.log
     pub xact : (bank : ℕ) → bank < start.banks → (v : P) × (slice_get volumes.xact.items bank ≡ Some v)
         × (faults_told start (xact_lock bank) (at lists (xact_lock bank)) ≤ p.faults v)
     pub subtrans : (bank : ℕ) → bank < start.banks → (v : P) × (slice_get volumes.subtrans.items bank ≡ Some v)
         × (faults_told start (subtrans_lock bank) (at lists (subtrans_lock bank)) ≤ p.faults v)
+    pub offsets : (bank : ℕ) → bank < start.banks → (v : P) × (slice_get volumes.offsets.items bank ≡ Some v)
+        × (faults_told start (offsets_lock bank) (at lists (offsets_lock bank)) ≤ p.faults v)
+    pub members : (bank : ℕ) → bank < start.banks → (v : P) × (slice_get volumes.members.items bank ≡ Some v)
+        × (faults_told start (members_lock bank) (at lists (members_lock bank)) ≤ p.faults v)
 
 module _ {P : Type 0} (p : disks.Ghosts P) where
   -- what a crash would leave of a volume of pg_xact follows its bank's list

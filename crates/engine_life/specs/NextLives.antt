@@ -9,7 +9,6 @@ use Rattle.disk_core.specs.Media.{AllCrashed, LogCrashed, PagesCrashed}
 use Rattle.recoverable.specs.Clusters.{Fit}
 use Rattle.recoverable.specs.Fit.{KeptLog}
 use Rattle.recoverable.specs.Whole.{BeganRight}
-use Rattle.recoverable.specs.declared.cluster.ClusterVolumes.{ClusterVolumes}
 use Rattle.replay_core.specs.Refused.{IsRefusal}
 use Rattle.replay_core.specs.Volumes.{LeavesFit}
 use Rattle.replay_core.specs.declared.refusal.RecoverRefusal.{RecoverRefusal}
@@ -17,15 +16,12 @@ use Rattle.replay_core.specs.declared.refusal.RecoverRefusal.TheVariants as refu
 use Rattle.engine_host.specs.declared.cluster.Cluster.{Cluster}
 use Rattle.engine_host.specs.Counted.{AreCounted}
 use Rattle.engine_host.specs.Opening.{life_from}
+use Rattle.engine_host.specs.Stores.{banks_of}
 use Rattle.engine_life.specs.declared.life.OpenLife.{OpenLife}
 use Rattle.engine_life.specs.declared.refusal.NotReopened.{NotReopened}
 use Rattle.engine_life.specs.declared.refusal.NotReopened.TheVariants as not_reopened
-use Rattle.engine_life.specs.Lives.{IsBegun, LeaveMultis}
+use Rattle.engine_life.specs.Lives.{IsBegun}
 use Rattle.engine_life.specs.Reopening.{IsBaseAt, behind}
-
--- the volumes of the engine among those of a media
-abbrev pub cluster_volumes : {L P : Type 0} → Volumes L P → ClusterVolumes L P
-cluster_volumes volumes = record { log = volumes.log; xact = volumes.xact; subtrans = volumes.subtrans }
 
 module _ {L P : Type 0} (l : logs.Ghosts L) (p : disks.Ghosts P) where
   -- volumes that tell what they hold fit this log
@@ -54,13 +50,12 @@ module _ {L P : Type 0} (l : logs.Ghosts L) (p : disks.Ghosts P) where
   IsNotReopened before now gave gives not_reopened.Device = HasRisen before now
   IsNotReopened before now gave gives not_reopened.Memory = Unit {0}
   IsNotReopened before now gave gives (not_reopened.Unrecovered refusal) =
-      (old new : Volumes L P) × gave old × Only new gives × LeaveMultis old new
-      × IsRefusal l p (cluster_volumes old) (cluster_volumes new) refusal
+      (old new : Volumes L P) × gave old × Only new gives × IsRefusal l p old new refusal
 
 module _ {L P : Type 0} {l : logs.Ghosts L} {p : disks.Ghosts P} where
   -- The life goes on over these volumes. Where they tell what they hold, and so fit this log, it goes on from the base at a
   -- number of the log, from the flushed one to its end; where they don't, nothing is known of what was before. It begins at
-  -- counts of faults that aren't below those of the volumes, and has set those of the multixacts' stores aside.
+  -- counts of faults that aren't below those of the volumes.
   pub record GoesOnLife (kept : KeptLog) (sessions : ℕ) (volumes : Volumes L P) (life : OpenLife L P l p) : Type 0 where
     pub number : ℕ
     pub cluster : Cluster
@@ -68,8 +63,6 @@ module _ {L P : Type 0} {l : logs.Ghosts L} {p : disks.Ghosts P} where
     pub sessions_are : cluster.sessions ≡ sessions
     pub base : IsTrue p.tells → IsBaseAt kept number cluster.base
     pub faults : List ℕ
-    pub counted : AreCounted l p volumes.log volumes.xact.items volumes.subtrans.items faults
+    pub counted : AreCounted l p volumes.log (banks_of volumes) faults
     pub begun : IsBegun cluster (life_from cluster (behind p.tells kept number) faults) life
     pub right : IsTrue p.tells → BeganRight (life_from cluster (behind p.tells kept number) faults)
-    pub offsets : life.aside.offsets ≡ volumes.offsets
-    pub members : life.aside.members ≡ volumes.members

@@ -14,7 +14,6 @@ use Rattle.recoverable.specs.Clusters.{HasFailedAt}
 use Rattle.engine_host.specs.Refused.{HasNoRoom, OpensEmpty}
 use Rattle.engine_life.specs.declared.refusal.NoLife.{NoLife}
 use Rattle.engine_life.specs.declared.refusal.NoLife.TheVariants as no_lives
-use Rattle.engine_life.specs.Lives.{LeaveMultis}
 
 abbrev pub refusal_by : OpenRefusal → NoLife
 refusal_by (refusals.Damaged at) = no_lives.Damaged at
@@ -37,7 +36,9 @@ module _ {L P : Type 0} (l : logs.Ghosts L) (p : disks.Ghosts P) where
   HasVolumeFailed old new =
       HasRisen (l.faults old.log) (l.faults new.log)
       ⊎ (((bank : ℕ) × HasFailedAt p.faults bank old.xact.items new.xact.items)
-      ⊎ ((bank : ℕ) × HasFailedAt p.faults bank old.subtrans.items new.subtrans.items))
+      ⊎ (((bank : ℕ) × HasFailedAt p.faults bank old.subtrans.items new.subtrans.items)
+      ⊎ (((bank : ℕ) × HasFailedAt p.faults bank old.offsets.items new.offsets.items)
+      ⊎ ((bank : ℕ) × HasFailedAt p.faults bank old.members.items new.members.items))))
 
   -- why no life was opened over these volumes, which came back so
   abbrev pub IsNoLife : Cluster → Volumes L P → Volumes L P → NoLife → Type 0
@@ -50,7 +51,7 @@ module _ {L P : Type 0} (l : logs.Ghosts L) (p : disks.Ghosts P) where
   -- the volumes were mounted so, were given back so, and no life was opened over them
   abbrev pub HasRestedVolumes : Cluster → (ℕ → Volumes L P → Type 0) → (Volumes L P → Type 0) → NoLife → Type 0
   HasRestedVolumes c first gives refusal =
-      (old new : Volumes L P) × first c.banks old × Only new gives × LeaveMultis old new × IsNoLife c old new refusal
+      (old new : Volumes L P) × first c.banks old × Only new gives × IsNoLife c old new refusal
 
   -- Why no life was opened over a media with these counts of faults, which holds these volumes now. Where a device failed,
   -- the media's count rose, or that of a volume since the mounting, until the media took the volumes back.

@@ -7,6 +7,8 @@ use Rattle.wal_core.specs.LogViews.{KeepsAll}
 use Rattle.wal_core.specs.declared.wal_log.WalLog.{WalLog}
 use Rattle.engine_parts.specs.Stand.{GivesStart}
 use Rattle.recoverable.specs.Fit.{KeptLog, base_at, log_end}
+use Rattle.replay_core.specs.declared.cluster.Recovered.{Recovered}
+use Rattle.engine_host.specs.declared.cluster.BankVolumes.{BankVolumes}
 use Rattle.engine_host.specs.declared.cluster.Cluster.{Cluster}
 use Rattle.engine_host.specs.Opening.{Beginning, life_from}
 
@@ -22,6 +24,10 @@ behind tells kept number = record {
 
 abbrev pub cluster_over : Counters → ℕ → ℕ → Cluster
 cluster_over base banks sessions = record { base = base; banks = banks; sessions = sessions }
+
+-- the volumes of the banks
+abbrev pub banks_in : {L P : Type 0} → {l : logs.Ghosts L} → Recovered L P l → BankVolumes P
+banks_in r = record { xact = r.xact; subtrans = r.subtrans; offsets = r.offsets; members = r.members }
 
 -- the log keeps records that give what the life begins with
 abbrev pub KeepsStart : {D : Type 0} → {g : logs.Ghosts D} → Cluster → Beginning → WalLog D g → Type 0

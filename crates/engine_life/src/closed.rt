@@ -13,7 +13,7 @@ ghost use Rattle.engine_life.specs.Lives.{EndFit, HaveCountedTold, HaveFollowed,
 
 use crate::life::{Aside, OpenLife};
 use disk_core::{LogDisk, PageDisk, Volumes};
-use engine_host::{Parts, TakenApart, close, take_apart};
+use engine_host::{BankVolumes, Parts, TakenApart, close, take_apart};
 use tx_events::EventList;
 use wal_core::WalLog;
 
@@ -28,27 +28,25 @@ pub struct ClosedLife<L: LogDisk, P> {
 }
 
 /// Closes a life whose sessions are all dismissed. Its history and its log are those of the lists that the host has seen,
-/// which are all that was done, and of which the engine invariant holds; no multixact is in them. Each bank has its two
-/// volumes. Each of these has counted at least the faults that its list tells, and a crash would leave of each of pg_xact
-/// what its list allows. Takes no memory.
+/// which are all that was done, and of which the engine invariant holds. Each bank has its four volumes. Each of these has
+/// counted at least the faults that its list tells, and a crash would leave of each of pg_xact what its list allows. Takes
+/// no memory.
 pub fn close_life<L: LogDisk + Drop, P: PageDisk + Drop>(life: OpenLife<L, P>) -> ClosedLife<L, P>
     requires host { IsHost life.hall life.host }
     requires all { HoldsAllBut life.host [] }
     ensures events { result.events ≡ history (view life.host.pass).seen }
     ensures log { IsLogOf (start_of life.hall) result.log (at (view life.host.pass).seen log_lock) }
-    ensures multis { multi_history (view life.host.pass).seen ≡ [] }
     ensures kept { EngineInvariant (start_of life.hall) (view life.host.pass).seen }
     ensures banks { HaveVolumes (start_of life.hall).banks (volumes_left result) }
     ensures counted { HaveCountedTold L.LogDisk P.PageDisk (start_of life.hall) (view life.host.pass).seen (volumes_left result) }
     // In a life of fewer than 2,900,000 ids.
     ensures states { IsTrue P.tells → AreFewIds (view life.host.pass).seen → HaveFollowed P.PageDisk
         (start_of life.hall) (view life.host.pass).seen (volumes_left result).xact.items }
-    // So a recovery may begin from what it leaves, where it began with a base from which a life may start, and no multixact.
+    // So a recovery may begin from what it leaves, where it began with a base from which a life may start, and no multixact,
+    // and made none.
     ensures fit { IsTrue L.tells → IsTrue P.tells → BeganRight (start_of life.hall) → (start_of life.hall).recorded ≡ []
-        → AreFewIds (view life.host.pass).seen → EndFit L.LogDisk P.PageDisk (start_of life.hall)
+        → multi_history (view life.host.pass).seen ≡ [] → AreFewIds (view life.host.pass).seen → EndFit L.LogDisk P.PageDisk (start_of life.hall)
         (view life.host.pass).seen (volumes_left result) }
-    ensures offsets { (volumes_left result).offsets ≡ life.aside.offsets }
-    ensures members { (volumes_left result).members ≡ life.aside.members }
 {
     let OpenLife { hall, host, aside } = life;
     let parts = close(hall, host);
@@ -57,18 +55,19 @@ pub fn close_life<L: LogDisk + Drop, P: PageDisk + Drop>(life: OpenLife<L, P>) -
         locks,
         start: _,
     } = parts;
-    let Aside {
-        offsets,
-        members,
-        xact,
-        subtrans,
-    } = aside;
+    let Aside { room } = aside;
     let TakenApart {
         log,
         table,
+        multis: _,
+        volumes,
+    } = take_apart(locks, room);
+    let BankVolumes {
         xact,
         subtrans,
-    } = take_apart(locks, xact, subtrans);
+        offsets,
+        members,
+    } = volumes;
     let log = Box::into_inner(log);
     let table = Box::into_inner(table);
     let (_, events) = table.into_parts();

@@ -1,24 +1,21 @@
 //! A life that runs.
 ghost use Rattle.std.specs.Prelude.{◌≡◌, ◌≤◌, [], vec_capacity};
+ghost use Rattle.engine_host.specs.Stores.{Store, volumes_in};
 
 use disk_core::{LogDisk, PageDisk};
-use engine_host::Host;
+use engine_host::{BankVolumes, Host};
 use engine_parts::EngineLaw;
 use hall::Hall;
 
-/// The volumes that no part of the engine uses, those of the multixacts' stores, and room to put those of its banks
-/// into when it is taken apart.
+/// Room to put the volumes of the banks into when an engine is taken apart.
 #[derive(Drop)]
 pub struct Aside<P> {
-    pub(crate) offsets: Vec<P>,
-    pub(crate) members: Vec<P>,
-    pub(crate) xact: Vec<P>,
-    pub(crate) subtrans: Vec<P>,
-    ghost empty: { (xact.items ≡ []) × (subtrans.items ≡ []) },
-    ghost room: { (67 ≤ vec_capacity xact) × (67 ≤ vec_capacity subtrans) },
+    pub(crate) room: BankVolumes<P>,
+    ghost empty: { (k : Store) → (volumes_in k room).items ≡ [] },
+    ghost many: { (k : Store) → 67 ≤ vec_capacity (volumes_in k room) },
 }
 
-/// A life: its lock table with the host, and the volumes that they don't use.
+/// A life: its lock table with the host, and room for its volumes.
 pub struct OpenLife<L: LogDisk, P: PageDisk> {
     pub hall: Hall<EngineLaw<L, P>>,
     pub host: Host<L, P>,

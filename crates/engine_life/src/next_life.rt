@@ -6,16 +6,15 @@ ghost use Rattle.recoverable.specs.Fit.{KeptLog};
 ghost use Rattle.replay_core.specs.Refused.{IsRefusal};
 ghost use Rattle.replay_core.specs.declared.refusal.RecoverRefusal.TheVariants as refusals;
 ghost use Rattle.engine_host.specs.Opening.{AreParts};
-ghost use Rattle.engine_life.specs.Lives.{IsBegun, LeaveMultis};
-ghost use Rattle.engine_life.specs.NextLives.{GoesOnLife, IsNotReopened, MayGoOn, StayFit, WhenRefused, cluster_volumes};
+ghost use Rattle.engine_life.specs.Lives.{IsBegun};
+ghost use Rattle.engine_life.specs.NextLives.{GoesOnLife, IsNotReopened, MayGoOn, StayFit, WhenRefused};
 
 use crate::life::{Aside, OpenLife};
 use crate::old_parts::open_old;
-use crate::opened::{begin_life, new_room, together};
+use crate::opened::{begin_life, new_aside};
 use crate::refusal::NotReopened;
 use disk_core::{LogDisk, Media, MountRefusal, PageDisk, Volumes};
 use engine_host::Parts;
-use recoverable::ClusterVolumes;
 use replay_core::RecoverRefusal;
 use std::alloc::Global;
 
@@ -27,9 +26,7 @@ fn begin_next<L: LogDisk + Drop, P: PageDisk + Drop>(
 ) -> Result<OpenLife<L, P>, (Volumes<L, P>, RecoverRefusal)>
     requires parts { AreParts parts }
     ensures life { IfOk result (λ life. IsBegun parts.cluster parts.start.value life) }
-    ensures aside { IfOk result (λ life. (life.aside.offsets ≡ aside.offsets) × (life.aside.members ≡ aside.members)) }
     ensures refused { IfErr result (λ e. e.1 ≡ refusals.Memory) }
-    ensures back { IfErr result (λ e. (e.0.offsets ≡ aside.offsets) × (e.0.members ≡ aside.members)) }
 {
     match begin_life(alloc, parts, aside) {
         Ok(life) => Ok(life),
@@ -48,37 +45,15 @@ fn reopen_over<L: LogDisk + Drop, P: PageDisk + Drop>(
     requires sessions { sessions ≤ 64 }
     requires fits { MayGoOn L.LogDisk P.PageDisk kept volumes }
     ensures life { IfOk result (λ life. GoesOnLife kept sessions volumes life) }
-    ensures back { IfErr result (λ e. LeaveMultis volumes e.0) }
     ensures again { IsTrue P.tells → IfErr result (λ e. WhenRefused L.LogDisk P.PageDisk kept volumes e.0 e.1) }
-    ensures refused { IfErr result (λ e. IsRefusal L.LogDisk P.PageDisk (cluster_volumes volumes) (cluster_volumes e.0) e.1) }
+    ensures refused { IfErr result (λ e. IsRefusal L.LogDisk P.PageDisk volumes e.0 e.1) }
 {
-    let Ok(xact_room) = new_room(alloc) else {
+    let Ok(aside) = new_aside(alloc) else {
         return Err((volumes, RecoverRefusal::Memory));
-    };
-    let Ok(subtrans_room) = new_room(alloc) else {
-        return Err((volumes, RecoverRefusal::Memory));
-    };
-    let Volumes {
-        log,
-        xact,
-        subtrans,
-        offsets,
-        members,
-    } = volumes;
-    let aside = Aside {
-        offsets,
-        members,
-        xact: xact_room,
-        subtrans: subtrans_room,
-    };
-    let volumes = ClusterVolumes {
-        log,
-        xact,
-        subtrans,
     };
     match open_old(alloc, volumes, sessions) {
         Ok(parts) => begin_next(alloc, parts, aside),
-        Err((volumes, refusal)) => Err((together(volumes, aside), refusal)),
+        Err(refused) => Err(refused),
     }
 }
 

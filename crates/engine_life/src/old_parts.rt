@@ -10,13 +10,13 @@ ghost use Rattle.replay_core.specs.Volumes.{LeavesFit};
 ghost use Rattle.replay_core.specs.declared.refusal.RecoverRefusal.TheVariants as refusals;
 ghost use Rattle.engine_parts.specs.Sessions.{AreGivenBefore};
 ghost use Rattle.engine_host.specs.Counted.{AreCounted};
-ghost use Rattle.engine_host.specs.Opening.{AllOnDisk, AllShowNothing, AllShowStates, AreParts, Beginning, life_from, new_life};
-ghost use Rattle.engine_life.specs.Reopening.{IsBaseAt, KeepsStart, behind, cluster_over};
+ghost use Rattle.engine_host.specs.Opening.{AreParts, Beginning, MayBeginOver, life_from, new_life};
+ghost use Rattle.engine_host.specs.Stores.{banks_of};
+ghost use Rattle.engine_life.specs.Reopening.{IsBaseAt, KeepsStart, banks_in, behind, cluster_over};
 
 use crate::opened::is_full_multi;
-use disk_core::{LogDisk, PageDisk};
-use engine_host::{Cluster, Parts, open_begun};
-use recoverable::ClusterVolumes;
+use disk_core::{LogDisk, PageDisk, Volumes};
+use engine_host::{BankVolumes, Cluster, Parts, open_begun};
 use replay_core::{RecoverRefusal, Recovered, recover};
 use std::alloc::Global;
 
@@ -25,24 +25,24 @@ fn open_recovered<L: LogDisk + Drop, P: PageDisk + Drop>(
     alloc: Global,
     recovered: Recovered<L, P>,
     sessions: u32,
-) -> Result<Parts<L, P>, (ClusterVolumes<L, P>, RecoverRefusal)>
+) -> Result<Parts<L, P>, (Volumes<L, P>, RecoverRefusal)>
     ghost begins: { Beginning }
     requires some { 1 ≤ length recovered.xact.items }
     requires few { length recovered.xact.items ≤ 16 }
-    requires as_many { length recovered.subtrans.items ≡ length recovered.xact.items }
+    requires as_many { (length recovered.subtrans.items ≡ length recovered.xact.items)
+        × (length recovered.offsets.items ≡ length recovered.xact.items)
+        × (length recovered.members.items ≡ length recovered.xact.items) }
     requires sessions { sessions ≤ 64 }
     requires log { IsSettled recovered.from recovered.base recovered.log }
     requires number { begins.number ≡ recovered.from }
     requires before { AreGivenBefore (life_from (cluster_over recovered.base (length recovered.xact.items) sessions) begins []) }
-    requires states { IsTrue P.tells → AllShowStates P.PageDisk (cluster_over recovered.base (length recovered.xact.items) sessions) begins false 0 recovered.xact.items }
-    requires parents { IsTrue P.tells → AllShowNothing P.PageDisk false recovered.subtrans.items }
-    requires durable { IsTrue P.tells → AllOnDisk P.PageDisk recovered.xact.items }
+    requires shown { IsTrue P.tells → MayBeginOver P.PageDisk (cluster_over recovered.base (length recovered.xact.items) sessions) begins false 0 (banks_in recovered) }
     requires past { IsTrue L.tells → IsTrue begins.told → KeepsStart (cluster_over recovered.base (length recovered.xact.items) sessions) begins recovered.log }
     ensures cluster { IfOk result (λ parts. parts.cluster ≡ cluster_over recovered.base (length recovered.xact.items) sessions) }
     ensures parts { IfOk result (λ parts. AreParts parts) }
     ensures start { IfOk result (λ parts. parts.start.value ≡ new_life parts.cluster begins parts.locks.items) }
-    ensures counted { IfOk result (λ parts. AreCounted L.LogDisk P.PageDisk (log_disk recovered.log) recovered.xact.items
-        recovered.subtrans.items parts.start.value.faults) }
+    ensures counted { IfOk result (λ parts. AreCounted L.LogDisk P.PageDisk (log_disk recovered.log) (banks_in recovered)
+        parts.start.value.faults) }
     ensures refused { IfErr result (λ e. e.1 ≡ refusals.Memory) }
     ensures kept { IfErr result (λ e. (e.0.log ≡ log_disk recovered.log) × (e.0.xact.items ≡ recovered.xact.items)) }
 {
@@ -50,6 +50,8 @@ fn open_recovered<L: LogDisk + Drop, P: PageDisk + Drop>(
         log,
         xact,
         subtrans,
+        offsets,
+        members,
         from: _,
         base,
     } = recovered;
@@ -58,28 +60,34 @@ fn open_recovered<L: LogDisk + Drop, P: PageDisk + Drop>(
         banks: xact.len() as u32,
         sessions,
     };
-    match open_begun(alloc, log, xact, subtrans, cluster) {
+    let volumes = BankVolumes {
+        xact,
+        subtrans,
+        offsets,
+        members,
+    };
+    match open_begun(alloc, log, volumes, cluster) {
         Ok(parts) => Ok(parts),
         Err(volumes) => Err((volumes, RecoverRefusal::Memory)),
     }
 }
 
 /// Recovers a cluster and makes its parts (`StartupXLOG` of `xlog.c`, `StartupCLOG` of `clog.c`, `StartupSUBTRANS` of
-/// `subtrans.c`). There is one volume of pg_xact and one of pg_subtrans for each bank, 1 to 16, and there may be so many
-/// sessions, at most 64.
+/// `subtrans.c`). There is one volume of each store for each bank, 1 to 16, and there may be so many sessions, at most 64.
 ///
 /// The volumes fit a log, which contracts alone see. The parts stand for lists without entries, in a life that goes on
 /// from the base at a number of that log, from the flushed one to its end: so what was committed below that number is
 /// committed. Of volumes that don't tell what they hold, nothing is known to be committed.
 pub fn open_old<L: LogDisk + Drop, P: PageDisk + Drop>(
     alloc: Global,
-    volumes: ClusterVolumes<L, P>,
+    volumes: Volumes<L, P>,
     sessions: u32,
-) -> Result<Parts<L, P>, (ClusterVolumes<L, P>, RecoverRefusal)>
+) -> Result<Parts<L, P>, (Volumes<L, P>, RecoverRefusal)>
     ghost kept: { KeptLog }
     requires some { 1 ≤ length volumes.xact.items }
     requires few { length volumes.xact.items ≤ 16 }
-    requires as_many { length volumes.subtrans.items ≡ length volumes.xact.items }
+    requires as_many { (length volumes.subtrans.items ≡ length volumes.xact.items)
+        × (length volumes.offsets.items ≡ length volumes.xact.items) × (length volumes.members.items ≡ length volumes.xact.items) }
     requires sessions { sessions ≤ 64 }
     requires fits { IsTrue P.tells → IsTrue L.tells × Fit L.LogDisk P.PageDisk kept volumes.log volumes.xact.items }
     ensures cluster { IfOk result (λ parts. (parts.cluster.banks ≡ length volumes.xact.items) × (parts.cluster.sessions ≡ sessions)) }
@@ -87,8 +95,8 @@ pub fn open_old<L: LogDisk + Drop, P: PageDisk + Drop>(
     ensures start { IfOk result (λ parts. (number : ℕ)
         × (parts.start.value ≡ new_life parts.cluster (behind P.tells kept number) parts.locks.items)
         × (IsTrue P.tells → IsBaseAt kept number parts.cluster.base)) }
-    ensures counted { IfOk result (λ parts. AreCounted L.LogDisk P.PageDisk volumes.log volumes.xact.items
-        volumes.subtrans.items parts.start.value.faults) }
+    ensures counted { IfOk result (λ parts. AreCounted L.LogDisk P.PageDisk volumes.log (banks_of volumes)
+        parts.start.value.faults) }
     // That is a base from which a life may start, so the laws on its volumes hold of it (`recoverable`).
     ensures right { IsTrue P.tells → IfOk result (λ parts. BeganRight parts.start.value) }
     // After an error the volumes fit what a later recovery may go on from.

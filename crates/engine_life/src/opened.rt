@@ -4,50 +4,20 @@ ghost use Rattle.disk_core.specs.Media.{HasBanks, MayBeFirst};
 ghost use Rattle.disk_core.specs.declared.media.Volumes.{Volumes as Mounted};
 ghost use Rattle.tx_events.specs.Ids.{IsFullMulti};
 ghost use Rattle.engine_host.specs.Opening.{AreParts, IsCluster};
-ghost use Rattle.engine_life.specs.Lives.{IsBegun, IsNewLife, LeaveMultis};
+ghost use Rattle.engine_host.specs.Stores.{banks_of};
+ghost use Rattle.engine_life.specs.Lives.{IsBegun, IsNewLife};
 ghost use Rattle.engine_life.specs.declared.refusal.NoLife.TheVariants as no_lives;
 ghost use Rattle.engine_life.specs.Refusals.{IsNoLife, IsOfVolumes, IsUnopened};
 
 use crate::life::{Aside, OpenLife};
 use crate::refusal::{NoLife, refusal_of};
 use disk_core::{LogDisk, Media, MountRefusal, PageDisk, Volumes};
-use engine_host::{Cluster, Parts, TakenApart, make_table, open_new, take_apart};
-use recoverable::ClusterVolumes;
+use engine_host::{BankVolumes, Cluster, Parts, TakenApart, make_table, open_new, take_apart};
 use std::alloc::{AllocError, Global};
 use tx_events::Counters;
 
 // The most locks that an engine has: those of 16 banks.
 const MOST_LOCKS: usize = 67;
-
-// An engine's volumes, with those aside.
-pub(crate) fn together<L: LogDisk + Drop, P: PageDisk + Drop>(
-    volumes: ClusterVolumes<L, P>,
-    aside: Aside<P>,
-) -> Volumes<L, P>
-    ensures log { result.log ≡ volumes.log }
-    ensures xact { result.xact ≡ volumes.xact }
-    ensures subtrans { result.subtrans ≡ volumes.subtrans }
-    ensures offsets { result.offsets ≡ aside.offsets }
-    ensures members { result.members ≡ aside.members }
-{
-    let Aside {
-        offsets,
-        members,
-        ..
-    } = aside;
-    let ClusterVolumes {
-        log,
-        xact,
-        subtrans,
-    } = volumes;
-    Volumes {
-        log,
-        xact,
-        subtrans,
-        offsets,
-        members,
-    }
-}
 
 // The volumes of parts that are taken apart.
 fn volumes_of<L: LogDisk + Drop, P: PageDisk + Drop>(
@@ -55,28 +25,35 @@ fn volumes_of<L: LogDisk + Drop, P: PageDisk + Drop>(
     aside: Aside<P>,
 ) -> Volumes<L, P>
     requires { AreParts parts }
-    ensures offsets { result.offsets ≡ aside.offsets }
-    ensures members { result.members ≡ aside.members }
 {
     let Parts {
         cluster: _,
         locks,
         start: _,
     } = parts;
-    let Aside {
-        offsets,
-        members,
-        xact,
-        subtrans,
-    } = aside;
+    let Aside { room } = aside;
     let TakenApart {
         log,
         table: _,
+        multis: _,
+        volumes,
+    } = take_apart(locks, room);
+    with_log(Box::into_inner(log).into_disk(), volumes)
+}
+
+// The volumes of an engine, with its log's.
+pub(crate) fn with_log<L, P>(log: L, volumes: BankVolumes<P>) -> Volumes<L, P>
+    ensures log { result.log ≡ log }
+    ensures banks { banks_of result ≡ volumes }
+{
+    let BankVolumes {
         xact,
         subtrans,
-    } = take_apart(locks, xact, subtrans);
+        offsets,
+        members,
+    } = volumes;
     Volumes {
-        log: Box::into_inner(log).into_disk(),
+        log,
         xact,
         subtrans,
         offsets,
@@ -92,9 +69,7 @@ pub(crate) fn begin_life<L: LogDisk + Drop, P: PageDisk + Drop>(
 ) -> Result<OpenLife<L, P>, (Volumes<L, P>, NoLife)>
     requires parts { AreParts parts }
     ensures life { IfOk result (λ life. IsBegun parts.cluster parts.start.value life) }
-    ensures aside { IfOk result (λ life. (life.aside.offsets ≡ aside.offsets) × (life.aside.members ≡ aside.members)) }
     ensures refused { IfErr result (λ e. e.1 ≡ no_lives.Memory) }
-    ensures back { IfErr result (λ e. (e.0.offsets ≡ aside.offsets) × (e.0.members ≡ aside.members)) }
 {
     match make_table(alloc, parts) {
         Ok((hall, host)) => Ok(OpenLife { hall, host, aside }),
@@ -102,12 +77,27 @@ pub(crate) fn begin_life<L: LogDisk + Drop, P: PageDisk + Drop>(
     }
 }
 
-// Room for the volumes of the banks.
-pub(crate) fn new_room<P>(alloc: Global) -> Result<Vec<P>, AllocError>
+// Room for the volumes of the banks of a store.
+fn new_room<P>(alloc: Global) -> Result<Vec<P>, AllocError>
     ensures empty { IfOk result (λ room. room.items ≡ []) }
     ensures room { IfOk result (λ room. 67 ≤ vec_capacity room) }
 {
     Vec::with_capacity(alloc, MOST_LOCKS)
+}
+
+// Room for those of each store.
+pub(crate) fn new_aside<P: Drop>(alloc: Global) -> Result<Aside<P>, AllocError> {
+    let xact = new_room(alloc)?;
+    let subtrans = new_room(alloc)?;
+    let offsets = new_room(alloc)?;
+    let members = new_room(alloc)?;
+    let room = BankVolumes {
+        xact,
+        subtrans,
+        offsets,
+        members,
+    };
+    Ok(Aside { room })
 }
 
 // The next multixact of counters is one.
@@ -126,37 +116,15 @@ fn open_over<L: LogDisk + Drop, P: PageDisk + Drop>(
     requires cluster { IsCluster cluster }
     requires banks { HasBanks cluster.banks volumes }
     ensures life { IfOk result (λ life. IsNewLife cluster volumes life) }
-    ensures back { IfErr result (λ e. LeaveMultis volumes e.0) }
     ensures refused { IfErr result (λ e. IsNoLife L.LogDisk P.PageDisk cluster volumes e.0 e.1) }
 {
     is_full_multi(&cluster.base);
-    let Ok(xact_room) = new_room(alloc) else {
+    let Ok(aside) = new_aside(alloc) else {
         return Err((volumes, NoLife::Memory));
-    };
-    let Ok(subtrans_room) = new_room(alloc) else {
-        return Err((volumes, NoLife::Memory));
-    };
-    let Volumes {
-        log,
-        xact,
-        subtrans,
-        offsets,
-        members,
-    } = volumes;
-    let aside = Aside {
-        offsets,
-        members,
-        xact: xact_room,
-        subtrans: subtrans_room,
-    };
-    let volumes = ClusterVolumes {
-        log,
-        xact,
-        subtrans,
     };
     match open_new(alloc, volumes, cluster) {
         Ok(parts) => begin_life(alloc, parts, aside),
-        Err((volumes, refusal)) => Err((together(volumes, aside), refusal_of(refusal))),
+        Err((volumes, refusal)) => Err((volumes, refusal_of(refusal))),
     }
 }
 

@@ -3,7 +3,7 @@ use Rattle.std.proofs.Common.{◌≡◌, ℕ, Result, Ok, IsTrue, sym, subst, �
 use Rattle.disk_core.specs.Pages.{Pages, page_bytes}
 use Rattle.disk_core.specs.declared.page_disk.PageDisk as disks
 use Rattle.store_pages.specs.declared.page_rule.PageRule as rules
-use Rattle.slru_bank.specs.Calls.{pages_of, volume_of}
+use Rattle.slru_bank.specs.Calls.{IsDurable, pages_of, volume_of}
 use Rattle.slru_bank.specs.Crash.{CrashLeaves, SameMap, no_call, wider}
 use Rattle.slru_bank.specs.declared.bank.SlruBank.{SlruBank}
 use Rattle.slru_bank.specs.declared.refusal.BankRefusal.{BankRefusal}
@@ -32,3 +32,7 @@ module _ (A : ℕ → Type 0) (next : ℕ) {P O : Type 0} {g : disks.Ghosts P} {
 
     pub durable_on : RestoresBank A next b0 b1 (Ok (tt {0})) → IsTrue g.tells → g.images (volume_of b1) (g.pages (volume_of b1)) → HasBytesOnDisk g (volume_of b1)
     durable_on s told reads c image q = s.durable told c image q ∙ sym (same_read (s.durable told) reads q)
+
+-- a volume of which each image has what its bank's map has
+pub read_durable : {P O : Type 0} {g : disks.Ghosts P} {r : rules.Ghosts O} (b : SlruBank P O g r) → IsDurable b → g.images (volume_of b) (g.pages (volume_of b)) → HasBytesOnDisk g (volume_of b)
+read_durable {g = g} b durable reads c image q = durable c image q ∙ sym (durable (g.pages (volume_of b)) reads q)

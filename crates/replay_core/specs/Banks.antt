@@ -2,7 +2,6 @@
 use Rattle.std.specs.Prelude.{◌≡◌, ◌≢◌, ◌⊎◌, ℕ, ◌^◌, ◌<◌, ◌≤◌, IsTrue, List, length, Some, Result, OnOk, IfErr, slice_get}
 use Rattle.disk_core.specs.Faults.{HasRisen}
 use Rattle.disk_core.specs.declared.page_disk.PageDisk as disks
-use Rattle.disk_core.specs.Pages.{Pages, page_bytes, zero_page}
 use Rattle.tx_events.specs.declared.record.Counters.{Counters}
 use Rattle.tx_events.specs.declared.record.Rec.{Rec}
 use Rattle.tx_events.specs.declared.refusal.Lock.{Lock}
@@ -14,7 +13,7 @@ use Rattle.replay_core.specs.declared.restore.RestoreRefusal.{RestoreRefusal}
 use Rattle.replay_core.specs.declared.restore.RestoreRefusal.TheVariants as restores
 use Rattle.replay_core.specs.Redo.{IsNamed}
 use Rattle.replay_core.specs.Restore.{HasBytesOnDisk, MayRestore, RestoresAll, bytes_on}
-use Rattle.replay_core.specs.Begun.{AreEmpty}
+use Rattle.replay_core.specs.Begun.{AreEmpty, IsEmpty}
 use Rattle.recoverable.specs.Clusters.{HasFailedAt}
 use Rattle.replay_core.specs.declared.refusal.RecoverRefusal.{RecoverRefusal}
 use Rattle.replay_core.specs.declared.refusal.RecoverRefusal.TheVariants as refusals
@@ -49,7 +48,7 @@ module _ {P : Type 0} (p : disks.Ghosts P) where
 
   -- the volume of the bank behind this lock is emptied
   pub record Emptying (lock : Lock) (result : Result (Unit {0}) RecoverRefusal) (old new : P) : Type 0 where
-    pub empty : IsTrue p.tells → OnOk result ((c : Pages) → p.images new c → (q : ℕ) → q < 2 ^ 32 → page_bytes (c q) ≡ zero_page)
+    pub empty : IsTrue p.tells → OnOk result (IsEmpty p new)
     pub cause : IsCause lock result old new
     pub count : p.faults old ≤ p.faults new
 

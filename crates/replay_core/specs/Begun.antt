@@ -28,7 +28,10 @@ module _ {P : Type 0} (p : disks.Ghosts P) where
   abbrev pub AreOnDisk : List P → Type 0
   AreOnDisk volumes = (bank : ℕ) (disk : P) → slice_get volumes bank ≡ Some disk → HasBytesOnDisk p disk
 
-  -- and has zeros alone
+  -- This volume has zeros alone in each image, which are all the same.
+  pub record IsEmpty (disk : P) : Type 0 where
+    pub zeros : (c : Pages) → p.images disk c → (q : ℕ) → q < 2 ^ 32 → page_bytes (c q) ≡ zero_page
+    pub on_disk : HasBytesOnDisk p disk
+
   abbrev pub AreEmpty : List P → Type 0
-  AreEmpty volumes = (bank : ℕ) (disk : P) → slice_get volumes bank ≡ Some disk → (c : Pages) → p.images disk c
-      → (q : ℕ) → q < 2 ^ 32 → page_bytes (c q) ≡ zero_page
+  AreEmpty volumes = (bank : ℕ) (disk : P) → slice_get volumes bank ≡ Some disk → IsEmpty disk

@@ -96,7 +96,7 @@ fn empty<P: PageDisk + Drop>(
         Err((disk, _)) => return (disk, Err(RecoverRefusal::Memory)),
     };
     let fault = RecoverRefusal::DiskFault { lock };
-    if store.clear_all().is_err() {
+    if let Err(_) = store.clear_all() {
         return (store.into_disk(), Err(fault));
     }
     match store.flush_all() {

@@ -11,11 +11,12 @@ use Rattle.tx_model.specs.Rounds.{lines_in}
 use Rattle.tx_core.specs.declared.entry.Entry.{Entry}
 use Rattle.tx_core.specs.declared.entry.Start.{Start}
 use Rattle.tx_core.specs.FaultsRise.{faults_at, faults_told}
-use Rattle.tx_core.specs.Locks.{log_lock, subtrans_lock, xact_lock}
+use Rattle.tx_core.specs.Locks.{log_lock, members_lock, offsets_lock, subtrans_lock, xact_lock}
 use Rattle.engine_host.specs.declared.cluster.Cluster.{Cluster}
 use Rattle.engine_host.specs.Opening.{Beginning, life_from}
 use Rattle.engine_life.specs.declared.life.OpenLife.{OpenLife}
-use Rattle.engine_life.specs.Lives.{HaveCountedTold, LeaveMultis}
+use Rattle.engine_life.specs.Lives.{HaveCountedTold}
+use Rattle.engine_host.specs.Stores.{of_members, of_offsets, of_subtrans, of_xact}
 use Rattle.engine_life.proofs.Counts.{there}
 use Rattle.session_promise.specs.Causes.{HasRisenBy, faults_in}
 use Rattle.session_promise.specs.Closing.{IsOver}
@@ -33,7 +34,7 @@ by_more : (before m n now : ℕ) → min (before + m) (2 ^ 64 - 1) ≤ now → m
 by_more before m n now first second = grind arith
 
 module _ {L P : Type 0} {l : logs.Ghosts L} {p : disks.Ghosts P} (tells : Bool) (c : Cluster) (start : Start) (lists : List (List Entry)) (rounds : List ToldRound) (life : OpenLife L P l p) (old new : Volumes L P)
-    (over : IsOver tells start lists rounds) (b : Beginning) (faults : List ℕ) (begun : IsOpened c b faults old life) (starts : start ≡ life_from c b faults) (counted : HaveCountedTold l p start lists new) (multis : LeaveMultis old new) (steps : List Step) (lines : flat_map lines_in steps ≡ all_lines rounds) (checkpoints : (lock : ℕ) → HasRisenBy (checkpoint_faults steps lock) (faults_at start lock) (faults_told start lock (at lists lock))) (all_built : AreOfBuilt start.banks steps) where
+    (over : IsOver tells start lists rounds) (b : Beginning) (faults : List ℕ) (begun : IsOpened c b faults old life) (starts : start ≡ life_from c b faults) (counted : HaveCountedTold l p start lists new) (steps : List Step) (lines : flat_map lines_in steps ≡ all_lines rounds) (checkpoints : (lock : ℕ) → HasRisenBy (checkpoint_faults steps lock) (faults_at start lock) (faults_told start lock (at lists lock))) (all_built : AreOfBuilt start.banks steps) where
   abbrev times : ℕ → ℕ → ℕ
   times session lock = told_faults steps session lock
 
@@ -68,8 +69,9 @@ module _ {L P : Type 0} {l : logs.Ghosts L} {p : disks.Ghosts P} (tells : Bool) 
   pub causes_told : HaveCauses l p steps old new
   causes_told = record {
     log = λ session. wider (times session log_lock) (l.faults old.log) (faults_at start log_lock) (last log_lock) (l.faults new.log) (from_first log_lock (l.faults old.log) begun.counted.log) counted.log (told session log_lock);
-    xact = λ session bank low. risen session (xact_lock bank) bank old.xact.items new.xact.items low (begun.counted.xact bank) (counted.xact bank (inside bank old.xact.items begun.banks.xact low));
-    subtrans = λ session bank low. risen session (subtrans_lock bank) bank old.subtrans.items new.subtrans.items low (begun.counted.subtrans bank) (counted.subtrans bank (inside bank old.subtrans.items begun.banks.subtrans low));
-    multis = multis;
+    xact = λ session bank low. risen session (xact_lock bank) bank old.xact.items new.xact.items low (begun.counted.banks of_xact bank) (counted.xact bank (inside bank old.xact.items begun.banks.xact low));
+    subtrans = λ session bank low. risen session (subtrans_lock bank) bank old.subtrans.items new.subtrans.items low (begun.counted.banks of_subtrans bank) (counted.subtrans bank (inside bank old.subtrans.items begun.banks.subtrans low));
+    offsets = λ session bank low. risen session (offsets_lock bank) bank old.offsets.items new.offsets.items low (begun.counted.banks of_offsets bank) (counted.offsets bank (inside bank old.offsets.items begun.banks.offsets low));
+    members = λ session bank low. risen session (members_lock bank) bank old.members.items new.members.items low (begun.counted.banks of_members bank) (counted.members bank (inside bank old.members.items begun.banks.members low));
     built = subst (λ n. AreOfBuilt n steps) (ap (λ (s : Start). s.banks) starts ∙ sym begun.banks.xact) all_built;
   }

@@ -135,7 +135,7 @@ module _ {L P : Type 0} (l : logs.Ghosts L) (p : disks.Ghosts P) where
   pub since : (gave more gives : Volumes L P → Type 0) (before mid now : ℕ) → before ≤ mid → ((v : Volumes L P) → gave v → more v) → (e : NotReopened) → IsNotReopened l p mid now gave gives e → IsNotReopened l p before now more gives e
   since gave more gives before mid now later wider not_reopened.Device is = risen_from before mid now later is
   since gave more gives before mid now later wider not_reopened.Memory is = tt
-  since gave more gives before mid now later wider (not_reopened.Unrecovered refusal) is = (is.0, is.1, wider is.0 is.2, is.3, is.4, is.5)
+  since gave more gives before mid now later wider (not_reopened.Unrecovered refusal) is = (is.0, is.1, wider is.0 is.2, is.3, is.4)
 
   module _ (falls : Crash → Volumes L P → Volumes L P → Type 0) (how : How) (left : Volumes L P) (gave gives : Volumes L P → Type 0) (before mid now : ℕ)
       (later : before ≤ mid) (fallen : (v : Volumes L P) → gave v → HasFallen l p falls how left v) where
@@ -143,7 +143,7 @@ module _ {L P : Type 0} (l : logs.Ghosts L) (p : disks.Ghosts P) where
       undamaged : (e : NotReopened) → IsNotReopened l p mid now gave gives e → IsUndamaged l p (no_life_by e)
       undamaged not_reopened.Device is = λ at same lt pt. absurd (let q : no_lives.Device ≡ no_lives.Damaged at = same in cc)
       undamaged not_reopened.Memory is = λ at same lt pt. absurd (let q : no_lives.Memory ≡ no_lives.Damaged at = same in cc)
-      undamaged (not_reopened.Unrecovered (refusals.Damaged place)) is = λ at same lt pt. no_damage kept left is.0 place (fit pt lt) ((fallen is.0 is.2).crashed lt pt) (is.5 lt)
+      undamaged (not_reopened.Unrecovered (refusals.Damaged place)) is = λ at same lt pt. no_damage kept left is.0 place (fit pt lt) ((fallen is.0 is.2).crashed lt pt) (is.4 lt)
       undamaged (not_reopened.Unrecovered refusals.NoRecord) is = λ at same lt pt. absurd (let q : no_lives.OldLog ≡ no_lives.Damaged at = same in cc)
       undamaged (not_reopened.Unrecovered refusals.HasMultis) is = λ at same lt pt. absurd (let q : no_lives.OldLog ≡ no_lives.Damaged at = same in cc)
       undamaged (not_reopened.Unrecovered refusals.LogFault) is = λ at same lt pt. absurd (let q : no_lives.Device ≡ no_lives.Damaged at = same in cc)

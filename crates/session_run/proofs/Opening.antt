@@ -23,8 +23,6 @@ module _ {L P : Type 0} {l : logs.Ghosts L} {p : disks.Ghosts P} where
     banks = new.banks;
     counted = new.counted;
     begun = new.begun;
-    offsets = new.offsets;
-    members = new.members;
     right = λ told. new.right;
     unrecorded = refl;
   }
@@ -36,8 +34,6 @@ module _ {L P : Type 0} {l : logs.Ghosts L} {p : disks.Ghosts P} where
     banks = subst (λ n. HasBanks n volumes) (sym (goes.banks ∙ has.xact)) has;
     counted = goes.counted;
     begun = goes.begun;
-    offsets = goes.offsets;
-    members = goes.members;
     right = goes.right;
     unrecorded = none_if p.tells (base_at kept goes.number).recorded (λ told. none told goes.number);
   }

@@ -18,7 +18,7 @@ use Rattle.report_text.proofs.OneLife.{one_round}
 use Rattle.session_lang.specs.declared.script.Item.{Item}
 use Rattle.session_lang.specs.declared.script.Item.TheVariants as items
 use Rattle.session_lang.specs.Rounds.{asked_at, asked_in, asked_of, asked_round}
-use Rattle.run_law.specs.Turns.{IsFirstRound, is_command, turns_in}
+use Rattle.run_law.specs.Turns.{IsFirstRound, MayRun, is_command, turns_in}
 use Rattle.script_rounds.specs.declared.keeper.LineKeeper as keepers
 use Rattle.script_rounds.proofs.ListLemmas.{all_front}
 use Rattle.script_rounds.proofs.RoundLemmas.{first_asked, turns_short}
@@ -70,6 +70,15 @@ some_round (items.Round ∷ round) a l = absurd (false≢true a.0)
 some_round (items.Checkpoint ∷ round) a l = absurd (false≢true a.0)
 some_round (items.Crash how ∷ round) a l = absurd (false≢true a.0)
 some_round (items.Dump what at size ∷ round) a l = absurd (false≢true a.0)
+
+-- its first one is a session's
+pub some_session : (n : ℕ) (round : List Item) → AllByRecursion (λ item. is_command item ≡ true) round → AllByRecursion (MayRun n) round → 0 < length round → 1 ≤ n
+some_session n [] a may l = absurd (omega arith)
+some_session n (items.Run s c ∷ round) a may l = let low = may.0.1 in omega (arith, low)
+some_session n (items.Round ∷ round) a may l = absurd (false≢true a.0)
+some_session n (items.Checkpoint ∷ round) a may l = absurd (false≢true a.0)
+some_session n (items.Crash how ∷ round) a may l = absurd (false≢true a.0)
+some_session n (items.Dump what at size ∷ round) a may l = absurd (false≢true a.0)
 
 pub no_round : (round : List Item) → length round ≡ 0 → asked_round (turns_in round) ≡ []
 no_round [] e = refl

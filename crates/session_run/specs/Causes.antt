@@ -13,9 +13,8 @@ use Rattle.tx_core.specs.declared.entry.Entry.{Entry}
 use Rattle.tx_core.specs.declared.entry.Start.{Start}
 use Rattle.tx_core.specs.EngineInvariant.{EngineInvariant}
 use Rattle.tx_core.specs.FaultsRise.{faults_at, faults_told}
-use Rattle.tx_core.specs.Locks.{log_lock, subtrans_lock, xact_lock}
+use Rattle.tx_core.specs.Locks.{log_lock, members_lock, offsets_lock, subtrans_lock, xact_lock}
 use Rattle.engine_checkpoints.specs.Made.{IsBuilt}
-use Rattle.engine_life.specs.Lives.{LeaveMultis}
 use Rattle.session_promise.specs.Causes.{HasRisenBy, failed_volume, faults_in, is_behind}
 use Rattle.session_promise.specs.Told.{lines_by}
 
@@ -33,7 +32,7 @@ abbrev pub told_faults : List Step → ℕ → ℕ → ℕ
 told_faults told session lock =
     max (faults_in lock (lines_by session (flat_map lines_in told))) (checkpoint_faults told lock)
 
--- no checkpoint was told of a fault but of the log's volume, or of one of so many of pg_xact and pg_subtrans each
+-- no checkpoint was told of a fault but of the log's volume, or of one of so many of each store
 abbrev pub AreOfBuilt : ℕ → List Step → Type 0
 AreOfBuilt banks told = AllByRecursion (λ step. IfSome (failed_by step) (IsBuilt banks)) told
 
@@ -54,13 +53,15 @@ pub record HasRisenAt {P : Type 0} (faults : P → ℕ) (times place : ℕ) (old
 
 module _ {L P : Type 0} (l : logs.Ghosts L) (p : disks.Ghosts P) where
   -- Since the mounting each volume's count rose by no less than any one session's commands were told that this volume
-  -- failed, and by no less than the checkpoints were. Those of the multixacts' stores are as they were, and no checkpoint
-  -- was told that one of these failed.
+  -- failed, and by no less than the checkpoints were.
   pub record HaveCauses (told : List Step) (old new : Volumes L P) : Type 0 where
     pub log : (session : ℕ) → HasRisenBy (told_faults told session log_lock) (l.faults old.log) (l.faults new.log)
     pub xact : (session bank : ℕ) → bank < length old.xact.items
         → HasRisenAt p.faults (told_faults told session (xact_lock bank)) bank old.xact.items new.xact.items
     pub subtrans : (session bank : ℕ) → bank < length old.subtrans.items
         → HasRisenAt p.faults (told_faults told session (subtrans_lock bank)) bank old.subtrans.items new.subtrans.items
-    pub multis : LeaveMultis old new
+    pub offsets : (session bank : ℕ) → bank < length old.offsets.items
+        → HasRisenAt p.faults (told_faults told session (offsets_lock bank)) bank old.offsets.items new.offsets.items
+    pub members : (session bank : ℕ) → bank < length old.members.items
+        → HasRisenAt p.faults (told_faults told session (members_lock bank)) bank old.members.items new.members.items
     pub built : AreOfBuilt (length old.xact.items) told

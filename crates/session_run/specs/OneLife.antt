@@ -14,6 +14,7 @@ use Rattle.recoverable.specs.Whole.{BeganRight}
 use Rattle.engine_host.specs.declared.cluster.Cluster.{Cluster}
 use Rattle.engine_host.specs.Counted.{AreCounted}
 use Rattle.engine_host.specs.Opening.{Beginning, life_from}
+use Rattle.engine_host.specs.Stores.{banks_of}
 use Rattle.engine_life.specs.declared.closed.ClosedLife.{ClosedLife}
 use Rattle.engine_life.specs.declared.life.OpenLife.{OpenLife}
 use Rattle.engine_life.specs.Lives.{IsBegun, life_told, number_of, volumes_left}
@@ -23,15 +24,12 @@ use Rattle.session_run.specs.Parts.{HasLived, with_steps}
 use Rattle.session_run.specs.Records.{BankHolds, LogHolds}
 
 module _ {L P : Type 0} {l : logs.Ghosts L} {p : disks.Ghosts P} where
-  -- The life began so over these volumes, at counts of faults that aren't below theirs, and has set those of the
-  -- multixacts' stores aside. It knows of no multixact from before it. Where the volumes tell what they hold, its base is
-  -- one from which a life may start.
+  -- The life began so over these volumes, at counts of faults that aren't below theirs. It knows of no multixact from
+  -- before it. Where the volumes tell what they hold, its base is one from which a life may start.
   pub record IsOpened (c : Cluster) (b : Beginning) (faults : List ℕ) (volumes : Volumes L P) (life : OpenLife L P l p) : Type 0 where
     pub banks : HasBanks c.banks volumes
-    pub counted : AreCounted l p volumes.log volumes.xact.items volumes.subtrans.items faults
+    pub counted : AreCounted l p volumes.log (banks_of volumes) faults
     pub begun : IsBegun c (life_from c b faults) life
-    pub offsets : life.aside.offsets ≡ volumes.offsets
-    pub members : life.aside.members ≡ volumes.members
     pub right : IsTrue p.tells → BeganRight (life_from c b faults)
     pub unrecorded : b.recorded ≡ []
 

@@ -5,7 +5,8 @@ use Rattle.proc_table.specs.Table.{Table}
 use Rattle.tx_core.specs.Locks.{log_lock}
 use Rattle.engine_parts.specs.declared.part.Part.TheVariants as parts
 use Rattle.engine_parts.specs.Parts.{IsLogOf}
-use Rattle.engine_life.proofs.Counts.{multi_banks_only_synced, multis_untold, subtrans_many, subtrans_told, xact_behind, xact_many, xact_told}
+use Rattle.engine_host.specs.Stores.{Store, of_members, of_offsets, of_subtrans, of_xact, volumes_in}
+use Rattle.engine_life.proofs.Counts.{as_many, each_behind, each_told}
 use Rattle.engine_life.proofs.Fitting.{end_fit}
 use Rattle.engine_life.proofs.Followed.{follows_here}
 use Rattle.engine_life.specs.Lives.{FollowsList}
@@ -39,10 +40,13 @@ returns-clause-counted g c =
     let closed = c.close-parts.ensures in
     let banks = c.args.life.host.cluster.banks in
     let log = subst (λ l. IsLogOf start l (list_at seen log_lock)) (sym c.into_inner-log.ensures) (closed.stand 0 (parts.Log taken.result.log) taken.ensures.log).1 in
+    let told = λ (k : Store). each_told start seen locks closed.stand k banks (volumes_in k taken.result.volumes).items c.requires.host.banks closed.count (taken.ensures.volumes k) in
     record {
       log = log.count;
-      xact = xact_told start seen locks closed.stand banks taken.result.xact.items c.requires.host.banks closed.count taken.ensures.xact;
-      subtrans = subtrans_told start seen locks closed.stand banks taken.result.subtrans.items c.requires.host.banks closed.count taken.ensures.subtrans;
+      xact = told of_xact;
+      subtrans = told of_subtrans;
+      offsets = told of_offsets;
+      members = told of_members;
     }
 
 pub returns-clause-banks : goal.returns-clause-banks
@@ -53,15 +57,13 @@ returns-clause-banks g c =
     let locks = c.close-parts.result.locks.items in
     let closed = c.close-parts.ensures in
     let banks = c.args.life.host.cluster.banks in
+    let many = λ (k : Store). as_many start seen locks closed.stand k banks (volumes_in k taken.result.volumes).items c.requires.host.banks closed.count (taken.ensures.volumes k) in
     record {
-      xact = xact_many start seen locks closed.stand banks taken.result.xact.items c.requires.host.banks closed.count taken.ensures.xact;
-      subtrans = subtrans_many start seen locks closed.stand banks taken.result.subtrans.items c.requires.host.banks closed.count taken.ensures.subtrans;
+      xact = many of_xact;
+      subtrans = many of_subtrans;
+      offsets = many of_offsets;
+      members = many of_members;
     }
-
-pub returns-clause-multis : goal.returns-clause-multis
-returns-clause-multis g c =
-    let closed = c.close-parts.ensures in
-    multis_untold (start_of c.args.life.hall) (view c.args.life.host.pass).seen c.close-parts.result.locks.items closed.stand c.args.life.host.cluster.banks closed.count
 
 pub returns-clause-states : goal.returns-clause-states
 returns-clause-states g c told few =
@@ -70,11 +72,11 @@ returns-clause-states g c told few =
     let start = start_of c.args.life.hall in
     let seen = (view c.args.life.host.pass).seen in
     let closed = c.close-parts.ensures in
-    xact_behind start seen c.close-parts.result.locks.items closed.stand (FollowsList p start seen) (follows_here p start seen told (λ d x now. g.met.P.PageDisk.only_now d x told now) closed.kept few)
-    c.args.life.host.cluster.banks taken.result.xact.items c.requires.host.banks closed.count taken.ensures.xact
+    each_behind start seen c.close-parts.result.locks.items closed.stand of_xact (FollowsList p start seen) (follows_here p start seen told (λ d x now. g.met.P.PageDisk.only_now d x told now) closed.kept few)
+    c.args.life.host.cluster.banks taken.result.volumes.xact.items c.requires.host.banks closed.count (taken.ensures.volumes of_xact)
 
 pub returns-clause-fit : goal.returns-clause-fit
-returns-clause-fit g c tells told right none few =
+returns-clause-fit g c tells told right none quiet few =
     let d = g.L.LogDisk in
     let p = g.P.PageDisk in
     let taken = c.take_apart-log in
@@ -86,7 +88,7 @@ returns-clause-fit g c tells told right none few =
     let log = c.into_inner-log.result in
     let stands = subst (λ z. IsLogOf start z (list_at seen log_lock)) (sym c.into_inner-log.ensures) (closed.stand 0 (parts.Log taken.result.log) taken.ensures.log).1 in
     let held = log_held start seen d.tells (d.faults (log_disk log)) (d.images (log_disk log)) (log_recs log) (log_next log) (log_first log) (log_flushed log) (log_counters log) (log_down log) (log_checkpoint log) closed.kept stands tells right.told in
-    let states = xact_behind start seen locks closed.stand (FollowsList p start seen) (follows_here p start seen told (λ v x now. g.met.P.PageDisk.only_now v x told now) closed.kept few) banks taken.result.xact.items c.requires.host.banks closed.count taken.ensures.xact in
-    let count = xact_many start seen locks closed.stand banks taken.result.xact.items c.requires.host.banks closed.count taken.ensures.xact in
-    end_fit d p start seen _ held.0 (log_recs log) (log_next log) (log_first log) closed.kept right none few (multis_untold start seen locks closed.stand banks closed.count)
-    held.1 held.2 count states (multi_banks_only_synced start seen locks closed.stand banks c.requires.host.banks closed.count)
+    let states = each_behind start seen locks closed.stand of_xact (FollowsList p start seen) (follows_here p start seen told (λ v x now. g.met.P.PageDisk.only_now v x told now) closed.kept few) banks taken.result.volumes.xact.items c.requires.host.banks closed.count (taken.ensures.volumes of_xact) in
+    let count = as_many start seen locks closed.stand of_xact banks taken.result.volumes.xact.items c.requires.host.banks closed.count (taken.ensures.volumes of_xact) in
+    end_fit d p start seen _ held.0 (log_recs log) (log_next log) (log_first log) closed.kept right none few quiet
+    held.1 held.2 count states

@@ -25,4 +25,4 @@ returns-in-Err-clause-again g c told =
 
 pub returns-in-Err-clause-refused : goal.returns-in-Err-clause-refused
 returns-in-Err-clause-refused g c =
-    (c.in-Ok.volumes, c.in-Err.volumes, c.in-Ok.ensures.again c.requires.1.1.1.1.1.1.1.1.1.0, c.rest.ensures.same, c.in-Err.ensures.back, c.in-Err.ensures.refused)
+    (c.in-Ok.volumes, c.in-Err.volumes, c.in-Ok.ensures.again c.requires.1.1.1.1.1.1.1.1.1.0, c.rest.ensures.same, c.in-Err.ensures.refused)

@@ -1,14 +1,16 @@
-use Rattle.std.proofs.Common.{map, rules, subst, sym}
+use Rattle.std.proofs.Common.{length, map, rules, subst, sym, ◌≡◌}
+use Rattle.std.proofs.lemmas.Result.{IfOk-weaker}
 use Rattle.recoverable.specs.Whole.{BeganRight}
 use Rattle.replay_core.specs.Refused.{IsRefusal}
 use Rattle.replay_core.specs.declared.refusal.RecoverRefusal.{RecoverRefusal}
 use Rattle.tx_core.specs.declared.entry.Start.{Start}
 use Rattle.engine_host.specs.Counted.{AreCounted}
 use Rattle.engine_host.specs.Opening.{faults_behind}
+use Rattle.engine_host.specs.Stores.{banks_of}
 use Rattle.engine_life.specs.Lives.{IsBegun}
-use Rattle.engine_life.specs.NextLives.{WhenRefused, cluster_volumes}
-use Rattle.engine_life.proofs.GoingOn.{fit_together, refused_together, when_fits}
-use Rattle.engine_life.proofs.Living.{of_err, of_oks}
+use Rattle.engine_life.specs.NextLives.{WhenRefused}
+use Rattle.engine_life.proofs.GoingOn.{when_fits}
+use Rattle.engine_life.proofs.Living.{of_err}
 use Rattle.engine_life.proofs.next_life.reopen_over.Goals as goal
 
 -- With a ghost value the clauses of `requires` have no names: they stand in their order behind what is asked of lifetimes.
@@ -18,7 +20,8 @@ open_old-requires g c =
     let h = c.requires.1.1.0 in
     let some = h.some in
     let few = h.few in
-    let as_many = h.subtrans in
+    let v = c.args.volumes in
+    let as_many : (length v.subtrans.items ≡ length v.xact.items) × (length v.offsets.items ≡ length v.xact.items) × (length v.members.items ≡ length v.xact.items) = (h.subtrans, h.offsets, h.members) in
     let sessions = c.requires.1.1.1.0 in
     let fits = c.requires.1.1.1.1 in
     search (rules, some, few, as_many, sessions, fits)
@@ -28,23 +31,17 @@ returns-in-Ok-open_old-clause-life g c =
     let parts = c.in-Ok-open_old.parts in
     let k = c.in-Ok-open_old.ensures in
     let v = c.args.volumes in
-    of_oks c.begin_next.result _ _ _ (λ life begun aside. record {
+    IfOk-weaker c.begin_next.result _ _ (λ life begun. record {
       number = k.start.0;
       cluster = parts.cluster;
       banks = k.cluster.0;
       sessions_are = k.cluster.1;
       base = k.start.2;
       faults = map faults_behind parts.locks.items;
-      counted = subst (λ (s : Start). AreCounted g.L.LogDisk g.P.PageDisk v.log v.xact.items v.subtrans.items s.faults) k.start.1 k.counted;
+      counted = subst (λ (s : Start). AreCounted g.L.LogDisk g.P.PageDisk v.log (banks_of v) s.faults) k.start.1 k.counted;
       begun = subst (λ (s : Start). IsBegun parts.cluster s life) k.start.1 begun;
       right = λ told. subst BeganRight k.start.1 (k.right told);
-      offsets = aside.0;
-      members = aside.1;
-    }) c.begin_next.ensures.life c.begin_next.ensures.aside
-
-pub returns-in-Ok-open_old-clause-back : goal.returns-in-Ok-open_old-clause-back
-returns-in-Ok-open_old-clause-back g c =
-    of_err c.begin_next.result _ _ (λ e back. record { offsets = back.0; members = back.1 }) c.begin_next.ensures.back
+    }) c.begin_next.ensures.life
 
 pub returns-in-Ok-open_old-clause-again : goal.returns-in-Ok-open_old-clause-again
 returns-in-Ok-open_old-clause-again g c told =
@@ -52,17 +49,10 @@ returns-in-Ok-open_old-clause-again g c told =
 
 pub returns-in-Ok-open_old-clause-refused : goal.returns-in-Ok-open_old-clause-refused
 returns-in-Ok-open_old-clause-refused g c =
-    of_err c.begin_next.result _ _ (λ e memory. subst (λ (r : RecoverRefusal). IsRefusal g.L.LogDisk g.P.PageDisk (cluster_volumes c.args.volumes) (cluster_volumes e.0) r) (sym memory) tt) c.begin_next.ensures.refused
+    of_err c.begin_next.result _ _ (λ e memory. subst (λ (r : RecoverRefusal). IsRefusal g.L.LogDisk g.P.PageDisk c.args.volumes e.0 r) (sym memory) tt) c.begin_next.ensures.refused
 
--- no parts were made: the volumes that came back, put together with those aside
+-- no parts were made
 
 pub returns-in-Err-clause-again : goal.returns-in-Err-clause-again
 returns-in-Err-clause-again g c told =
-    let t = c.together.ensures in
-    when_fits g.L.LogDisk g.P.PageDisk g.kept c.args.volumes c.together.result c.in-Err.refusal
-    (fit_together g.L.LogDisk g.P.PageDisk g.kept c.args.volumes.xact.items c.in-Err.volumes c.together.result t.log t.xact t.subtrans (c.in-Err.ensures.again told))
-
-pub returns-in-Err-clause-refused : goal.returns-in-Err-clause-refused
-returns-in-Err-clause-refused g c =
-    let t = c.together.ensures in
-    refused_together g.L.LogDisk g.P.PageDisk (cluster_volumes c.args.volumes) c.in-Err.volumes c.together.result c.in-Err.refusal t.log t.xact t.subtrans c.in-Err.ensures.refused
+    when_fits g.L.LogDisk g.P.PageDisk g.kept c.args.volumes c.in-Err.refused.0 c.in-Err.refused.1 (c.in-Err.ensures.again told)

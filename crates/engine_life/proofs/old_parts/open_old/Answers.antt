@@ -1,15 +1,17 @@
-use Rattle.std.proofs.Common.{Bool, IsTrue, arith, false, length, map, refl, rules, subst, sym, ◌∙◌, ◌≤◌}
+use Rattle.std.proofs.Common.{Bool, IsTrue, arith, false, length, map, refl, rules, subst, sym, true, ◌∙◌, ◌≡◌, ◌≤◌}
 use Rattle.std.proofs.lemmas.Result.{IfOk-weaker}
 use Rattle.recoverable.specs.Whole.{BeganRight}
 use Rattle.wal_core.specs.LogViews.{log_disk}
+use Rattle.replay_core.specs.Banks.{NoCountFell}
 use Rattle.replay_core.specs.Refused.{IsRefusal}
 use Rattle.replay_core.specs.Volumes.{LeavesFit}
 use Rattle.replay_core.specs.declared.refusal.RecoverRefusal.{RecoverRefusal}
 use Rattle.engine_host.specs.declared.cluster.Cluster.{Cluster}
-use Rattle.engine_host.specs.Opening.{AllShowStates, faults_behind, new_life}
-use Rattle.engine_life.specs.Reopening.{IsBaseAt, KeepsStart, behind, cluster_over}
+use Rattle.engine_host.specs.Opening.{AllOnDisk, MayBeginOver, faults_behind, new_life}
+use Rattle.engine_host.specs.Stores.{banks_of, volumes_in}
+use Rattle.engine_life.specs.Reopening.{IsBaseAt, KeepsStart, banks_in, behind, cluster_over}
 use Rattle.engine_life.proofs.Living.{of_err, of_oks}
-use Rattle.engine_life.proofs.Reopened.{base_at_number, before_any, began_right, counted_before, empty_shown, given_before, may_recover, start_kept, states_shown}
+use Rattle.engine_life.proofs.Reopened.{base_at_number, before_any, began_right, counted_before, each_store, empty_durable, empty_shown, given_before, may_recover, no_multis, start_kept, states_shown}
 use Rattle.engine_life.proofs.old_parts.open_old.Goals as goal
 
 -- With a ghost value the clauses of `requires` have no names: they stand in their order behind what is asked of lifetimes.
@@ -19,30 +21,37 @@ open_recovered-requires g c κs inside =
     let l = g.L.LogDisk in let p = g.P.PageDisk in let old = c.args.volumes in let r = c.in-Ok.recovered in let e = c.in-Ok.ensures in
     let some = c.requires.1.1.0 in
     let few = c.requires.1.1.1.0 in
-    let as_many = c.requires.1.1.1.1.0 in
+    let many = c.requires.1.1.1.1.0 in
     let sessions = c.requires.1.1.1.1.1.0 in
     let here : 1 ≤ length r.xact.items = (let same = e.banks.0 in omega (arith, some, same)) in
     let within : length r.xact.items ≤ 16 = (let same = e.banks.0 in omega (arith, few, same)) in
-    let same = e.banks.1 ∙ (as_many ∙ sym e.banks.0) in
+    let same : (length r.subtrans.items ≡ length r.xact.items) × (length r.offsets.items ≡ length r.xact.items) × (length r.members.items ≡ length r.xact.items) = (e.banks.1 ∙ (many.0 ∙ sym e.banks.0), e.banks.2 ∙ (many.1 ∙ sym e.banks.0), e.banks.3 ∙ (many.2 ∙ sym e.banks.0)) in
     let log = e.log in
     let before = before_any p.tells g.kept r.from c.args.sessions (length r.xact.items) r.base (λ told.
     let fit = c.requires.1.1.1.1.1.1 told in
     given_before l p old.log (log_disk r.log) old.xact.items r.xact.items r.from c.args.sessions r.base g.kept e.banks.0 some c.is_full_multi.ensures
     (g.met.L.LogDisk.reads_image (log_disk r.log) fit.0) (λ d. g.met.P.PageDisk.reads_image d told) (e.recovers fit.0 told g.kept fit.1).0) in
-    let states = λ (told : IsTrue p.tells).
+    let shown = λ (told : IsTrue p.tells).
     let fit = c.requires.1.1.1.1.1.1 told in
-    subst (λ (t : Bool). AllShowStates p (cluster_over r.base (length r.xact.items) c.args.sessions) (behind t g.kept r.from) false 0 r.xact.items) (sym told)
-    (states_shown l p old.log (log_disk r.log) old.xact.items r.xact.items r.from c.args.sessions r.base g.kept e.banks.0 some c.is_full_multi.ensures
-    (g.met.L.LogDisk.reads_image (log_disk r.log) fit.0) (λ d. g.met.P.PageDisk.reads_image d told) (e.recovers fit.0 told g.kept fit.1).0) in
-    let parents = λ (told : IsTrue p.tells). empty_shown p r.subtrans.items (λ d. g.met.P.PageDisk.reads_image d told) (e.parents told) in
-    let durable = e.states in
+    let recovers = (e.recovers fit.0 told g.kept fit.1).0 in
+    let is_shown : MayBeginOver p (cluster_over r.base (length r.xact.items) c.args.sessions) (behind true g.kept r.from) false 0 (banks_in r) = record {
+      states = states_shown l p old.log (log_disk r.log) old.xact.items r.xact.items r.from c.args.sessions r.base g.kept e.banks.0 some c.is_full_multi.ensures (g.met.L.LogDisk.reads_image (log_disk r.log) fit.0) (λ d. g.met.P.PageDisk.reads_image d told) recovers;
+      parents = empty_shown p r.subtrans.items (λ d. g.met.P.PageDisk.reads_image d told) (e.parents told);
+      offsets = empty_shown p r.offsets.items (λ d. g.met.P.PageDisk.reads_image d told) (e.multis told).0;
+      members = empty_shown p r.members.items (λ d. g.met.P.PageDisk.reads_image d told) (e.multis told).1;
+      none = no_multis l p old.log (log_disk r.log) old.xact.items r.xact.items r.from c.args.sessions r.base g.kept e.banks.0 some c.is_full_multi.ensures (g.met.L.LogDisk.reads_image (log_disk r.log) fit.0) (λ d. g.met.P.PageDisk.reads_image d told) recovers;
+      durable = λ q.
+          each_store (λ k. AllOnDisk p (volumes_in k (banks_in r)).items) (e.states told) (empty_durable p r.subtrans.items (e.parents told))
+          (empty_durable p r.offsets.items (e.multis told).0) (empty_durable p r.members.items (e.multis told).1);
+    } in
+    subst (λ (t : Bool). MayBeginOver p (cluster_over r.base (length r.xact.items) c.args.sessions) (behind t g.kept r.from) false 0 (banks_in r)) (sym told) is_shown in
     let past = λ (log_tells : IsTrue l.tells) (told : IsTrue p.tells).
     let fit = c.requires.1.1.1.1.1.1 told in
     let recovers = e.recovers fit.0 told g.kept fit.1 in
     subst (λ (t : Bool). KeepsStart (cluster_over r.base (length r.xact.items) c.args.sessions) (behind t g.kept r.from) r.log) (sym told)
     (start_kept l p old.log (log_disk r.log) old.xact.items r.xact.items r.from c.args.sessions r.base g.kept e.banks.0 some c.is_full_multi.ensures
     (g.met.L.LogDisk.reads_image (log_disk r.log) fit.0) (λ d. g.met.P.PageDisk.reads_image d told) recovers.0 r.log recovers.1) in
-    (search (rules, inside), (search (rules, inside), (here, (within, (same, (sessions, (log, (refl, (before, (states, (parents, (durable, past))))))))))))
+    (search (rules, inside), (search (rules, inside), (here, (within, (same, (sessions, (log, (refl, (before, (shown, past))))))))))
 
 pub returns-in-Ok-clause-start : goal.returns-in-Ok-clause-start
 returns-in-Ok-clause-start g c =
@@ -89,5 +98,7 @@ pub returns-in-Ok-clause-counted : goal.returns-in-Ok-clause-counted
 returns-in-Ok-clause-counted g c =
     let old = c.args.volumes in let r = c.in-Ok.recovered in let e = c.in-Ok.ensures in
     IfOk-weaker c.open_recovered.result _ _ (λ parts now.
-    counted_before g.L.LogDisk g.P.PageDisk old.log (log_disk r.log) old.xact.items r.xact.items old.subtrans.items r.subtrans.items parts.start.value.faults e.banks.0 e.banks.1 e.counted.0 e.counted.1 e.counted.2 now)
+    counted_before g.L.LogDisk g.P.PageDisk old.log (log_disk r.log) (banks_of old) (banks_in r) parts.start.value.faults
+    (each_store (λ k. length (volumes_in k (banks_in r)).items ≡ length (volumes_in k (banks_of old)).items) e.banks.0 e.banks.1 e.banks.2 e.banks.3) e.counted.0
+    (each_store (λ k. NoCountFell g.P.PageDisk (volumes_in k (banks_of old)).items (volumes_in k (banks_in r)).items) e.counted.1 e.counted.2 e.counted.3 e.counted.4) now)
     c.open_recovered.ensures.counted

@@ -1,4 +1,4 @@
-use Rattle.std.proofs.Common.{ap, length, subst, sym, ◌∙◌, ◌<◌}
+use Rattle.std.proofs.Common.{ap, subst, sym, ◌∙◌, ◌<◌}
 use Rattle.std.proofs.lemmas.Result.{on_ok_weaker}
 use Rattle.std.specs.List.{All}
 use Rattle.hall.specs.Calls.{start_of, view}
@@ -35,7 +35,7 @@ returns g c =
           (λ ran.
           let over = c.life_ends.ensures host ran.0 ran.1.rounds ran.1.goes_on closed.kept in
           let few = ids_few g.P.PageDisk.tells (start_of life.hall) (view host.pass).seen _ c.args.part ran.1.steps ran.1.rounds c.requires.taken ran.1.told ran.1.rounds_are over in
-          let lived = life_lived g.K.LineKeeper life.hall host ran.0 c.args.names.now _ c.args.part k b faults c.args.kept.now c.run_rounds-ran.new.kept left c.requires.taken opened.begun.start_is ran.1 over closed.events closed.log closed.multis (subst (λ n. n < 18446744073709551616) c.next.ensures c.has_64_bits.ensures) (subst (λ n. n < 18446744073709551616) c.end.ensures c.has_64_bits-2.ensures) in
+          let lived = life_lived g.K.LineKeeper life.hall host ran.0 c.args.names.now _ c.args.part k b faults c.args.kept.now c.run_rounds-ran.new.kept left c.requires.taken opened.begun.start_is ran.1 over closed.events closed.log ran.1.quiet (subst (λ n. n < 18446744073709551616) c.next.ensures c.has_64_bits.ensures) (subst (λ n. n < 18446744073709551616) c.end.ensures c.has_64_bits-2.ensures) in
           record {
             steps = ran.1.steps;
             lived = lived.0;
@@ -47,15 +47,15 @@ returns g c =
               same = record {
                 xact = closed.banks.xact ∙ (ap (λ (t : Start). t.banks) opened.begun.start_is ∙ sym opened.banks.xact);
                 subtrans = closed.banks.subtrans ∙ (ap (λ (t : Start). t.banks) opened.begun.start_is ∙ sym opened.banks.subtrans);
-                offsets = ap (λ vs. length vs.items) (closed.offsets ∙ opened.offsets);
-                members = ap (λ vs. length vs.items) (closed.members ∙ opened.members);
+                offsets = closed.banks.offsets ∙ (ap (λ (t : Start). t.banks) opened.begun.start_is ∙ sym opened.banks.offsets);
+                members = closed.banks.members ∙ (ap (λ (t : Start). t.banks) opened.begun.start_is ∙ sym opened.banks.members);
               };
               fit = λ told tells.
                   let right = subst BeganRight (sym opened.begun.start_is) (opened.right told) in
                   let none = ap (λ (t : Start). t.recorded) opened.begun.start_is ∙ opened.unrecorded in
-                  life_fits g.L.LogDisk g.P.PageDisk (start_of life.hall) (view host.pass).seen k b faults left (volumes_left left) opened.begun.start_is closed.log (closed.fit tells told right none few);
+                  life_fits g.L.LogDisk g.P.PageDisk (start_of life.hall) (view host.pass).seen k b faults left (volumes_left left) opened.begun.start_is closed.log (closed.fit tells told right none ran.1.quiet few);
               causes = causes_told g.P.PageDisk.tells k (start_of life.hall) (view host.pass).seen ran.1.rounds life mounted (volumes_left left) over b faults opened opened.begun.start_is closed.counted
-                  (record { offsets = closed.offsets ∙ opened.offsets; members = closed.members ∙ opened.members }) ran.1.steps (lines_run ran.1.steps ran.1.rounds ran.1.rounds_are) (ran.1.faults (view host.pass).seen (grows_same (view host.pass).seen) closed.kept) ran.1.built;
+                  ran.1.steps (lines_run ran.1.steps ran.1.rounds ran.1.rounds_are) (ran.1.faults (view host.pass).seen (grows_same (view host.pass).seen) closed.kept) ran.1.built;
             };
           })
           c.run_rounds-ran.ensures.ran;

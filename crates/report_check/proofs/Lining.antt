@@ -1,6 +1,6 @@
 -- A life's lines by their commands, and what their replies tell.
-use Rattle.std.proofs.Common.{◌≡◌, ℕ, zero, suc, ◌+◌, ◌<◌, ◌≤◌, Bool, true, false, cond, ◌||◌, ◌&&◌, ◌==◌, not, Option, Some, None, List, [], ◌∷◌, ◌++◌, length, get_or, map, take, refl, sym, ap, subst, ◌∙◌, ⊎_elim, arith, Result, Ok, Err, IfOk}
-use Rattle.std.specs.List.{All, AllByRecursion, flat_map, list_any, slice_get}
+use Rattle.std.proofs.Common.{◌≡◌, ℕ, zero, suc, ◌<◌, ◌≤◌, Bool, true, false, ◌||◌, ◌&&◌, Option, Some, None, List, [], ◌∷◌, length, get_or, map, take, refl, sym, ap, subst, ◌∙◌, ⊎_elim, arith, Result, Ok, Err, IfOk}
+use Rattle.std.specs.List.{All, AllByRecursion, list_any, slice_get}
 use Rattle.std.proofs.lemmas.Bool.{cases_Bool, cases_lt}
 use Rattle.std.proofs.lemmas.List.{length-map}
 use Rattle.std.proofs.lemmas.List.Elements.{All-from_recursion}
@@ -12,8 +12,6 @@ use Rattle.tx_events.specs.Events.{by_of, same_by}
 use Rattle.tx_events.specs.Multis.{multi_by}
 use Rattle.tx_model.specs.declared.report.LifeReport.{LifeReport}
 use Rattle.tx_model.specs.declared.report.Line.{Line}
-use Rattle.tx_model.specs.declared.report.Step.{Step}
-use Rattle.tx_model.specs.Rounds.{lines_in}
 use Rattle.life_check.specs.Numbered.{IsFew}
 use Rattle.life_check.specs.Numbered as numbered
 use Rattle.legal_fronts.specs.Fronts.{AreTold, list_at}

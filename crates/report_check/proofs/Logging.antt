@@ -1,8 +1,6 @@
 -- What a life's log holds.
-use Rattle.std.proofs.Common.{◌≡◌, ℕ, zero, suc, ◌+◌, ◌-◌, ◌<◌, ◌≤◌, ◌↔◌, Bool, true, false, ◌||◌, ◌==◌, List, [], ◌∷◌, ◌++◌, Contains, length, min, take, drop, refl, sym, ap, subst, ◌∙◌, inl, inr, ⊎_elim, arith, eqb-true, IsTrue}
-use Rattle.std.specs.BTreeSet.{BTreeSet, contains}
-use Rattle.std.specs.List.{count_by, flat_map, list_any}
-use Rattle.std.specs.Ordering.{nat_cmp}
+use Rattle.std.proofs.Common.{◌≡◌, ℕ, zero, suc, ◌-◌, ◌↔◌, Bool, true, false, ◌||◌, ◌==◌, List, [], ◌∷◌, length, min, take, drop, refl, sym, ap, ◌∙◌, inl, inr, ⊎_elim, arith, eqb-true}
+use Rattle.std.specs.List.{flat_map, list_any}
 use Rattle.std.proofs.Math.Seq.{take-length}
 use Rattle.std.proofs.lemmas.List.{length-drop}
 use Rattle.std.proofs.lemmas.List.Folds.{list_any-append}
@@ -10,7 +8,6 @@ use Rattle.tx_events.proofs.ListSteps.{eqb-refl}
 use Rattle.tx_events.proofs.Membership.{Has, contains_has, has_contains}
 use Rattle.tx_events.specs.declared.record.Rec.{Rec}
 use Rattle.tx_events.specs.declared.record.Rec.TheVariants as records
-use Rattle.tx_model.specs.declared.report.Life.{Life}
 use Rattle.life_law.specs.DidCommit.{IsRecorded}
 use Rattle.report_law.specs.Begun.{committed_by}
 

@@ -1,11 +1,11 @@
 -- Events that come in the order of their sessions' commands.
-use Rattle.std.proofs.Common.{◌≡◌, ℕ, zero, suc, ◌+◌, ◌<◌, ◌≤◌, Bool, true, false, cond, ◌==◌, Some, List, [], ◌∷◌, length, get_or, refl, sym, ap, subst, ◌∙◌, arith, eqb-true, eq-eqb}
+use Rattle.std.proofs.Common.{◌≡◌, ℕ, zero, suc, ◌+◌, ◌<◌, ◌≤◌, Bool, true, false, cond, ◌==◌, Some, List, [], ◌∷◌, length, get_or, sym, ap, subst, ◌∙◌, arith, eq-eqb}
 use Rattle.std.specs.Global.{Vec}
 use Rattle.std.specs.List.{All, slice_get}
 use Rattle.tx_events.proofs.ListSteps.{eqb-refl}
 use Rattle.tx_events.specs.declared.event.By.{By}
 use Rattle.own_places.specs.declared.own.Own.{Own}
-use Rattle.own_places.specs.Owned.{AreAllOwn, AreInTurn, own_from, own_of}
+use Rattle.own_places.specs.Owned.{AreAllOwn, AreInTurn, own_from}
 use Rattle.report_check.specs.Known.{RisesFrom}
 
 lower : (m n : ℕ) (own : List Own) → m ≤ n → RisesFrom n own → RisesFrom m own

@@ -1,4 +1,4 @@
-use Rattle.std.proofs.Common.{◌≡◌, ℕ, ◌<◌, ◌≤◌, ◌↔◌, Bool, false, List, Option, Contains, drop, get_or, length, map, take, refl, sym, ap, subst, ◌∙◌, arith, IsTrue}
+use Rattle.std.proofs.Common.{◌≡◌, ℕ, ◌<◌, ◌≤◌, ◌↔◌, List, Option, Contains, drop, length, map, take, refl, sym, ap, subst, ◌∙◌, IsTrue}
 use Rattle.std.specs.Global.{Vec}
 use Rattle.std.specs.BTreeSet.{contains}
 use Rattle.std.specs.List.{All, flat_map, list_any}

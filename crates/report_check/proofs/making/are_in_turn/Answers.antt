@@ -1,4 +1,4 @@
-use Rattle.std.proofs.Common.{◌<◌, length, arith}
+use Rattle.std.proofs.Common.{arith}
 use Rattle.report_check.proofs.Turning.{in_turn}
 use Rattle.report_check.proofs.making.are_in_turn.Goals as goal
 

@@ -1,4 +1,4 @@
-use Rattle.std.proofs.Common.{◌≡◌, false, true, rules, sym, ap, ◌∙◌, ◌||◌, ◌==◌}
+use Rattle.std.proofs.Common.{◌≡◌, false, rules, sym, ap, ◌∙◌, ◌||◌, ◌==◌}
 use Rattle.std.specs.BTreeSet.{contains}
 use Rattle.std.specs.List.{flat_map, list_any}
 use Rattle.std.specs.Ordering.{nat_cmp}

@@ -1,7 +1,6 @@
 use Rattle.std.proofs.Common.{◌<◌, List, map, sym, subst}
 use Rattle.std.specs.List.{All, flat_map}
 use Rattle.tx_events.specs.declared.event.By.{By}
-use Rattle.tx_model.specs.declared.report.Line.{Line}
 use Rattle.tx_model.specs.declared.report.Step.{Step}
 use Rattle.tx_model.specs.Rounds.{lines_in}
 use Rattle.own_events.specs.Lined.{AreInOrder, line_by}

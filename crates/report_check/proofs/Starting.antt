@@ -31,11 +31,11 @@ use Rattle.report_check.proofs.Gens.{Legal, base_upto, gen_from, gen_made, gen_u
 
 -- ---- lists
 
-then_is : {X : Type 0} (b : Bool) (x y : X) → then_some b x ≡ Some y → (b ≡ true) × (x ≡ y)
+pub then_is : {X : Type 0} (b : Bool) (x y : X) → then_some b x ≡ Some y → (b ≡ true) × (x ≡ y)
 then_is true x y e = (refl, cc)
 then_is false x y e = absurd cc
 
-filter_map_has : {A B : Type 0} (f : A → Option B) (xs : List A) (x : A) (y : B) → Has xs x → f x ≡ Some y → Has (filter_map f xs) y
+pub filter_map_has : {A B : Type 0} (f : A → Option B) (xs : List A) (x : A) (y : B) → Has xs x → f x ≡ Some y → Has (filter_map f xs) y
 filter_map_has f [] x y k e = absurd k
 filter_map_has {A} {B} f (z ∷ xs) x y k e =
     let front : filter_map f (z ∷ xs) ≡ filter_map f (z ∷ []) ++ filter_map f xs = filter_map-append f (z ∷ []) xs in
@@ -204,7 +204,7 @@ module _ (base : Counters) (starts : List Start) (fits : FitsBase base starts) (
         let e = kept_is recs r.0 s r.2 in
         (e.0, e.1, subst (λ (x : MultiEvent). Has g x) e.2 r.1, e.3)
 
-    new_recorded : (s : Start) → Has (news h) s → (members : List Member) × Has recs (records.Multi s.multi s.offset members)
+    pub new_recorded : (s : Start) → Has (news h) s → (members : List Member) × Has recs (records.Multi s.multi s.offset members)
     new_recorded s k =
         let given = new_given h s k in
         let r = has_any (is_same_multi s.multi) recs given.3 in

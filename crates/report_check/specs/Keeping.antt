@@ -1,8 +1,8 @@
 -- What the lives before have left to a life that begins.
-use Rattle.std.specs.Prelude.{◌≡◌, ℕ, ◌+◌, ◌<◌, ◌↔◌, ◌==◌, List, [], ◌∷◌, ◌++◌, Option, None, Contains, map}
+use Rattle.std.specs.Prelude.{◌≡◌, ℕ, ◌+◌, ◌<◌, ◌↔◌, ◌==◌, ◌||◌, List, [], ◌∷◌, ◌++◌, Option, None, Contains, map}
 use Rattle.std.specs.Bool.{then_some}
 use Rattle.std.specs.BTreeSet.{contains}
-use Rattle.std.specs.List.{cons_option, list_any}
+use Rattle.std.specs.List.{cons_option, filter_map, flat_map, list_any}
 use Rattle.std.specs.Ordering.{nat_cmp}
 use Rattle.tx_events.specs.declared.multi.Member.{Member}
 use Rattle.tx_events.specs.declared.multi.MultiEvent.{MultiEvent}
@@ -10,7 +10,7 @@ use Rattle.tx_events.specs.declared.multi.MultiEvent.TheVariants as multis
 use Rattle.tx_events.specs.declared.record.Rec.{Rec}
 use Rattle.tx_events.specs.Base.{IsBase}
 use Rattle.tx_model.specs.declared.report.LifeReport.{LifeReport}
-use Rattle.report_law.specs.Begun.{Begun, begun_from}
+use Rattle.report_law.specs.Begun.{Begun, begun_from, committed_by}
 use Rattle.report_law.specs.Records.{is_same_multi}
 use Rattle.multi_places.specs.declared.start.Start.{Start}
 use Rattle.multi_places.specs.Starts.{FitsBase, start_of}
@@ -52,12 +52,18 @@ pub record IsLivedIn (lives : List LifeReport) (b : Begun) (home : Home) : Type 
 
 -- what the life begins from that comes behind these lives: its committed ids, and the multixacts that the log has recorded,
 -- with where they begin and where they were given
-pub record IsKept (b : Begun) (lives : List LifeReport) (kept : Kept) : Type 0 where
+pub record IsLeft (b : Begun) (lives : List LifeReport) (kept : Kept) : Type 0 where
   pub base : IsBase b.counters
   pub committed : (x : ℕ) → contains nat_cmp kept.committed x ≡ list_any (λ z. z == x) b.committed
   pub starts : AreStarts b kept.starts.items
   pub same : map start_at kept.homes.items ≡ kept.starts.items
   pub homes : (home : Home) → Contains kept.homes.items home → IsLivedIn lives b home
+
+-- how what is kept grew by these records of a life, and its multixacts
+pub record HasGrown (old new : Kept) (life : ℕ) (recs : List Rec) (multis : List MultiEvent) : Type 0 where
+  pub committed : (x : ℕ) → contains nat_cmp new.committed x ≡ (contains nat_cmp old.committed x || list_any (λ z. z == x) (flat_map committed_by recs))
+  pub starts : new.starts.items ≡ old.starts.items ++ filter_map (kept_start recs) multis
+  pub homes : new.homes.items ≡ old.homes.items ++ kept_homes recs life 0 multis
 
 -- nothing is left yet
 pub record IsNothingKept (kept : Kept) : Type 0 where
@@ -66,6 +72,6 @@ pub record IsNothingKept (kept : Kept) : Type 0 where
   pub homes : kept.homes.items ≡ []
 
 -- what is kept behind these lives, before the next one begins: what the last of them began from
-pub record IsKeptBefore (lives : List LifeReport) (kept : Kept) : Type 0 where
+pub record IsLeftBefore (lives : List LifeReport) (kept : Kept) : Type 0 where
   pub first : lives ≡ [] → IsNothingKept kept
-  pub later : (before : List LifeReport) (last : LifeReport) → lives ≡ before ++ last ∷ [] → IsKept (begun_from before last.life) before kept
+  pub later : (before : List LifeReport) (last : LifeReport) → lives ≡ before ++ last ∷ [] → IsLeft (begun_from before last.life) before kept

@@ -1,18 +1,24 @@
 //! What the lives before have left to the next one.
-ghost use Rattle.std.specs.Prelude.{◌≡◌, ◌==◌, ◌||◌, ◌++◌, [], ℕ, List, OnOk};
+ghost use Rattle.std.specs.Prelude.{◌≡◌, ◌==◌, ◌||◌, ◌++◌, ◌∷◌, ◌↔◌, [], ℕ, List, IfOk, IsTrue, OnOk};
 ghost use Rattle.std.specs.BTreeSet.{contains};
-ghost use Rattle.std.specs.List.{cons_option, filter_map, flat_map, list_any};
+ghost use Rattle.std.specs.List.{AllByRecursion, cons_option, filter_map, flat_map, list_any};
 ghost use Rattle.std.specs.Ordering.{nat_cmp};
 ghost use Rattle.tx_events.specs.declared.record.Rec.{Rec};
-ghost use Rattle.report_law.specs.Begun.{committed_by};
+ghost use Rattle.tx_model.specs.declared.report.LifeReport.{LifeReport};
+ghost use Rattle.life_starts.specs.Behind.{AreBases};
+ghost use Rattle.report_law.specs.Begun.{IsLawfulStart, begun_from, committed_by};
+ghost use Rattle.report_law.specs.ReportLines.{IsLawfulAt, lives_lines};
 ghost use Rattle.reply_rules.specs.Logs.{AreRecordedMultis};
-ghost use Rattle.report_check.specs.Keeping.{IsNothingKept, kept_home, kept_homes, kept_start};
+ghost use Rattle.report_check.specs.Keeping.{HasGrown, IsLeft, IsLeftBefore, IsNothingKept, kept_home, kept_homes, kept_start};
 
+use life_starts::{begins_behind, begins_log, starts_go_by_the_last};
 use multi_places::Start;
 use multi_verdicts::Home;
+use reply_rules::recorded_multis;
 use std::alloc::Global;
 use std::collections::BTreeSet;
 use tx_events::{FullXid, Memory, MultiEvent, Rec};
+use tx_model::{Life, LifeReport};
 
 /// What a life begins from beside its counters: the committed ids, by their numbers, and of each multixact that the log has
 /// recorded where its members begin, and by which event of which life before it was given, in the order of their numbers.
@@ -125,4 +131,79 @@ pub fn add_multis(
         add_multi(starts, homes, recorded, life, place as u64, event)?;
     }
     Ok(())
+}
+
+/// Adds what these records of a life leave, and the multixacts that it gave. After want of memory nothing is known of `kept`.
+fn grow(
+    alloc: Global,
+    kept: &mut Kept,
+    life: u64,
+    recs: &[Rec],
+    events: &[MultiEvent],
+) -> Result<(), Memory>
+    ensures { OnOk result (HasGrown kept.old kept.new life recs.now events.now) }
+{
+    let recorded = recorded_multis(alloc, recs)?;
+    add_all_committed(&mut kept.committed, recs)?;
+    add_multis(&mut kept.starts, &mut kept.homes, &recorded, life, events)
+}
+
+/// Whether the life may begin so behind these.
+fn begins_right(before: &[LifeReport], life: &Life) -> bool
+    requires { (earlier : List LifeReport) (last : LifeReport) → before.now ≡ earlier ++ last ∷ [] → IsLawfulStart earlier last.life × AreBases last.life.base last.life.recs }
+    ensures { IsTrue result ↔ IsLawfulStart before.now life.now }
+{
+    starts_go_by_the_last();
+    if before.len() == 0 {
+        return begins_log(life);
+    }
+    begins_behind(&before[before.len() - 1].life, life)
+}
+
+/// What the life begins from that comes behind these, where it may.
+fn keep_last(
+    alloc: Global,
+    kept: &mut Kept,
+    before: &[LifeReport],
+    life: &Life,
+) -> Result<(), Memory>
+    requires lawful { AllByRecursion IsLawfulAt (lives_lines [] before.now) }
+    requires kept { IsLeftBefore before.now kept.old }
+    requires start { IsLawfulStart before.now life.now }
+    ensures { OnOk result (IsLeft (begun_from before.now life.now) before.now kept.new) }
+{
+    if before.len() == 0 {
+        return Ok(());
+    }
+    let number = before.len() - 1;
+    let last = &before[number].life;
+    let recs = last.recs.items();
+    let count = life.from.saturating_sub(last.from) as usize;
+    grow(
+        alloc,
+        kept,
+        number as u64,
+        &recs[..count],
+        last.multis.items(),
+    )
+}
+
+/// Whether the life may begin so behind these, which are lawful, and then what it begins from. After want of memory nothing
+/// is known of `kept`.
+pub fn keep_on(
+    alloc: Global,
+    kept: &mut Kept,
+    before: &[LifeReport],
+    life: &Life,
+) -> Result<bool, Memory>
+    requires lawful { AllByRecursion IsLawfulAt (lives_lines [] before.now) }
+    requires kept { IsLeftBefore before.now kept.old }
+    ensures start { IfOk result (λ b. IsTrue b ↔ IsLawfulStart before.now life.now) }
+    ensures left { IfOk result (λ b. IsTrue b → IsLeft (begun_from before.now life.now) before.now kept.new) }
+{
+    if !begins_right(before, life) {
+        return Ok(false);
+    }
+    keep_last(alloc, kept, before, life)?;
+    Ok(true)
 }

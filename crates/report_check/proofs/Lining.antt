@@ -21,8 +21,9 @@ use Rattle.own_events.proofs.LineSteps.{bys_are}
 use Rattle.own_events.proofs.Numbering.{by_at_number, number_is, same_is, same_self}
 use Rattle.multi_gens.proofs.GenPlaces.{bound_at}
 use Rattle.report_law.specs.Steps.{Judged, gave_multi, lines_of}
-use Rattle.report_check.specs.declared.known.Known.{Known}
-use Rattle.report_check.specs.Known.{IsKnown, LifeAt, is_multi_reply, judged_life, told_by, told_lists}
+use Rattle.reply_lines.specs.declared.known.Known.{Known}
+use Rattle.reply_lines.specs.Known.{IsKnown, told_by, told_lists}
+use Rattle.report_check.specs.Known.{LifeAt, is_multi_reply, judged_life}
 
 -- ---- results, fronts and lives under other names
 

@@ -9,7 +9,8 @@ use Rattle.life_marks.specs.SnapMarks.{AreSnapMarks}
 use Rattle.legal_fronts.specs.declared.history.HistoryFront.{HistoryFront}
 use Rattle.legal_fronts.specs.Fronts.{AreTold}
 use Rattle.own_events.specs.Lined.{Numbered, lines_from, number_of}
-use Rattle.report_check.specs.Known.{judged_life, told_by}
+use Rattle.reply_lines.specs.Known.{told_by}
+use Rattle.report_check.specs.Known.{judged_life}
 use Rattle.report_check.proofs.Lining.{are_told, if_ok}
 use Rattle.report_check.proofs.making.front_of.Goals as goal
 

@@ -20,10 +20,10 @@ use standing_rules::Unfinished;
 use tx_events::{Counters, Lock, Refusal};
 use tx_model::Reply;
 
-fn is_fewer(a: u64, b: u64) -> bool
-    ensures { IsTrue result ↔ (a < b) }
+fn is_fewer(few: u64, many: u64) -> bool
+    ensures { IsTrue result ↔ (few < many) }
 {
-    a < b
+    many > few
 }
 
 /// Whether behind the first record there are more with these counters than checkpoints so far were `ok` with them.

@@ -16,6 +16,8 @@ use Rattle.history_places.proofs.Rising.{oldests_rise}
 use Rattle.report_law.specs.MultiLines.{MayCarry}
 use Rattle.multi_verdicts.specs.Telling.{IsCarriedPast}
 
+-- what stands as the oldest id is the life's first one or was announced: once more, since place_rules, which has it too, is as
+-- high as this crate
 record IsAnnounced (h : List Event) (oldest : ℕ) : Type 0 where
   place : ℕ
   by : By

@@ -8,7 +8,7 @@ use Rattle.std.proofs.Math.Seq.{get_or-append_seam}
 use Rattle.std.proofs.lemmas.Bool.{cases_lt}
 use Rattle.std.proofs.lemmas.List.{take_more}
 use Rattle.std.proofs.lemmas.List.Elements.{filter_map-append}
-use Rattle.std.proofs.lemmas.Option.{slice_get-map, slice_get_within}
+use Rattle.std.proofs.lemmas.Option.{same_Some, slice_get-map, slice_get_within}
 use Rattle.tx_events.specs.declared.event.By.{By}
 use Rattle.tx_events.specs.declared.event.Event.{Event}
 use Rattle.tx_events.specs.declared.event.Event.TheVariants as events
@@ -20,6 +20,7 @@ use Rattle.tx_events.proofs.Membership.{Has, all_at, contains_has, has_contains,
 use Rattle.life_marks.specs.declared.snaps.SnapMark.{SnapMark}
 use Rattle.life_marks.specs.SnapMarks.{AreSnapMarks, IsMarkOf, IsSnapMark}
 use Rattle.own_events.specs.Lined.{places_from, places_of}
+use Rattle.report_law.specs.Kinds.{IsSnapAt}
 use Rattle.multi_verdicts.specs.declared.taken.Taken.{Taken}
 use Rattle.multi_verdicts.specs.Snapped.{AreTaken, taken_at, taken_here}
 
@@ -66,6 +67,10 @@ marks first before told (events.Abort by x) m i = absurd i
 marks first before told (events.SnapDrop by name) m i = absurd i
 marks first before told (events.Oldest by oldest) m i = absurd i
 marks first before told (events.Ask by x) m i = absurd i
+
+-- a mark's event is a snapshot of the command that it is of
+snap_here : (first : ℕ) (h : List Event) (told : Option SnapData) (by : By) (p : ℕ) (e : Event) (m : SnapMark) → slice_get h p ≡ Some e → by_of e ≡ by → Marks first (take p h) told e m → IsSnapAt h by p
+snap_here first h told by p e m at its s = (s.name, at ∙ ap (λ (x : Event). Some x) (s.is ∙ ap (λ (b : By). events.Snap b s.name) its))
 
 record Marked (first : ℕ) (before : List Event) (told : Option SnapData) (o : Option SnapMark) : Type 0 where
   mark : SnapMark
@@ -151,24 +156,27 @@ filter_map_has {A} {B} f (z ∷ xs) x y k e = ⊎_elim
 by_at : (h : List Event) (e : Event) (p : ℕ) → slice_get h p ≡ Some e → slice_get (map by_of h) p ≡ Some (by_of e)
 by_at h e p at = slice_get-map by_of h p ∙ ap (option_map by_of) at
 
+-- the snapshot at one of the command's places
+each_place : (first : ℕ) (h all : List Event) (told : By → Option SnapData) (snaps : List (Option SnapMark)) (by : By) → h ≡ take (length h) all → AreSnapMarks first h told snaps → (p : ℕ) (t : Taken) → slice_get (map by_of all) p ≡ Some by → taken_at snaps p ≡ Some t
+    → IsSnapAt h by p × (t.place ≡ p) × (t.xmax ≡ snapshot_xmax first (take p h))
+each_place first h all told snaps by front are p t mine e =
+    let k = marked snaps p t e in
+    let low : p < length snaps = slice_get_within snaps p (Some k.mark) k.stands in
+    let size = are.size in
+    let v = some_at h p (omega arith) in
+    let s = marks first (take p h) (told (by_of v.0)) v.0 k.mark (are.each p v.0 (Some k.mark) v.1 k.stands) in
+    let there : slice_get all p ≡ Some v.0 = in_front (length h) all p v.0 (subst (λ (f : List Event). slice_get f p ≡ Some v.0) front v.1) in
+    let its : by_of v.0 ≡ by = same_Some (by_of v.0) by (sym (by_at all v.0 p there) ∙ mine) in
+    (snap_here first h (told (by_of v.0)) by p v.0 k.mark v.1 its s, ap (λ (x : Taken). x.place) k.is, ap (λ (x : Taken). x.xmax) k.is ∙ s.mark.xmax)
+
 pub taken_are : (first : ℕ) (h all : List Event) (told : By → Option SnapData) (snaps : List (Option SnapMark)) (by : By) (places : List ℕ) → h ≡ take (length h) all → AreSnapMarks first h told snaps → Ascending places
     → ((p : ℕ) → (slice_get (map by_of all) p ≡ Some by) ↔ Contains places p) → AreTaken first h by (filter_map (taken_at snaps) places)
 taken_are first h all told snaps by places front are up own = record {
   rising = in_order snaps places up;
   each = λ i t e.
       let m = has_filter_map (taken_at snaps) places t (place_has (filter_map (taken_at snaps) places) i t e) in
-      let k = marked snaps m.0 t m.2 in
-      let low : m.0 < length snaps = slice_get_within snaps m.0 (Some k.mark) k.stands in
-      let size = are.size in
-      let v = some_at h m.0 (omega arith) in
-      let s = marks first (take m.0 h) (told (by_of v.0)) v.0 k.mark (are.each m.0 v.0 (Some k.mark) v.1 k.stands) in
-      let place : t.place ≡ m.0 = ap (λ (x : Taken). x.place) k.is in
-      let there : slice_get all m.0 ≡ Some v.0 = in_front (length h) all m.0 v.0 (subst (λ (f : List Event). slice_get f m.0 ≡ Some v.0) front v.1) in
-      let whose : Some (by_of v.0) ≡ Some by = sym (by_at all v.0 m.0 there) ∙ (own m.0).1 (has_contains places m.0 m.1) in
-      let its : by_of v.0 ≡ by = cc in (
-        (s.name, ap (slice_get h) place ∙ v.1 ∙ ap Some (s.is ∙ ap (λ (b : By). events.Snap b s.name) its)),
-        ap (λ (x : Taken). x.xmax) k.is ∙ s.mark.xmax ∙ ap (λ n. snapshot_xmax first (take n h)) (sym place),
-      );
+      let r = each_place first h all told snaps by front are m.0 t ((own m.0).1 (has_contains places m.0 m.1)) m.2 in
+      (subst (IsSnapAt h by) (sym r.1) r.0, r.2 ∙ ap (λ n. snapshot_xmax first (take n h)) (sym r.1));
   all = λ p s.
       let low : p < length h = slice_get_within h p (events.Snap by s.0) s.1 in
       let size = are.size in

@@ -1,5 +1,5 @@
 -- The rule of a record from its parts.
-use Rattle.std.proofs.Common.{◌≡◌, ◌↔◌, ◌⊎◌, ℕ, zero, suc, ◌+◌, ◌<◌, ◌≤◌, Bool, IsTrue, List, [], ◌∷◌, Option, Some, None, IfNone, IfSome, length, take, refl, ap, sym, subst, ⊎_elim, inl, inr, arith}
+use Rattle.std.proofs.Common.{◌≡◌, ◌↔◌, ℕ, zero, suc, ◌+◌, ◌<◌, ◌≤◌, Bool, IsTrue, List, [], ◌∷◌, Option, Some, None, IfNone, IfSome, length, take, refl, ap, sym, subst, ⊎_elim, arith}
 use Rattle.std.proofs.lemmas.Bool.{cases_lt}
 use Rattle.std.proofs.lemmas.List.{length-take}
 use Rattle.std.specs.List.{All, AllByRecursion, Contains}
@@ -12,31 +12,10 @@ use Rattle.tx_events.specs.Base.{IsBase}
 use Rattle.tx_events.specs.declared.record.Counters.{Counters}
 use Rattle.tx_events.specs.declared.record.Rec.{Rec}
 use Rattle.tx_events.specs.declared.record.Rec.TheVariants as records
-use Rattle.tx_events.specs.declared.xact_end.XactEnd.{XactEnd}
-use Rattle.tx_events.specs.declared.xact_end.XactEnd.TheVariants as ends
 use Rattle.life_starts.specs.Behind.{AreBases, IsFirstNoBase}
-use Rattle.report_law.specs.Records.{IsEndedAs, IsFirstOf, IsLawfulRecord, IsOpenOf, IsRecordAt, IsTrueRecord}
-use Rattle.report_law.specs.Steps.{Judged, lines_of}
-use Rattle.record_rules.specs.Answered.{may_have}
-use Rattle.record_rules.proofs.OpenAtEnd.{abort_told, commit_told}
+use Rattle.report_law.specs.Records.{IsFirstOf, IsLawfulRecord, IsRecordAt, IsTrueRecord}
+use Rattle.report_law.specs.Steps.{Judged}
 use Rattle.record_lines.specs.Judging.{IsBrokenAt}
-
-abbrev pub IsEndRecorded : Judged → XactEnd → ℕ → List ℕ → Type 0
-IsEndRecorded j how top subs = IsEndedAs j.life.events how top subs ⊎ ((s : ℕ) × IsOpenOf j.life.events s top subs × IsTrue (may_have how (lines_of j) s))
-
-pub commit_iff : (j : Judged) (top : ℕ) (its subs : List ℕ) (b : Bool) → its ≡ subs → IsTrue b ↔ IsEndRecorded j ends.Commit top its → IsTrue b ↔ IsTrueRecord j (records.Commit top subs)
-commit_iff j top its subs b same i =
-    let iff = subst (λ (t : List ℕ). IsTrue b ↔ IsEndRecorded j ends.Commit top t) same i in (
-      λ t. ⊎_elim (λ (e : IsEndedAs j.life.events ends.Commit top subs). inl e) (λ o. let told = (commit_told (lines_of j) o.0).0 o.2 in inr (o.0, o.1, told.0, told.1)) (iff.0 t),
-      λ r. iff.1 (⊎_elim (λ (e : IsEndedAs j.life.events ends.Commit top subs). inl e) (λ o. inr (o.0, o.1, (commit_told (lines_of j) o.0).1 (o.2, o.3))) r),
-    )
-
-pub abort_iff : (j : Judged) (top : ℕ) (its subs : List ℕ) (b : Bool) → its ≡ subs → IsTrue b ↔ IsEndRecorded j ends.Abort top its → IsTrue b ↔ IsTrueRecord j (records.Abort top subs)
-abort_iff j top its subs b same i =
-    let iff = subst (λ (t : List ℕ). IsTrue b ↔ IsEndRecorded j ends.Abort top t) same i in (
-      λ t. ⊎_elim (λ (e : IsEndedAs j.life.events ends.Abort top subs). inl e) (λ o. let told = (abort_told (lines_of j) o.0).0 o.2 in inr (o.0, o.1, told.0, told.1)) (iff.0 t),
-      λ r. iff.1 (⊎_elim (λ (e : IsEndedAs j.life.events ends.Abort top subs). inl e) (λ o. inr (o.0, o.1, (abort_told (lines_of j) o.0).1 (o.2, o.3))) r),
-    )
 
 take_of_take : (n k : ℕ) (recs : List Rec) → n ≤ k → take n (take k recs) ≡ take n recs
 take_of_take zero k recs l = refl

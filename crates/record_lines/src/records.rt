@@ -19,11 +19,12 @@ ghost use Rattle.record_lines.specs.Judging.{IsBrokenAt, IsFirstUnlawful, IsJudg
 use life_starts::first_no_base;
 use multi_places::MultiPlaces;
 use record_rules::{
-    Announced, CounterCounts, Seen, Transactions, announced_of, is_announced, is_announced_multi,
-    is_asked, is_end_recorded, is_first, none_seen, note_record, transactions_of,
+    Announced, CounterCounts, Seen, Transactions, announced_of, is_abort_recorded, is_announced,
+    is_announced_multi, is_asked, is_commit_recorded, is_first, none_seen, note_record,
+    transactions_of,
 };
 use std::alloc::Global;
-use tx_events::{Counters, FullMulti, Member, Memory, MultiEvent, Rec, XactEnd};
+use tx_events::{Counters, FullMulti, Member, Memory, MultiEvent, Rec};
 use tx_model::LifeReport;
 
 /// What the records of a life are judged by: what it begins from, its transactions and what it announces, and the record
@@ -100,12 +101,8 @@ fn is_true_record(judging: &Judging, multis: &MultiPlaces, asked: &CounterCounts
     ensures { IsTrue result ↔ IsTrueRecord j rec.now }
 {
     match rec {
-        Rec::Commit { top, subs } => {
-            is_end_recorded(&judging.xacts, XactEnd::Commit, *top, subs.items())
-        }
-        Rec::Abort { top, subs } => {
-            is_end_recorded(&judging.xacts, XactEnd::Abort, *top, subs.items())
-        }
+        Rec::Commit { top, subs } => is_commit_recorded(&judging.xacts, *top, subs.items()),
+        Rec::Abort { top, subs } => is_abort_recorded(&judging.xacts, *top, subs.items()),
         Rec::Multi {
             multi,
             offset,

@@ -5,4 +5,5 @@ pub mod Ending
 pub mod Keys
 pub mod OpenAtEnd
 pub mod Sums
+pub mod Recorded
 pub mod Replaying

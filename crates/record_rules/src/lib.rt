@@ -15,4 +15,4 @@ pub use announced::{Announced, announced_of, is_announced, is_announced_multi};
 pub use asked::is_asked;
 pub use counts::{CounterCounts, CountersKey, count_one, how_often};
 pub use firsts::{Seen, is_first, none_seen, note_record};
-pub use transactions::{Transactions, is_end_recorded, transactions_of};
+pub use transactions::{Transactions, is_abort_recorded, is_commit_recorded, transactions_of};

@@ -3,6 +3,7 @@ ghost use Rattle.std.specs.Prelude.{◌≡◌, ◌↔◌, ◌⊎◌, ◌<◌, �
 ghost use Rattle.std.specs.List.{All, AllByRecursion, flat_map};
 ghost use Rattle.tx_events.specs.declared.event.Event.{Event};
 ghost use Rattle.tx_events.specs.declared.record.Counters.{Counters};
+ghost use Rattle.tx_events.specs.declared.record.Rec.TheVariants as records;
 ghost use Rattle.tx_events.specs.Base.{IsBase};
 ghost use Rattle.tx_events.specs.Events.{by_of};
 ghost use Rattle.tx_events.specs.Families.{is_top};
@@ -11,7 +12,8 @@ ghost use Rattle.tx_events.specs.Running.{open_ids};
 ghost use Rattle.tx_model.specs.declared.report.Line.{Line};
 ghost use Rattle.tx_model.specs.Rounds.{lines_in};
 ghost use Rattle.history_check.specs.Opened.{AreOpened};
-ghost use Rattle.report_law.specs.Records.{IsEndedAs, IsOpenOf};
+ghost use Rattle.report_law.specs.Records.{IsEndedAs, IsOpenOf, IsTrueRecord};
+ghost use Rattle.report_law.specs.Steps.{Judged, lines_of};
 ghost use Rattle.record_rules.specs.Answered.{AreAnswers, IsAnswered, may_have};
 ghost use Rattle.record_rules.specs.Ends.{AreEnds, AreOpenXacts, AreTransactions, IsOpenXact};
 
@@ -163,12 +165,26 @@ fn has_open(xacts: &[OpenXact], how: XactEnd, top: FullXid, subs: &[FullXid]) ->
 
 /// Whether the transaction of this top ended so with these subids, or it is open at the end and its session's last answer
 /// lets the log have its record. Takes the logarithm of how many ended, and looks at 64 sessions.
-pub fn is_end_recorded(xacts: &Transactions, how: XactEnd, top: FullXid, subs: &[FullXid]) -> bool
+fn is_end_recorded(xacts: &Transactions, how: XactEnd, top: FullXid, subs: &[FullXid]) -> bool
     ensures { (base : Counters) (h : List Event) (lines : List Line) → IsLegal base h → AllByRecursion (λ e. (by_of e).session < 64) h → AreTransactions h lines xacts.now → IsTrue result ↔ (IsEndedAs h how top subs.now ⊎ ((s : ℕ) × IsOpenOf h s top subs.now × IsTrue (may_have how lines s))) }
 {
     let ended = is_ended_as(&xacts.ends, how, top, subs);
     let open = has_open(xacts.opened.as_slice(), how, top, subs);
     either(ended, open)
+}
+
+/// Whether a commit's record says what is so of a life whose history is legal, and whose transactions these are.
+pub fn is_commit_recorded(xacts: &Transactions, top: FullXid, subs: &[FullXid]) -> bool
+    ensures { (j : Judged) → IsLegal j.begun.counters j.life.events → AllByRecursion (λ e. (by_of e).session < 64) j.life.events → AreTransactions j.life.events (lines_of j) xacts.now → IsTrue result ↔ IsTrueRecord j (records.Commit top subs.now) }
+{
+    is_end_recorded(xacts, XactEnd::Commit, top, subs)
+}
+
+/// The same of an abort's record.
+pub fn is_abort_recorded(xacts: &Transactions, top: FullXid, subs: &[FullXid]) -> bool
+    ensures { (j : Judged) → IsLegal j.begun.counters j.life.events → AllByRecursion (λ e. (by_of e).session < 64) j.life.events → AreTransactions j.life.events (lines_of j) xacts.now → IsTrue result ↔ IsTrueRecord j (records.Abort top subs.now) }
+{
+    is_end_recorded(xacts, XactEnd::Abort, top, subs)
 }
 
 /// The transactions of a whole history, which is legal, and of a life's steps.

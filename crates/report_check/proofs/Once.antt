@@ -8,7 +8,7 @@ use Rattle.report_lines.specs.Front.{behind_line, first_line, front}
 use Rattle.report_lines.proofs.Fronts.{same_first, same_rest}
 use Rattle.report_read.specs.Reports.{IsFirstWrong, IsReport}
 use Rattle.report_read.proofs.Reading.{one_report}
-use Rattle.report_law.specs.ReportLines.{IsLawfulAt, IsLawfulReport, IsUnlawful, ReportLine, report_lines}
+use Rattle.report_law.specs.ReportLines.{IsLawfulAt, IsLawfulReport, IsUnlawful}
 use Rattle.tx_io.specs.Amounts.{most_bytes}
 use Rattle.report_check.specs.Judgement.{BreaksRule, IsFirstUnlawful, IsJudgedOnce, IsLawfulText}
 
@@ -69,7 +69,7 @@ one_told bytes n m (inl a) (inr b) = absurd (none_wrong bytes n b.report a b.is 
 one_told bytes n m (inr a) (inl b) = absurd (none_wrong bytes m a.report b a.is a.text)
 one_told bytes n m (inr a) (inr b) = one_broken bytes n m a b
 
-one_first : (bytes : List ℕ) (n m : ℕ) → IsFirstUnlawful bytes n → IsFirstUnlawful bytes m → n ≡ m
+pub one_first : (bytes : List ℕ) (n m : ℕ) → IsFirstUnlawful bytes n → IsFirstUnlawful bytes m → n ≡ m
 one_first bytes n m (inl a) (inl b) = a.1 ∙ sym b.1
 one_first bytes n m (inl a) (inr b) = let x = a.0 in let y = b.0 in absurd (omega arith)
 one_first bytes n m (inr a) (inl b) = let x = a.0 in let y = b.0 in absurd (omega arith)
@@ -79,7 +79,7 @@ told_not_lawful : (bytes : List ℕ) (n : ℕ) → IsLawfulText bytes → IsFirs
 told_not_lawful bytes n l (inl a) = none_wrong bytes n l.report a l.is l.text
 told_not_lawful bytes n l (inr b) = lawful_unbroken bytes n l b
 
-first_not_lawful : (bytes : List ℕ) (n : ℕ) → IsLawfulText bytes → IsFirstUnlawful bytes n → ⊥
+pub first_not_lawful : (bytes : List ℕ) (n : ℕ) → IsLawfulText bytes → IsFirstUnlawful bytes n → ⊥
 first_not_lawful bytes n l (inl a) = let x = a.0 in let y = l.short in omega arith
 first_not_lawful bytes n l (inr b) = told_not_lawful bytes n l b.1
 

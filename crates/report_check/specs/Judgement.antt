@@ -1,5 +1,5 @@
 -- Which text is that of a lawful report, and which line of another is the first unlawful one.
-use Rattle.std.specs.Prelude.{◌≡◌, ℕ, ◌<◌, ◌≤◌, ◌+◌, ◌⊎◌, List, length}
+use Rattle.std.specs.Prelude.{◌≡◌, ℕ, ◌<◌, ◌≤◌, ◌⊎◌, List, length}
 use Rattle.tx_model.specs.declared.report.Report.{Report}
 use Rattle.report_text.specs.ReportText.{report_text}
 use Rattle.tx_io.specs.Amounts.{most_bytes}

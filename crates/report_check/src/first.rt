@@ -1,9 +1,41 @@
 //! The first unlawful line of a text.
 ghost use Rattle.std.specs.Prelude.{◌≡◌, ◌↔◌, ℕ, IfOk, None, Some};
+ghost use Rattle.report_read.specs.Reports.{IsReport};
+ghost use Rattle.report_check.specs.Found.{IsJudgedAs, IsTextJudgedAs};
 ghost use Rattle.report_check.specs.Judgement.{IsFirstUnlawful, IsLawfulText};
 
+use crate::lives::first_in_lives;
+use crate::walked::plus;
+use report_read::{ReadRefusal, read_report};
 use std::alloc::Global;
-use tx_model::Memory;
+use tx_model::{Memory, Report};
+
+/// The length of the longest text that is read, in bytes.
+const MOST_BYTES: usize = 16_777_216;
+
+/// The first line of the report that breaks its rule, counted from 1.
+fn first_in_report(alloc: Global, report: &Report) -> Result<Option<u64>, Memory>
+    requires { IsReport report.now }
+    ensures { IfOk result (IsJudgedAs report.now) }
+{
+    match first_in_lives(alloc, report.lives.items())? {
+        Some(count) => Ok(Some(plus(count, 2)?)),
+        None => Ok(None),
+    }
+}
+
+fn judge_text(alloc: Global, bytes: &[u8]) -> Result<Option<u64>, Memory>
+    ensures { IfOk result (IsTextJudgedAs bytes.now) }
+{
+    if bytes.len() > MOST_BYTES {
+        return Ok(Some(0));
+    }
+    match read_report(alloc, bytes) {
+        Ok(report) => first_in_report(alloc, &report),
+        Err(ReadRefusal::Line { line }) => Ok(Some(line)),
+        Err(ReadRefusal::Memory) => Err(Memory),
+    }
+}
 
 /// The first unlawful line of a text, counted from 1, and 0 of one of more than 16,777,216 bytes. `None` exactly where it
 /// is the text of a lawful report.
@@ -11,5 +43,5 @@ pub fn first_unlawful(alloc: Global, bytes: &[u8]) -> Result<Option<u64>, Memory
     ensures none { IfOk result (λ line. (line ≡ None) ↔ IsLawfulText bytes.now) }
     ensures some { IfOk result (λ line. (n : ℕ) → (line ≡ Some n) ↔ IsFirstUnlawful bytes.now n) }
 {
-    Err(Memory)
+    judge_text(alloc, bytes)
 }

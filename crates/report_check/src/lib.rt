@@ -3,10 +3,19 @@
 //! docs/SCRIPT-AND-REPORT.md.
 #![tactic(auto)]
 
+mod asked;
+mod checkpoints;
 mod ending;
 mod first;
+mod keep;
+mod known;
 mod law;
+mod life;
+mod lives;
+mod making;
+mod telling;
 mod tool;
+mod walked;
 
 pub use first::first_unlawful;
 pub use law::judged_once;

@@ -8,4 +8,4 @@ pub returns : goal.returns
 returns c =
     let facts = c.binary_search_by_key.ensures in
     let by_key = facts.position (λ (s : Home). s.multi) (answers_always _ _ _ (λ f a r g called. search rules)) in
-    rw c.ok.ensures.value (as_option (λ (s : Home). s.multi) _ c.args.multi c.binary_search_by_key.result (searched (λ (s : Home). s.multi) _ c.args.multi c.binary_search_by_key.result c.requires facts.bound by_key))
+    rw c.ok.ensures.value (as_option (λ (s : Home). s.multi) c.args.homes.now c.args.multi c.binary_search_by_key.result (searched (λ (s : Home). s.multi) c.args.homes.now c.args.multi c.binary_search_by_key.result c.requires facts.bound by_key))

@@ -1,23 +1,23 @@
-use Rattle.std.proofs.Common.{IsTrue, ◌↔◌, sym, subst}
+use Rattle.std.proofs.Common.{IsTrue, ℕ, List, ◌↔◌, sym, subst}
 use Rattle.tx_events.specs.declared.record.Rec.{Rec}
+use Rattle.tx_events.specs.declared.record.Rec.TheVariants as records
 use Rattle.tx_events.specs.declared.record.Counters.{Counters}
 use Rattle.life_law.specs.LifeLog.{IsAnnounced}
 use Rattle.report_law.specs.Records.{IsAnnouncedMulti, IsTrueRecord}
-use Rattle.report_law.specs.Steps.{lines_of}
-use Rattle.record_lines.proofs.Recording.{abort_iff, both_iff, commit_iff, multi_iff}
+use Rattle.record_lines.proofs.Recording.{both_iff, multi_iff}
 use Rattle.record_lines.proofs.records.is_true_record.Goals as goal
 
 pub returns-in-Commit : goal.returns-in-Commit
 returns-in-Commit g c =
     let w = c.requires.whole in
-    subst (λ (rec : Rec). IsTrue c.is_end_recorded.result ↔ IsTrueRecord g.j rec) (sym c.in-Commit.is)
-    (commit_iff g.j c.in-Commit.top c.items.result.now c.in-Commit.subs c.is_end_recorded.result c.items.ensures (c.is_end_recorded.ensures g.j.begun.counters g.j.life.events (lines_of g.j) w.legal w.each w.xacts))
+    subst (λ (rec : Rec). IsTrue c.is_commit_recorded.result ↔ IsTrueRecord g.j rec) (sym c.in-Commit.is)
+    (subst (λ (subs : List ℕ). IsTrue c.is_commit_recorded.result ↔ IsTrueRecord g.j (records.Commit c.in-Commit.top subs)) c.items.ensures (c.is_commit_recorded.ensures g.j w.legal w.each w.xacts))
 
 pub returns-in-Abort : goal.returns-in-Abort
 returns-in-Abort g c =
     let w = c.requires.whole in
-    subst (λ (rec : Rec). IsTrue c.is_end_recorded-in-Abort.result ↔ IsTrueRecord g.j rec) (sym c.in-Abort.is)
-    (abort_iff g.j c.in-Abort.top c.items-in-Abort.result.now c.in-Abort.subs c.is_end_recorded-in-Abort.result c.items-in-Abort.ensures (c.is_end_recorded-in-Abort.ensures g.j.begun.counters g.j.life.events (lines_of g.j) w.legal w.each w.xacts))
+    subst (λ (rec : Rec). IsTrue c.is_abort_recorded.result ↔ IsTrueRecord g.j rec) (sym c.in-Abort.is)
+    (subst (λ (subs : List ℕ). IsTrue c.is_abort_recorded.result ↔ IsTrueRecord g.j (records.Abort c.in-Abort.top subs)) c.items-in-Abort.ensures (c.is_abort_recorded.ensures g.j w.legal w.each w.xacts))
 
 pub returns-in-Multi : goal.returns-in-Multi
 returns-in-Multi g c =

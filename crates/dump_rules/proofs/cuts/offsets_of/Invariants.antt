@@ -1,0 +1,8 @@
+use Rattle.std.proofs.Common.{◌∷◌, take}
+use Rattle.std.specs.Ordering.{nat_cmp}
+use Rattle.record_rules.specs.Firsts.{HasKeys}
+use Rattle.dump_rules.specs.Cutting.{cuts_offset, first_cut}
+use Rattle.dump_rules.proofs.cuts.offsets_of.Given as goal
+
+abbrev pub invariant-loop-rec : goal.invariant-loop-rec
+invariant-loop-rec l = HasKeys nat_cmp cuts_offset (first_cut l.base ∷ take l.rec-index l.recs) l.offsets

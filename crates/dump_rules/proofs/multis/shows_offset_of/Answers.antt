@@ -1,0 +1,17 @@
+use Rattle.std.proofs.Common.{◌≡◌, ◌*◌, ℕ, sym, subst, arith}
+use Rattle.tx_events.specs.Ids.{low_half}
+use Rattle.store_pages.specs.Layouts.{word_place_of}
+use Rattle.store_pages.specs.Pages.{offset_page}
+use Rattle.report_law.specs.Dumps.{HasWord}
+use Rattle.dump_rules.proofs.multis.shows_offset_of.Goals as goal
+
+pub returns : goal.returns
+returns c =
+    let at = c.args.at in
+    let bytes = c.args.bytes.now in
+    let same = c.low-half.ensures in
+    let here : offset_page (low_half c.args.multi) ≡ c.args.page = omega arith in
+    let word : 4 * c.from-word.result ≡ word_place_of c.args.multi = (let f = c.from-word.ensures in omega arith) in (
+      λ t p. subst (λ (n : ℕ). HasWord at bytes (word_place_of c.args.multi) n) c.low.ensures (subst (λ (n : ℕ). HasWord at bytes n c.low.result) word (c.has_word.ensures.0 t)),
+      λ s. c.has_word.ensures.1 (subst (λ (n : ℕ). HasWord at bytes n c.low.result) (sym word) (subst (λ (n : ℕ). HasWord at bytes (word_place_of c.args.multi) n) (sym c.low.ensures) (s here))),
+    )

@@ -1,0 +1,4 @@
+pub mod Cutting
+pub mod Gens
+pub mod Replying
+pub mod Shown

@@ -6,3 +6,4 @@ pub mod Keeping
 pub mod Walked
 pub mod Found
 pub mod Known
+pub mod Passing

@@ -7,13 +7,16 @@ mod asked;
 mod checkpoints;
 mod ending;
 mod first;
+mod histories;
 mod keep;
 mod known;
 mod law;
 mod life;
 mod lives;
 mod making;
+mod round_lines;
 mod telling;
+mod told_multis;
 mod tool;
 mod walked;
 

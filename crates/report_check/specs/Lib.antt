@@ -7,3 +7,5 @@ pub mod Walked
 pub mod Found
 pub mod Known
 pub mod Passing
+pub mod Dumped
+pub mod Stepping

@@ -5,6 +5,7 @@
 
 mod asked;
 mod checkpoints;
+mod dumps;
 mod ending;
 mod first;
 mod histories;
@@ -15,6 +16,7 @@ mod life;
 mod lives;
 mod making;
 mod round_lines;
+mod steps;
 mod telling;
 mod told_multis;
 mod tool;

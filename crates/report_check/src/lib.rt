@@ -8,6 +8,7 @@ mod checkpoints;
 mod copying;
 mod ending;
 mod first;
+mod histories;
 mod keep;
 mod known;
 mod law;

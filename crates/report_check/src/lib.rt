@@ -15,6 +15,7 @@ mod law;
 mod life;
 mod lives;
 mod making;
+mod records;
 mod telling;
 mod told_multis;
 mod tool;

@@ -6,6 +6,7 @@
 mod asked;
 mod checkpoints;
 mod dumps;
+mod copying;
 mod ending;
 mod first;
 mod histories;
@@ -17,6 +18,7 @@ mod lives;
 mod making;
 mod round_lines;
 mod steps;
+mod records;
 mod telling;
 mod told_multis;
 mod tool;

@@ -172,3 +172,9 @@ latest_push h e last new a few turn is = record {
 
 pub never_both : (P : Type 0) → (P → ⊥) → (IsTrue false → P) × (P → IsTrue false)
 never_both P never = (λ t. let z : false ≡ true = t in absurd cc, λ p. absurd (never p))
+
+pub true_both : (P : Type 0) → P → (IsTrue true → P) × (P → IsTrue true)
+true_both P p = (λ t. p, λ q. refl)
+
+pub same_line : {X : Type 0} (xs : List X) (p : ℕ) (x y : X) → slice_get xs p ≡ Some x → slice_get xs p ≡ Some y → x ≡ y
+same_line xs p x y a b = cc

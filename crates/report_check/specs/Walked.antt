@@ -1,5 +1,5 @@
 -- How the lines of a part of a report were judged.
-use Rattle.std.specs.Prelude.{◌≡◌, ℕ, ◌<◌, ◌≤◌, ◌↔◌, List, length, slice_index}
+use Rattle.std.specs.Prelude.{◌≡◌, ℕ, ◌<◌, ◌≤◌, ◌↔◌, Bool, true, false, List, length, slice_index}
 use Rattle.std.specs.List.{AllByRecursion}
 use Rattle.tx_events.specs.declared.multi.MultiEvent.{MultiEvent}
 use Rattle.tx_events.specs.Multis.{multi_by}
@@ -22,3 +22,7 @@ IsWalked lines (walks.Broken n) = IsFirstBroken lines n
 abbrev pub IfLawful : Walked → Type 0 → Type 0
 IfLawful (walks.Lawful n) P = P
 IfLawful (walks.Broken n) P = Unit {0}
+
+abbrev pub is_lawful : Walked → Bool
+is_lawful (walks.Lawful n) = true
+is_lawful (walks.Broken n) = false

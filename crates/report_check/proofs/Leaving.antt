@@ -38,7 +38,7 @@ use Rattle.report_law.specs.ReportLines.{IsLawfulAt, ReportLine, event, judged, 
 use Rattle.report_law.specs.Steps.{Judged}
 use Rattle.report_law.specs.Places.{has_multi_line}
 use Rattle.report_check.specs.Keeping.{AreStarts, HasGrown, IsLeft, IsLeftBefore, IsLivedIn, kept_home, kept_homes, kept_start, start_at}
-use Rattle.report_check.specs.declared.keep.Kept.{Kept}
+use Rattle.reply_lines.specs.declared.known.Kept.{Kept}
 use Rattle.report_check.proofs.Gens.{legal_agree, one_giving}
 use Rattle.report_check.proofs.Homes.{homes_starts}
 use Rattle.report_check.proofs.Starting.{IsSo, filter_map_has, new_recorded, starts_after, then_is}

@@ -17,7 +17,7 @@ use Rattle.legal_fronts.proofs.Fronting.{all_taken, one_more}
 use Rattle.report_check.specs.Found.{IsTextJudgedAs}
 use Rattle.report_check.specs.Judgement.{IsFirstUnlawful, IsLawfulText}
 use Rattle.report_check.specs.Keeping.{IsLeft, IsLeftBefore, IsNothingKept}
-use Rattle.report_check.specs.declared.keep.Kept.{Kept}
+use Rattle.reply_lines.specs.declared.known.Kept.{Kept}
 use Rattle.report_check.proofs.Once.{first_not_lawful, one_first}
 
 pub numbered_at : (lives : List LifeReport) (p : ℕ) (r : LifeReport) → AllByRecursion IsNumbered lives → slice_get lives p ≡ Some r → IsNumbered r

@@ -16,7 +16,7 @@ use Rattle.multi_places.specs.declared.start.Start.{Start}
 use Rattle.multi_places.specs.Starts.{FitsBase, start_of}
 use Rattle.multi_verdicts.specs.declared.homes.Home.{Home}
 use Rattle.multi_verdicts.specs.Stored.{IsHome}
-use Rattle.report_check.specs.declared.keep.Kept.{Kept}
+use Rattle.reply_lines.specs.declared.known.Kept.{Kept}
 
 -- where the multixacts begin that the log has recorded
 pub record AreStarts (b : Begun) (starts : List Start) : Type 0 where

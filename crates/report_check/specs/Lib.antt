@@ -6,3 +6,6 @@ pub mod Keeping
 pub mod Walked
 pub mod Found
 pub mod Known
+pub mod Passing
+pub mod Dumped
+pub mod Stepping

@@ -1,10 +1,17 @@
 -- How the lines of a part of a report were judged.
-use Rattle.std.specs.Prelude.{◌≡◌, ℕ, List, length}
+use Rattle.std.specs.Prelude.{◌≡◌, ℕ, ◌<◌, ◌≤◌, ◌↔◌, Bool, true, false, List, length, slice_index}
 use Rattle.std.specs.List.{AllByRecursion}
+use Rattle.tx_events.specs.declared.multi.MultiEvent.{MultiEvent}
+use Rattle.tx_events.specs.Multis.{multi_by}
 use Rattle.report_law.specs.ReportLines.{IsLawfulAt, ReportLine}
 use Rattle.life_check.specs.Walk.{IsFirstBroken}
 use Rattle.report_check.specs.declared.walked.Walked.{Walked}
 use Rattle.report_check.specs.declared.walked.Walked.TheVariants as walks
+
+-- the number of each session's latest command among these events, 0 where it has none
+pub record AreLatest (h : List MultiEvent) (last : List ℕ) : Type 0 where
+  pub size : length last ≡ 64
+  pub each : (session command : ℕ) → session < 64 → (slice_index last session ≤ command) ↔ AllByRecursion (λ f. (multi_by f).session ≡ session → (multi_by f).command ≤ command) h
 
 -- all are lawful, so many; or one breaks its rule behind so many that are
 abbrev pub IsWalked : List ReportLine → Walked → Type 0
@@ -15,3 +22,7 @@ IsWalked lines (walks.Broken n) = IsFirstBroken lines n
 abbrev pub IfLawful : Walked → Type 0 → Type 0
 IfLawful (walks.Lawful n) P = P
 IfLawful (walks.Broken n) P = Unit {0}
+
+abbrev pub is_lawful : Walked → Bool
+is_lawful (walks.Lawful n) = true
+is_lawful (walks.Broken n) = false

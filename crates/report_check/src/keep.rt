@@ -14,20 +14,12 @@ ghost use Rattle.report_check.specs.Keeping.{HasGrown, IsLeft, IsLeftBefore, IsN
 use life_starts::{begins_behind, begins_log, starts_go_by_the_last};
 use multi_places::Start;
 use multi_verdicts::Home;
+use reply_lines::Kept;
 use reply_rules::recorded_multis;
 use std::alloc::Global;
 use std::collections::BTreeSet;
 use tx_events::{FullXid, Memory, MultiEvent, Rec};
 use tx_model::{Life, LifeReport};
-
-/// What a life begins from beside its counters: the committed ids, by their numbers, and of each multixact that the log has
-/// recorded where its members begin, and by which event of which life before it was given, in the order of their numbers.
-#[derive(Drop)]
-pub struct Kept {
-    pub committed: BTreeSet<u64>,
-    pub starts: Vec<Start>,
-    pub homes: Vec<Home>,
-}
 
 /// What the first life begins from.
 pub fn nothing_kept(alloc: Global) -> Kept

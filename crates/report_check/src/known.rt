@@ -4,63 +4,22 @@ ghost use Rattle.tx_events.specs.declared.multi.Member.{Member};
 ghost use Rattle.tx_events.specs.Base.{IsBase};
 ghost use Rattle.multi_places.specs.Starts.{FitsBase, start_of};
 ghost use Rattle.life_check.specs.Numbered.{IsNumbered};
-ghost use Rattle.report_check.specs.Known.{IsKnown, LifeAt, judged_life};
+ghost use Rattle.reply_lines.specs.Known.{IsKnown};
+ghost use Rattle.report_check.specs.Known.{LifeAt, judged_life};
 
 use crate::making::{
     are_in_turn, copied, counts_in, front_of, late_of, log_end_of, logs_of, multi_front_of, oks_of,
     opened_of, owned, recorded_in, table_of, taken_of, turns_of,
 };
 use crate::telling::{gave_by_lines, lists_by_lines};
-use given_counts::GivenCounts;
-use held_rules::{LimitAt, held_limits};
-use history_places::HistoryPlaces;
-use life_marks::{IdMark, SnapMark, id_marks};
-use multi_places::{MultiPlaces, Start};
-use multi_verdicts::Taken;
-use own_events::{LineTable, OwnEvents};
-use own_places::Own;
-use reply_rules::{LogEnd, Logs, commit_tops};
+use held_rules::held_limits;
+use life_marks::id_marks;
+use multi_places::Start;
+use reply_lines::Known;
+use reply_rules::commit_tops;
 use std::alloc::Global;
-use std::collections::BTreeSet;
 use tx_events::Memory;
 use tx_model::LifeReport;
-
-/// What is made once of a life: its lines' numbers, what its histories tell up to the first event that may not come, and
-/// what its log holds.
-#[derive(Drop)]
-pub struct Known {
-    pub table: LineTable,
-    pub events: OwnEvents,
-    pub multis: OwnEvents,
-    pub counts: GivenCounts,
-    /// The legal front of the history.
-    pub places: HistoryPlaces,
-    /// Of each event of it, the snapshot that it takes.
-    pub snaps: Vec<Option<SnapMark>>,
-    /// Each session's events of it.
-    pub turns: Vec<Vec<Own>>,
-    pub marks: Vec<IdMark>,
-    /// How many ids its session has open behind each event of it.
-    pub opened: Vec<u64>,
-    /// The snapshots that each line's command takes in it.
-    pub taken: Vec<Vec<Taken>>,
-    /// The legal front of the multixact events.
-    pub multi_places: MultiPlaces,
-    pub multi_turns: Vec<Vec<Own>>,
-    /// Whether its events come in the order of their sessions' commands, as far as that was found.
-    pub multis_in_turn: bool,
-    pub held: Vec<LimitAt>,
-    /// Of each multixact event, whether its command was answered `ok` with a multixact.
-    pub oks: Vec<bool>,
-    /// The multixacts that were given so behind the legal front.
-    pub late: BTreeSet<u64>,
-    /// The transactions of all commit records.
-    pub tops: BTreeSet<u64>,
-    /// All ids of commit records.
-    pub recorded: BTreeSet<u64>,
-    pub logs: Logs,
-    pub end: LogEnd,
-}
 
 /// What is known of the life, whose own counters are those that it begins from; the multixacts that the log has recorded
 /// before it begin so. Takes a sort of the multixact events.

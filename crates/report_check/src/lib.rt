@@ -5,15 +5,22 @@
 
 mod asked;
 mod checkpoints;
+mod dumps;
+mod copying;
 mod ending;
 mod first;
+mod histories;
 mod keep;
 mod known;
 mod law;
 mod life;
 mod lives;
 mod making;
+mod round_lines;
+mod steps;
+mod records;
 mod telling;
+mod told_multis;
 mod tool;
 mod walked;
 

@@ -6,8 +6,8 @@ ghost use Rattle.life_check.specs.Numbered.{IsNumbered};
 ghost use Rattle.report_check.specs.Keeping.{IsLeft};
 ghost use Rattle.report_check.specs.Walked.{IsWalked};
 
-use crate::keep::Kept;
 use crate::walked::Walked;
+use reply_lines::Kept;
 use std::alloc::Global;
 use tx_model::{LifeReport, Memory};
 

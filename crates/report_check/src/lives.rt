@@ -8,9 +8,10 @@ ghost use Rattle.life_check.specs.Walk.{IsFound};
 ghost use Rattle.report_check.specs.Keeping.{IsLeft, IsLeftBefore};
 ghost use Rattle.report_check.specs.Walked.{IfLawful, IsWalked};
 
-use crate::keep::{Kept, keep_on, nothing_kept};
+use crate::keep::{keep_on, nothing_kept};
 use crate::life::walk_life;
 use crate::walked::{Walked, plus};
+use reply_lines::Kept;
 use std::alloc::Global;
 use tx_model::{LifeReport, Memory};
 

@@ -26,7 +26,8 @@ ghost use Rattle.own_places.specs.Owned.{AreAllOwn, AreInTurn};
 ghost use Rattle.reply_rules.specs.Ends.{IsLogEnd};
 ghost use Rattle.reply_rules.specs.Logs.{AreLogs};
 ghost use Rattle.report_law.specs.Steps.{Judged, gave_multi, lines_of};
-ghost use Rattle.report_check.specs.Known.{LifeAt, RisesFrom, judged_life, told_by, told_lists};
+ghost use Rattle.reply_lines.specs.Known.{told_by, told_lists};
+ghost use Rattle.report_check.specs.Known.{LifeAt, RisesFrom, judged_life};
 
 use crate::keep::add_all_committed;
 use given_counts::{GivenCounts, given_counts};

@@ -3,7 +3,8 @@ ghost use Rattle.std.specs.Prelude.{◌≡◌, ◌++◌, IfOk, OnOk, map};
 ghost use Rattle.std.specs.List.{flat_map};
 ghost use Rattle.tx_model.specs.declared.report.Line.{Line};
 ghost use Rattle.tx_model.specs.Rounds.{lines_in};
-ghost use Rattle.report_check.specs.Known.{is_multi_reply, told_lists};
+ghost use Rattle.reply_lines.specs.Known.{told_lists};
+ghost use Rattle.report_check.specs.Known.{is_multi_reply};
 
 use std::alloc::Global;
 use tx_events::{Memory, SnapData};

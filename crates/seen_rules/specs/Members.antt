@@ -30,3 +30,7 @@ pub record HasOld (next : ℕ) (pairs : List Pair) (oldest : ℕ) : Type 0 where
   pub others : AreGivenBelow next (take number pairs)
   pub normal : 3 ≤ pair.x.number
   pub older : IfSome (near_id next pair.x.number) (λ id. id < oldest)
+
+-- it is so at some place of these
+abbrev pub IsSomewhere : ℕ → ℕ → (ℕ → Type 0) → Type 0
+IsSomewhere from to Q = (p : ℕ) × (from ≤ p) × (p ≤ to) × Q p

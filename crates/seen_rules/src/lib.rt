@@ -1,6 +1,6 @@
 //! The rules of replies on single ids: what a snapshot holds and sees, how an id stands, whether it committed, and which
-//! members a multixact may have. A rule answers false only where no place serves. So a true one is found near where it is
-//! looked for first, and all places are gone through for a false one alone. See docs/CHECKER.md.
+//! members a multixact may have. A rule answers false only where no place serves. A true one is looked for first where it
+//! is likely; all places are gone through for a false one, and where a command has many snapshots. See docs/CHECKER.md.
 #![tactic(auto)]
 
 mod asked;

@@ -2,13 +2,14 @@
 ghost use Rattle.std.specs.Prelude.{◌≡◌, ◌^◌, ◌≤◌, ◌<◌, ◌↔◌, IsTrue, length, take};
 ghost use Rattle.report_law.specs.MultiLines.{IsNotGiven, IsOldMember, MayCarry};
 ghost use Rattle.history_places.specs.Told.{next_in};
-ghost use Rattle.seen_rules.specs.Members.{HasOld, HasUngiven, IsOldPair};
+ghost use Rattle.seen_rules.specs.Members.{HasOld, HasUngiven, IsOldPair, IsSomewhere};
 ghost use Rattle.seen_rules.specs.Runs.{AreReadPlaces, Asked};
 
 use crate::nearest::{is_older, is_ungiven};
 use crate::visible::legal;
 use history_places::HistoryPlaces;
-use tx_events::{FullXid, Xid};
+use place_columns::Span;
+use tx_events::{FullXid, Xid, near};
 use tx_model::Pair;
 
 /// Whether the first of the members that isn't given below `next` is of this stored half.
@@ -62,6 +63,73 @@ fn is_ungiven_at(places: &HistoryPlaces, place: u64, pairs: &[Pair], x: Xid) -> 
     has_ungiven(places.next_at(place), pairs, x)
 }
 
+/// The first place at which the next id was past this number, or where that is of no id past the special ones behind it.
+fn past(places: &HistoryPlaces, number: u64) -> u64 {
+    if let Some(id) = FullXid::new(number) {
+        return places.where_next(id).end;
+    }
+    match FullXid::new(number.saturating_sub(number % 4).saturating_add(3)) {
+        Some(id) => places.where_next(id).from,
+        None => 0,
+    }
+}
+
+/// Where members of this stored half begin to be told otherwise, if that is in the round that ends at `to`: where the id
+/// comes near that it means there, and where this was given. It is but a help to find a place.
+fn turns(places: &HistoryPlaces, to: u64, x: Xid) -> Span
+    requires { to ≤ length places.now.events }
+{
+    legal(places);
+    if x.number < 3 {
+        return Span { from: 0, end: 0 };
+    }
+    match near(places.next_at(to), x) {
+        Some(id) => Span {
+            from: past(places, id.number().saturating_sub(1 << 31)),
+            end: places.where_next(id).end,
+        },
+        None => Span { from: 0, end: 0 },
+    }
+}
+
+/// Whether this place is one from `from` to `to` and the first of the members that isn't given there is of this stored half.
+fn is_ungiven_in(
+    places: &HistoryPlaces,
+    from: u64,
+    to: u64,
+    place: u64,
+    pairs: &[Pair],
+    x: Xid,
+) -> bool
+    requires { to ≤ length places.now.events }
+    ensures { IsTrue result → IsSomewhere from to (λ p. HasUngiven (next_in places.now.base (take p places.now.events)) pairs.now x.number) }
+{
+    if place < from {
+        return false;
+    }
+    if to < place {
+        return false;
+    }
+    is_ungiven_at(places, place, pairs, x)
+}
+
+/// Whether it is so where a member begins to be told otherwise.
+fn is_ungiven_at_turns(places: &HistoryPlaces, from: u64, to: u64, pairs: &[Pair], x: Xid) -> bool
+    requires { to ≤ length places.now.events }
+    ensures { IsTrue result → IsSomewhere from to (λ p. HasUngiven (next_in places.now.base (take p places.now.events)) pairs.now x.number) }
+{
+    for pair in pairs {
+        let at = turns(places, to, pair.x);
+        if is_ungiven_in(places, from, to, at.from, pairs, x) {
+            return true;
+        }
+        if is_ungiven_in(places, from, to, at.end, pairs, x) {
+            return true;
+        }
+    }
+    false
+}
+
 /// Whether a member of this stored half wasn't given where the command may read, from `from` to `to`, and those before it
 /// were.
 pub fn is_not_given(places: &HistoryPlaces, from: u64, to: u64, pairs: &[Pair], x: Xid) -> bool
@@ -74,6 +142,9 @@ pub fn is_not_given(places: &HistoryPlaces, from: u64, to: u64, pairs: &[Pair], 
         return false;
     }
     if is_ungiven_at(places, to, pairs, x) {
+        return true;
+    }
+    if is_ungiven_at_turns(places, from, to, pairs, x) {
         return true;
     }
     for place in from..to {
@@ -90,6 +161,50 @@ fn has_old_at(places: &HistoryPlaces, place: u64, pairs: &[Pair], oldest: FullXi
 {
     legal(places);
     has_old(places.next_at(place), pairs, oldest)
+}
+
+/// Whether this place is one from `from` to `to` and a member is below this oldest id there, with only given ones before it.
+fn has_old_in(
+    places: &HistoryPlaces,
+    from: u64,
+    to: u64,
+    place: u64,
+    pairs: &[Pair],
+    oldest: FullXid,
+) -> bool
+    requires { to ≤ length places.now.events }
+    ensures { IsTrue result → IsSomewhere from to (λ p. HasOld (next_in places.now.base (take p places.now.events)) pairs.now oldest) }
+{
+    if place < from {
+        return false;
+    }
+    if to < place {
+        return false;
+    }
+    has_old_at(places, place, pairs, oldest)
+}
+
+/// Whether it is so where a member begins to be told otherwise.
+fn has_old_at_turns(
+    places: &HistoryPlaces,
+    from: u64,
+    to: u64,
+    pairs: &[Pair],
+    oldest: FullXid,
+) -> bool
+    requires { to ≤ length places.now.events }
+    ensures { IsTrue result → IsSomewhere from to (λ p. HasOld (next_in places.now.base (take p places.now.events)) pairs.now oldest) }
+{
+    for pair in pairs {
+        let at = turns(places, to, pair.x);
+        if has_old_in(places, from, to, at.from, pairs, oldest) {
+            return true;
+        }
+        if has_old_in(places, from, to, at.end, pairs, oldest) {
+            return true;
+        }
+    }
+    false
 }
 
 /// Whether a member was below this oldest id where the command may read, from `from` to `to`, and those before it were
@@ -115,6 +230,9 @@ pub fn is_old_member(
         return false;
     }
     if has_old_at(places, to, pairs, oldest) {
+        return true;
+    }
+    if has_old_at_turns(places, from, to, pairs, oldest) {
         return true;
     }
     for place in from..to {

@@ -1,6 +1,6 @@
 use Rattle.std.proofs.Common.{◌≡◌, ◌++◌, map, take}
 use Rattle.tx_model.specs.declared.report.Line.{Line}
-use Rattle.report_check.specs.Known.{told_lists}
+use Rattle.reply_lines.specs.Known.{told_lists}
 use Rattle.report_check.proofs.telling.add_lists.Given as goal
 
 abbrev pub invariant-loop-line : goal.invariant-loop-line

@@ -2,7 +2,7 @@ use Rattle.std.proofs.Common.{◌≡◌, map, take}
 use Rattle.std.specs.List.{flat_map}
 use Rattle.tx_model.specs.declared.report.Line.{Line}
 use Rattle.tx_model.specs.Rounds.{lines_in}
-use Rattle.report_check.specs.Known.{told_lists}
+use Rattle.reply_lines.specs.Known.{told_lists}
 use Rattle.report_check.proofs.telling.lists_by_lines.Given as goal
 
 abbrev pub invariant-loop-step : goal.invariant-loop-step

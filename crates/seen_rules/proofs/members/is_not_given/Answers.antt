@@ -13,6 +13,14 @@ returns-then-is_ungiven_at g c = (
   λ u. refl,
 )
 
+pub returns-then-is_ungiven_at_turns : goal.returns-then-is_ungiven_at_turns
+returns-then-is_ungiven_at_turns g c =
+    let at = c.is_ungiven_at_turns.ensures c.if-is_ungiven_at_turns.true in (
+      λ t. ungiven_here c.args.places.now.base c.args.places.now.events g.asked.round g.asked.by c.args.from c.args.to c.requires.0 c.args.pairs.now c.args.x.number at.0
+          at.1 at.2 at.3,
+      λ u. refl,
+    )
+
 pub returns-then-is_ungiven_at-2 : goal.returns-then-is_ungiven_at-2
 returns-then-is_ungiven_at-2 g c = (
   λ t. ungiven_here c.args.places.now.base c.args.places.now.events g.asked.round g.asked.by c.args.from c.args.to c.requires.0 c.args.pairs.now c.args.x.number c.loop-place.place

@@ -13,6 +13,14 @@ returns-then-has_old_at g c = (
   λ u. refl,
 )
 
+pub returns-then-has_old_at_turns : goal.returns-then-has_old_at_turns
+returns-then-has_old_at_turns g c =
+    let at = c.has_old_at_turns.ensures c.if-has_old_at_turns.true in (
+      λ t. old_member_here c.args.places.now.base c.args.places.now.events g.asked.round g.asked.by c.args.from c.args.to c.requires.0 c.args.pairs.now c.args.oldest at.0
+          (c.requires.1.1.0 c.if-not-carried.false) at.1 at.2 at.3,
+      λ u. refl,
+    )
+
 pub returns-then-has_old_at-2 : goal.returns-then-has_old_at-2
 returns-then-has_old_at-2 g c = (
   λ t. old_member_here c.args.places.now.base c.args.places.now.events g.asked.round g.asked.by c.args.from c.args.to c.requires.0 c.args.pairs.now c.args.oldest c.loop-place.place

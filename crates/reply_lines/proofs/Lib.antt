@@ -1,0 +1,9 @@
+pub mod Spots
+pub mod Warnings
+pub mod Scans
+pub mod Judging
+pub mod Pushing
+pub mod Snapping
+pub mod Askings
+pub mod Replying
+pub mod Commanding

@@ -1,0 +1,19 @@
+use Rattle.std.proofs.Common.{length}
+use Rattle.report_law.specs.Steps.{IsTooNewAt}
+use Rattle.life_check.proofs.Fronts.{new_whole}
+use Rattle.reply_lines.specs.At.{base_of, history_of, round_of}
+use Rattle.reply_lines.proofs.Spots.{fits, lift, reading_here, reading_within}
+use Rattle.reply_lines.proofs.by_events.is_too_new.Goals as goal
+
+pub is_too_new_at-requires : goal.is_too_new_at-requires
+is_too_new_at-requires g c =
+    (reading_here g.s c.args.known.now c.args.asking c.requires, reading_within g.s c.args.known.now c.args.asking c.requires)
+
+pub returns : goal.returns
+returns g c =
+    let s = g.s in
+    let k = c.args.known.now in
+    let a = c.args.asking in
+    let n = length c.args.known.now.places.events in
+    lift s k a c.requires (λ b h. IsTooNewAt b h (round_of g.s) g.s.asking.by c.args.oldest c.args.limit) c.is_too_new_at.result
+    (new_whole (history_of g.s) n (round_of g.s) (fits s k a c.requires) (base_of g.s) g.s.asking.by c.args.oldest c.args.limit) c.is_too_new_at.ensures

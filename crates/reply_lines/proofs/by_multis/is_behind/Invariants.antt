@@ -1,0 +1,5 @@
+use Rattle.reply_lines.specs.At.{multi_round_of}
+use Rattle.reply_lines.proofs.by_multis.is_behind.Given as goal
+
+abbrev pub ghost-is_multi_backward_at : goal.ghost-is_multi_backward_at
+ghost-is_multi_backward_at g a = record { round = multi_round_of g.s; by = g.s.asking.by }

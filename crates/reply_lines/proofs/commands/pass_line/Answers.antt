@@ -1,0 +1,27 @@
+use Rattle.std.proofs.Common.{◌<◌, ◌∙◌, List, ap, length, subst, sym}
+use Rattle.std.specs.Prelude.{nat_lt}
+use Rattle.tx_events.specs.declared.event.Event.{Event}
+use Rattle.tx_events.specs.declared.multi.MultiEvent.{MultiEvent}
+use Rattle.tx_events.specs.Events.{given}
+use Rattle.life_check.specs.Sessions.{AreBehind}
+use Rattle.reply_lines.specs.At.{lived_at}
+use Rattle.reply_lines.proofs.Askings.{few_sessions}
+use Rattle.reply_lines.proofs.commands.pass_line.Goals as goal
+
+pub add_line-requires : goal.add_line-requires
+add_line-requires g c =
+    let r = c.requires in
+    let known = r.1.0 in
+    let size = r.1.1.1.0 in (
+      subst (λ n. c.args.line.now.by.session < n) (sym size) (few_sessions g.at c.args.known.now c.args.number c.args.line.now known r.1.1.0),
+      (
+        known.tops,
+        (
+          record {
+            given_ids = c.as_slice-3.ensures.value ∙ c.in_ok-ids.ensures ∙ ap (λ (h : List Event). given h) (c.as_slice.ensures.value ∙ c.in_ok-own.ensures);
+            gave_one = c.has_some-gave.ensures ∙ ap (λ (h : List MultiEvent). nat_lt 0 (length h)) (c.as_slice-2.ensures.value ∙ c.in_ok-multis.ensures);
+          },
+          subst (λ n. AreBehind (lived_at g.at) n c.args.sessions.now.items) (sym size) r.1.1.1.1,
+        ),
+      ),
+    )

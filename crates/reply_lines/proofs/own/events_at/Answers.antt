@@ -1,0 +1,29 @@
+use Rattle.std.proofs.Common.{◌∙◌, arith}
+use Rattle.tx_events.specs.Events.{by_of}
+use Rattle.own_events.specs.Lined.{places_of}
+use Rattle.own_events.proofs.Copying.{copied_whole, picked_all, picked_next, place_of_event}
+use Rattle.reply_lines.proofs.own.events_at.Goals as goal
+
+pub offset_bounds-events-place : goal.offset_bounds-events-place
+offset_bounds-events-place c =
+    let n = c.requires.numbers in
+    let l = place_of_event by_of n.0 c.args.number c.loop-place.place-index c.args.events.now c.args.own.now c.places-place-items.result.now n.1 c.places-place-items.ensures c.loop-place-test.true in
+    omega arith
+
+pub bounds-events-place : goal.bounds-events-place
+bounds-events-place c =
+    let n = c.requires.numbers in
+    let l = place_of_event by_of n.0 c.args.number c.loop-place.place-index c.args.events.now c.args.own.now c.places-place-items.result.now n.1 c.places-place-items.ensures c.loop-place-test.true in
+    omega arith
+
+pub loop-place-preserved : goal.loop-place-preserved
+loop-place-preserved c =
+    let n = c.requires.numbers in
+    let l = place_of_event by_of n.0 c.args.number c.loop-place.place-index c.args.events.now c.args.own.now c.places-place-items.result.now n.1 c.places-place-items.ensures c.loop-place-test.true in
+    picked_next c.args.events.now (places_of c.args.number c.args.own.now.numbers) c.places-place-items.result.now c.loop-place.place-index c.in_ok-copy.field-0 c.index-events-place.result c.loop-place.copies.items c.push.new.self.items
+    c.places-place-items.ensures c.loop-place-test.true l c.index-events-place.is c.in_ok-copy.ensures c.loop-place.invariant c.in_ok-push.ensures.items
+
+pub returns : goal.returns
+returns c = λ lines by numbers order at.
+    picked_all c.args.events.now (places_of c.args.number c.args.own.now.numbers) c.places-place-items.result.now c.loop-place.place-index c.loop-place.copies.items c.places-place-items.ensures c.loop-place-test.false c.loop-place.invariant
+    ∙ copied_whole by_of lines c.args.number by c.args.events.now c.args.own.now numbers order at

@@ -1,0 +1,56 @@
+//! What is known of a life before its lines are judged.
+use given_counts::GivenCounts;
+use held_rules::LimitAt;
+use history_places::HistoryPlaces;
+use life_marks::{IdMark, SnapMark};
+use multi_places::{MultiPlaces, Start};
+use multi_verdicts::{Home, Taken};
+use own_events::{LineTable, OwnEvents};
+use own_places::Own;
+use reply_rules::{LogEnd, Logs};
+use std::collections::BTreeSet;
+
+/// What is made once of a life: its lines' numbers, what its histories tell up to the first event that may not come, and
+/// what its log holds.
+#[derive(Drop)]
+pub struct Known {
+    pub table: LineTable,
+    pub events: OwnEvents,
+    pub multis: OwnEvents,
+    pub counts: GivenCounts,
+    /// The legal front of the history.
+    pub places: HistoryPlaces,
+    /// Of each event of it, the snapshot that it takes.
+    pub snaps: Vec<Option<SnapMark>>,
+    /// Each session's events of it.
+    pub turns: Vec<Vec<Own>>,
+    pub marks: Vec<IdMark>,
+    /// How many ids its session has open behind each event of it.
+    pub opened: Vec<u64>,
+    /// The snapshots that each line's command takes in it.
+    pub taken: Vec<Vec<Taken>>,
+    /// The legal front of the multixact events.
+    pub multi_places: MultiPlaces,
+    pub multi_turns: Vec<Vec<Own>>,
+    /// Each session's multixact events come in the order of its commands. False where that isn't known.
+    pub multis_in_turn: bool,
+    pub held: Vec<LimitAt>,
+    /// Of each multixact event, whether its command was answered `ok` with a multixact.
+    pub oks: Vec<bool>,
+    /// The multixacts that were given so behind the legal front.
+    pub late: BTreeSet<u64>,
+    /// The transactions of all commit records.
+    pub tops: BTreeSet<u64>,
+    /// All ids of commit records.
+    pub recorded: BTreeSet<u64>,
+    pub logs: Logs,
+    pub end: LogEnd,
+}
+
+/// What the lives before have left: committed ids, and where recorded multixacts begin and have their members.
+#[derive(Drop)]
+pub struct Kept {
+    pub committed: BTreeSet<u64>,
+    pub starts: Vec<Start>,
+    pub homes: Vec<Home>,
+}

@@ -1,0 +1,48 @@
+//! The events of one line's command.
+ghost use Rattle.std.specs.Prelude.{◌≡◌, ◌≤◌, List, Some, IfOk, length, map, slice_get};
+ghost use Rattle.tx_events.specs.declared.event.By.{By};
+ghost use Rattle.tx_events.specs.Events.{by_of, events_of};
+ghost use Rattle.tx_events.specs.Multis.{multi_by};
+ghost use Rattle.own_events.specs.declared.lines.LineAt.{LineAt};
+ghost use Rattle.own_events.specs.Lined.{AreInOrder, bys_of, numbered};
+ghost use Rattle.report_law.specs.Places.{multis_of};
+
+use own_events::OwnEvents;
+use std::alloc::Global;
+use tx_events::{Copied, Event, Memory, MultiEvent};
+
+/// The events of the command whose line has this number, in order.
+pub fn events_at(
+    alloc: Global,
+    events: &[Event],
+    own: &OwnEvents,
+    number: u64,
+) -> Result<Vec<Event>, Memory>
+    requires numbers { (lines : List LineAt) × (own.now ≡ numbered lines (map by_of events.now)) }
+    requires within { number ≤ length own.now.steps }
+    ensures { IfOk result (λ es. (lines : List LineAt) (by : By) → own.now ≡ numbered lines (map by_of events.now) → AreInOrder (bys_of lines) → slice_get (bys_of lines) number ≡ Some by → es.items ≡ events_of by events.now) }
+{
+    let mut copies = Vec::new(alloc);
+    for place in own.places(number) {
+        copies.push(events[*place as usize].copy()?)?;
+    }
+    Ok(copies)
+}
+
+/// Its multixact events.
+pub fn multis_at(
+    alloc: Global,
+    multis: &[MultiEvent],
+    own: &OwnEvents,
+    number: u64,
+) -> Result<Vec<MultiEvent>, Memory>
+    requires numbers { (lines : List LineAt) × (own.now ≡ numbered lines (map multi_by multis.now)) }
+    requires within { number ≤ length own.now.steps }
+    ensures { IfOk result (λ es. (lines : List LineAt) (by : By) → own.now ≡ numbered lines (map multi_by multis.now) → AreInOrder (bys_of lines) → slice_get (bys_of lines) number ≡ Some by → es.items ≡ multis_of by multis.now) }
+{
+    let mut copies = Vec::new(alloc);
+    for place in own.places(number) {
+        copies.push(multis[*place as usize].copy()?)?;
+    }
+    Ok(copies)
+}

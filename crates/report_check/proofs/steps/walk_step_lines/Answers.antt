@@ -1,0 +1,48 @@
+use Rattle.std.proofs.Common.{◌≡◌, ◌+◌, ◌++◌, [], List, take, ap, subst, sym, ◌∙◌, refl}
+use Rattle.std.specs.List.{flat_map}
+use Rattle.std.proofs.lemmas.Result.{IfOk-weaker}
+use Rattle.tx_model.specs.declared.report.Line.{Line}
+use Rattle.tx_model.specs.declared.report.Step.{Step}
+use Rattle.tx_model.specs.declared.report.Step.TheVariants as steps
+use Rattle.tx_model.specs.Rounds.{lines_in}
+use Rattle.report_law.specs.ReportLines.{checkpoint, dump, step_lines}
+use Rattle.report_check.specs.Passing.{IsPassed}
+use Rattle.report_check.specs.Stepping.{steps_before}
+use Rattle.report_check.specs.Walked.{IfLawful, IsWalked, is_lawful}
+use Rattle.report_check.specs.declared.walked.Walked.{Walked}
+use Rattle.report_check.proofs.StepByStep.{always_if, if_same, lines_more, none_more}
+use Rattle.report_check.proofs.steps.walk_step_lines.Goals as goal
+
+pub returns-in_ok-walk_round-in-Round-clause-passed : goal.returns-in_ok-walk_round-in-Round-clause-passed
+returns-in_ok-walk_round-in-Round-clause-passed g c =
+    let told = c.requires.1.1.1.1.1.0 in
+    let v : Walked = c.in_ok-walk_round-in-Round.field-0 in
+    let passed : IfLawful v (IsPassed g.of.j (flat_map lines_in (take (g.of.round + 1) g.of.j.steps)) c.walk_round.new.passed) =
+    subst (λ (t : List Line). IfLawful v (IsPassed g.of.j t c.walk_round.new.passed)) (lines_more g.of.j g.of.round g.of.step told) c.in_ok-walk_round-in-Round.ensures.passed in
+    IfOk-weaker c.behind_plain.result (λ (w : Walked). is_lawful w ≡ is_lawful v) (λ (w : Walked). IfLawful w (IsPassed g.of.j (flat_map lines_in (take (g.of.round + 1) g.of.j.steps)) c.walk_round.new.passed))
+    (λ w e. if_same v w (IsPassed g.of.j (flat_map lines_in (take (g.of.round + 1) g.of.j.steps)) c.walk_round.new.passed) e passed) c.behind_plain.ensures.same
+
+pub returns-in-Checkpoint-clause-walked : goal.returns-in-Checkpoint-clause-walked
+returns-in-Checkpoint-clause-walked g c =
+    let is : g.of.step ≡ steps.Checkpoint c.in-Checkpoint.reply = sym c.requires.1.1.1.1.1.1.0 ∙ c.in-Checkpoint.is in
+    subst (λ (s : Step). IsWalked (step_lines g.of.j (steps_before g.of) s) c.one_line.result) (sym is) (c.one_line.ensures (checkpoint g.of.j (steps_before g.of) c.in-Checkpoint.reply) c.is_lawful_there.ensures)
+
+pub returns-in-Checkpoint-clause-passed : goal.returns-in-Checkpoint-clause-passed
+returns-in-Checkpoint-clause-passed g c =
+    let told = c.requires.1.1.1.1.1.0 in
+    let is : g.of.step ≡ steps.Checkpoint c.in-Checkpoint.reply = sym c.requires.1.1.1.1.1.1.0 ∙ c.in-Checkpoint.is in
+    always_if c.one_line.result (IsPassed g.of.j (flat_map lines_in (take (g.of.round + 1) g.of.j.steps)) c.args.passed.now)
+    (subst (λ (t : List Line). IsPassed g.of.j t c.args.passed.now) (none_more g.of.j g.of.round g.of.step told (ap lines_in is)) c.requires.1.1.1.1.1.1.1.1.0)
+
+pub returns-in-Dump-clause-walked : goal.returns-in-Dump-clause-walked
+returns-in-Dump-clause-walked g c =
+    let is : g.of.step ≡ steps.Dump c.in-Dump.what c.in-Dump.at c.in-Dump.length c.in-Dump.reply = sym c.requires.1.1.1.1.1.1.0 ∙ c.in-Dump.is in
+    subst (λ (s : Step). IsWalked (step_lines g.of.j (steps_before g.of) s) c.one_line-in-Dump.result) (sym is)
+    (c.one_line-in-Dump.ensures (dump g.of.j (steps_before g.of) c.in-Dump.what c.in-Dump.at c.in-Dump.length c.in-Dump.reply) c.is_lawful_dump.ensures)
+
+pub returns-in-Dump-clause-passed : goal.returns-in-Dump-clause-passed
+returns-in-Dump-clause-passed g c =
+    let told = c.requires.1.1.1.1.1.0 in
+    let is : g.of.step ≡ steps.Dump c.in-Dump.what c.in-Dump.at c.in-Dump.length c.in-Dump.reply = sym c.requires.1.1.1.1.1.1.0 ∙ c.in-Dump.is in
+    always_if c.one_line-in-Dump.result (IsPassed g.of.j (flat_map lines_in (take (g.of.round + 1) g.of.j.steps)) c.args.passed.now)
+    (subst (λ (t : List Line). IsPassed g.of.j t c.args.passed.now) (none_more g.of.j g.of.round g.of.step told (ap lines_in is)) c.requires.1.1.1.1.1.1.1.1.0)

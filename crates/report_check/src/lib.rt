@@ -5,6 +5,7 @@
 
 mod asked;
 mod checkpoints;
+mod copying;
 mod ending;
 mod first;
 mod keep;
@@ -14,6 +15,7 @@ mod life;
 mod lives;
 mod making;
 mod telling;
+mod told_multis;
 mod tool;
 mod walked;
 

@@ -1,8 +1,9 @@
 //! What the tests share: runs of the tool on a script in memory, and what they are held against.
 use disk_core::MemMedia;
 use engine_parts::{Gate, OpenGate};
+use report_check::check_tool;
 use session_run::{RoundThreads, run_tool};
-use std::alloc::AllocGlobal;
+use std::alloc::{AllocGlobal, Global};
 use std::process::Abort;
 use std::sync::Wait;
 use std::test::Fail;
@@ -97,6 +98,13 @@ pub fn check_run(
     assert_eq!(rt; status, wanted.0);
     assert_eq!(rt; held.as_slice(), wanted.1.as_bytes());
     Ok(())
+}
+
+/// Whether the checker calls the report lawful.
+pub fn is_lawful(alloc: Global, report: &str) -> Result<bool, Fail> {
+    let mut source = MemSource::new(Vec::from_slice(alloc, report.as_bytes())?, Vec::new(alloc));
+    let mut sink = MemSink::new(alloc, 100, Vec::new(alloc))?;
+    Ok(check_tool(alloc, &mut source, &mut sink) == 0 && sink.held() == b"lawful\n")
 }
 
 /// The report that a run of the script writes, with status 0.

@@ -107,7 +107,7 @@ pub fn is_lawful(alloc: Global, report: &str) -> Result<bool, Fail> {
     Ok(check_tool(alloc, &mut source, &mut sink) == 0 && sink.held() == b"lawful\n")
 }
 
-/// The report that a run of the script writes, with status 0.
+/// The report that a run of the script writes, with status 0. It is lawful to the checker.
 fn report_of(
     rt: &(impl AllocGlobal + Threads + Wait + Sync),
     script: &str,
@@ -116,7 +116,11 @@ fn report_of(
     if status != 0 {
         return Err(Fail::from("the status isn't 0"));
     }
-    Ok(String::from_utf8(held).ok().ok_or("the report isn't text")?)
+    let report = String::from_utf8(held).ok().ok_or("the report isn't text")?;
+    if !is_lawful(rt.alloc(), report.as_str())? {
+        return Err(Fail::from("the report isn't lawful"));
+    }
+    Ok(report)
 }
 
 /// The script's report is this text.

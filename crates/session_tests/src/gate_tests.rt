@@ -1,5 +1,5 @@
 //! Gates: sessions that are held up in an order which no thread alone could take, and that each critical section passes.
-use crate::test_help::report_past;
+use crate::test_help::{is_lawful, report_past};
 use engine_parts::Gate;
 use session_run::RoundThreads;
 use std::alloc::{AllocGlobal, Global};
@@ -95,6 +95,7 @@ end
     let one = format!(in rt.alloc(); "{head}snap a 3 s\nsnap b 3 t\n{tail}")?;
     let other = format!(in rt.alloc(); "{head}snap b 3 t\nsnap a 3 s\n{tail}")?;
     assert!(rt; report == one || report == other, "{report}");
+    assert!(rt; is_lawful(rt.alloc(), report.as_str())?);
     Ok(())
 }
 
@@ -188,6 +189,7 @@ fn gate_sees_every_section(rt: HostRuntime) -> Result<(), Fail> {
     assert_eq!(rt; report.matches(" -> visible\n").count(), 18);
     assert_eq!(rt; report.matches(" -> hidden\n").count(), 6);
     assert!(rt; report.contains("r 26 drop s -> ok\n"));
+    assert!(rt; is_lawful(rt.alloc(), report.as_str())?);
     assert!(rt; !gate.is_wrong.load(Ordering::SeqCst));
     for session in 0..12 {
         for command in [2, 4, 6] {

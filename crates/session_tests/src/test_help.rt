@@ -1,8 +1,9 @@
 //! What the tests share: runs of the tool on a script in memory, and what they are held against.
 use disk_core::MemMedia;
 use engine_parts::{Gate, OpenGate};
+use report_check::check_tool;
 use session_run::{RoundThreads, run_tool};
-use std::alloc::AllocGlobal;
+use std::alloc::{AllocGlobal, Global};
 use std::process::Abort;
 use std::sync::Wait;
 use std::test::Fail;
@@ -99,7 +100,14 @@ pub fn check_run(
     Ok(())
 }
 
-/// The report that a run of the script writes, with status 0.
+/// Whether the checker calls the report lawful.
+pub fn is_lawful(alloc: Global, report: &str) -> Result<bool, Fail> {
+    let mut source = MemSource::new(Vec::from_slice(alloc, report.as_bytes())?, Vec::new(alloc));
+    let mut sink = MemSink::new(alloc, 100, Vec::new(alloc))?;
+    Ok(check_tool(alloc, &mut source, &mut sink) == 0 && sink.held() == b"lawful\n")
+}
+
+/// The report that a run of the script writes, with status 0. It is lawful to the checker.
 fn report_of(
     rt: &(impl AllocGlobal + Threads + Wait + Sync),
     script: &str,
@@ -108,7 +116,11 @@ fn report_of(
     if status != 0 {
         return Err(Fail::from("the status isn't 0"));
     }
-    Ok(String::from_utf8(held).ok().ok_or("the report isn't text")?)
+    let report = String::from_utf8(held).ok().ok_or("the report isn't text")?;
+    if !is_lawful(rt.alloc(), report.as_str())? {
+        return Err(Fail::from("the report isn't lawful"));
+    }
+    Ok(report)
 }
 
 /// The script's report is this text.

@@ -5,8 +5,8 @@
 
 mod asked;
 mod checkpoints;
-mod dumps;
 mod copying;
+mod dumps;
 mod ending;
 mod first;
 mod histories;
@@ -16,9 +16,9 @@ mod law;
 mod life;
 mod lives;
 mod making;
+mod records;
 mod round_lines;
 mod steps;
-mod records;
 mod telling;
 mod told_multis;
 mod tool;

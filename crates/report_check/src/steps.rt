@@ -50,7 +50,7 @@ fn one_line(lawful: bool) -> Walked
 }
 
 /// The same with a line before it that the grammar alone judges.
-fn behind_plain(walked: Walked) -> Result<Walked, Memory>
+pub fn behind_plain(walked: Walked) -> Result<Walked, Memory>
     ensures walked { IfOk result (λ w. (xs : List ReportLine) → IsWalked xs walked → IsWalked (plain ∷ xs) w) }
     ensures same { IfOk result (λ w. is_lawful w ≡ is_lawful walked) }
 {

@@ -40,14 +40,14 @@ fn checked(
 }
 
 /// Whether a check of the text ends with this status and this line.
-fn ends(alloc: Global, text: &str, status: u8, line: &str) -> Result<bool, Fail> {
+pub fn ends(alloc: Global, text: &str, status: u8, line: &str) -> Result<bool, Fail> {
     let bytes = Vec::from_slice(alloc, text.as_bytes())?;
     let (answered, written) = checked(alloc, bytes, Vec::new(alloc), 100)?;
     Ok(answered == status && written.as_str() == line)
 }
 
 /// The report with the one place that has these words changed.
-fn changed(alloc: Global, report: &str, old: &str, new: &str) -> Result<String, Fail> {
+pub fn changed(alloc: Global, report: &str, old: &str, new: &str) -> Result<String, Fail> {
     let at = report.find(old).ok_or("no such words")?;
     let mut text = String::new(alloc);
     text.push_str(&report[..at])?;

@@ -3,3 +3,7 @@
 
 #[cfg(test)]
 mod judge_tests;
+#[cfg(test)]
+mod multi_rows;
+#[cfg(test)]
+mod run_rows;

@@ -1,5 +1,5 @@
 -- A slot that was read of a bank holds the member that stands there.
-use Rattle.std.proofs.Common.{◌≡◌, ⊎_elim, inl, ℕ, zero, suc, ◌+◌, ◌-◌, ◌%◌, ◌^◌, ◌≤◌, ◌<◌, ◌==◌, Bool, false, cond, IsTrue, List, [], ◌∷◌, slice_index, Option, None, Some, Contains, length, refl, sym, ap, subst, ◌∙◌, arith}
+use Rattle.std.proofs.Common.{inr, ◌⊎◌, ◌≡◌, ⊎_elim, inl, ℕ, zero, suc, ◌+◌, ◌-◌, ◌%◌, ◌^◌, ◌≤◌, ◌<◌, ◌==◌, Bool, false, cond, IsTrue, List, [], ◌∷◌, slice_index, Option, None, Some, Contains, length, refl, sym, ap, subst, ◌∙◌, arith}
 use Rattle.std.proofs.Math.Seq.{take-length}
 use Rattle.std.proofs.lemmas.Bool.Decides.{nat_tests}
 use Rattle.std.specs.List.{filter_map, flat_map, last_or, slice_get}
@@ -14,7 +14,8 @@ use Rattle.multi_members.specs.declared.slot.Slot.{Slot}
 use Rattle.multi_members.specs.declared.slot.Slot.TheVariants as found
 use Rattle.multi_members.specs.Runs.{slots_on}
 use Rattle.multi_members.specs.Slots.{slot_of, used_slot}
-use Rattle.tx_events.proofs.Membership.{Has, all_at, contains_has, has_filter_map, has_flat_map}
+use Rattle.tx_events.proofs.Membership.{Has, all_at, contains_has, has_contains, has_filter_map, has_flat_map, place_has}
+use Rattle.tx_events.specs.After.{ids_of}
 use Rattle.tx_events.specs.Base.{IsBase}
 use Rattle.tx_events.specs.Ids.{low_half}
 use Rattle.tx_events.specs.Modes.{mode_number, mode_of}
@@ -22,15 +23,18 @@ use Rattle.tx_events.specs.Multis.{free_offset, oldest_offset}
 use Rattle.tx_events.specs.declared.multi.Member.{Member}
 use Rattle.tx_events.specs.declared.multi.Mode.{Mode}
 use Rattle.tx_events.specs.declared.multi.Mode.TheVariants as modes
+use Rattle.tx_events.specs.declared.record.Rec.TheVariants as records
 use Rattle.tx_core.specs.declared.entry.Entry.{Entry}
+use Rattle.tx_core.specs.declared.entry.Kind.TheVariants as kinds
 use Rattle.tx_core.specs.declared.entry.Start.{Start}
 use Rattle.tx_core.specs.CleanMultis.{CleanMembers}
 use Rattle.tx_core.specs.EngineInvariant.{EngineInvariant}
-use Rattle.tx_core.specs.Locks.{members_lock, members_lock_of}
+use Rattle.tx_core.specs.Locks.{log_lock, members_lock, members_lock_of}
 use Rattle.tx_core.specs.MembersBeforeOffset.{NeedsSlots, SlotOf}
 use Rattle.tx_core.specs.MultiEntries.{AreFewMultis, IsSlotSet, SetSlot, multi_history, slots_in}
 use Rattle.tx_core.specs.Pages.{member_store, pages_after}
 use Rattle.tx_core.specs.StoredBytes.{StoredBytes, byte_held, byte_of, slot_bytes, slot_bytes_for, stored_members}
+use Rattle.tx_core.specs.RecordsFollow.{NeedsNamed}
 use Rattle.tx_core.proofs.Asking.{upheld_has}
 use Rattle.tx_core.proofs.MultiOrder.{ordered}
 use Rattle.tx_core.proofs.Nearness.{free_upto, made_near, multis_are_legal}
@@ -38,7 +42,7 @@ use Rattle.recoverable.proofs.BytesShow.{in_id, last_some, member_bytes_show, sl
 use Rattle.engine_parts.specs.Parts.{IsMembersOf}
 use Rattle.engine_parts.specs.Shelf.{ArePagesNear, IsReadNow, shows_on}
 use Rattle.engine_parts.specs.Shelves.{member_shelf, slot_held, word_held}
-use Rattle.multi_banks.specs.Members.{HasMember, IsRecordedMember, IsSlotRead, SharePage}
+use Rattle.multi_banks.specs.Members.{IsRecordedMember, IsSlotRead, SharePage}
 use Rattle.multi_banks.proofs.Adding.{place_within, share_lock, share_stored}
 use Rattle.multi_banks.proofs.Coursing.{same_last}
 use Rattle.multi_banks.proofs.Later.{share_fits}
@@ -46,7 +50,11 @@ use Rattle.multi_banks.proofs.OffsetSeen.{word_of_bytes}
 use Rattle.multi_banks.proofs.Seeing.{filter_map_has}
 use Rattle.multi_banks.proofs.Uncut.{member_held}
 
--- ---- slots as they are read
+-- ---- members and their slots
+
+ids_has : (members : List Member) (member : Member) → Has members member → Has (ids_of members) member.id
+ids_has [] member k = absurd k
+ids_has (m ∷ ms) member k = ⊎_elim (λ (q : m ≡ member). inl (ap (λ (z : Member). z.id) q)) (λ t. inr (ids_has ms member t)) k
 
 pub slots_long : (bytes : List ℕ) (place count : ℕ) → length (slots_on bytes place count) ≡ count
 slots_long bytes place zero = refl
@@ -192,12 +200,26 @@ module _ (start : Start) (lists : List (List Entry)) (x bank : ℕ) (base : IsBa
           let behind = s.behind in
           absurd (let b = below in omega (arith, z, from, behind, b))
 
+  abbrev HasMember : Member → Type 0
+  HasMember member = IsSlotSet start lists x member ⊎ IsRecordedMember start x member
+
+  -- the id of a member that was set is a full one
+  set_full : (member : Member) → IsSlotSet start lists x member → 1 ≤ low_half member.id
+  set_full member set =
+      let t = slot_here member set in
+      let s = slot_given t.0 t.1 in
+      let a = s.recorded.appended in
+      let e : Entry = record { by = a.0; kind = kinds.Append (records.Multi s.multi s.first s.members) } in
+      let named = (upheld_has (NeedsNamed start) lists log_lock e k.log.named (contains_has (at lists log_lock) e a.2)).1 in
+      let full : 3 ≤ low_half t.0.member.id = named.2 t.0.member.id (has_contains (ids_of s.members) t.0.member.id (ids_has s.members t.0.member (place_has s.members (t.0.offset - s.first) t.0.member s.member))) in
+      subst (λ (m : Member). 1 ≤ low_half m.id) t.3 (omega (arith, full))
+
   -- the offset of a member that stands is one in use
   record InUse : Type 0 where
     from : start.base.oldest_offset ≤ x
     to : x ≤ free_offset start.base.offset (multi_history lists)
 
-  in_use : (before : ℕ → Option StoredBytes) (member : Member) → CleanMembers start before → HasMember start lists x member → InUse
+  in_use : (before : ℕ → Option StoredBytes) (member : Member) → CleanMembers start before → HasMember member → InUse
   in_use before member clean has = ⊎_elim
       (λ (set : IsSlotSet start lists x member).
       let t = slot_here member set in
@@ -220,7 +242,7 @@ module _ (start : Start) (lists : List (List Entry)) (x bank : ℕ) (base : IsBa
       record { from = omega arith; to = omega arith })
       has
 
-  held : (before : ℕ → Option StoredBytes) (member : Member) → CleanMembers start before → HasMember start lists x member → slot_held (last_or (before x) (filter_map (slot_bytes_for x) slots)) ≡ (mode_number member.mode, low_half member.id)
+  held : (before : ℕ → Option StoredBytes) (member : Member) → CleanMembers start before → HasMember member → slot_held (last_or (before x) (filter_map (slot_bytes_for x) slots)) ≡ (mode_number member.mode, low_half member.id)
   held before member clean has = ⊎_elim
       (λ (set : IsSlotSet start lists x member).
       let t = slot_here member set in
@@ -229,9 +251,9 @@ module _ (start : Start) (lists : List (List Entry)) (x bank : ℕ) (base : IsBa
       has
 
 module _ {P O : Type 0} {g : disks.Ghosts P} {r : rules.Ghosts O} where
-  slot_seen : (start : Start) (lists : List (List Entry)) (bank : ℕ) (store : SlruBank P O g r) (x : ℕ) (slot : Slot) → IsBase start.base → EngineInvariant start lists → IsMembersOf start bank store (at lists (members_lock bank)) → members_lock_of start x ≡ members_lock bank → IsTrue g.tells → AreFewMultis lists
-      → oldest_offset start.base.oldest_offset (multi_history lists) ≤ x → slot ≡ slot_of (slice_index (pages_of store (member_page_of x)) (mode_place_of x)) (number_in (pages_of store (member_page_of x)) (member_place_of x)) → IsSlotRead start lists x slot
-  slot_seen start lists bank store x slot base k s here told few announced is member has full =
+  member_seen : (start : Start) (lists : List (List Entry)) (bank : ℕ) (store : SlruBank P O g r) (x : ℕ) (slot : Slot) → IsBase start.base → EngineInvariant start lists → IsMembersOf start bank store (at lists (members_lock bank)) → members_lock_of start x ≡ members_lock bank → IsTrue g.tells → AreFewMultis lists
+      → oldest_offset start.base.oldest_offset (multi_history lists) ≤ x → slot ≡ slot_of (slice_index (pages_of store (member_page_of x)) (mode_place_of x)) (number_in (pages_of store (member_page_of x)) (member_place_of x)) → (member : Member) → IsSlotSet start lists x member ⊎ IsRecordedMember start x member → 1 ≤ low_half member.id → slot ≡ found.Is (record { number = low_half member.id }) member.mode
+  member_seen start lists bank store x slot base k s here told few announced is member has full =
       let es = at lists (members_lock bank) in
       let old = s.stands.shown told (members_near start lists bank k few) in
       let bounds = in_use start lists x bank base k here old.0 member old.1 has in
@@ -251,6 +273,15 @@ module _ {P O : Type 0} {g : disks.Ghosts P} {r : rules.Ghosts O} where
     where
       bank_at : (start : Start) (x bank : ℕ) → members_lock_of start x ≡ members_lock bank → member_page_of x % start.banks ≡ bank
       bank_at start x bank q = omega arith
+
+  slot_seen : (start : Start) (lists : List (List Entry)) (bank : ℕ) (store : SlruBank P O g r) (x : ℕ) (slot : Slot) → IsBase start.base → EngineInvariant start lists → IsMembersOf start bank store (at lists (members_lock bank)) → members_lock_of start x ≡ members_lock bank → IsTrue g.tells → AreFewMultis lists
+      → oldest_offset start.base.oldest_offset (multi_history lists) ≤ x → slot ≡ slot_of (slice_index (pages_of store (member_page_of x)) (mode_place_of x)) (number_in (pages_of store (member_page_of x)) (member_place_of x)) → IsSlotRead start lists x slot
+  slot_seen start lists bank store x slot base k s here told few announced is =
+      let seen = member_seen start lists bank store x slot base k s here told few announced is in
+      record {
+        set = λ member set. seen member (inl set) (set_full start lists x bank base k here member set);
+        recorded = λ member m full. seen member (inr m) full;
+      }
 
   pub slots_seen : (start : Start) (lists : List (List Entry)) (bank : ℕ) (store : SlruBank P O g r) (offset count : ℕ) → IsBase start.base → EngineInvariant start lists → IsMembersOf start bank store (at lists (members_lock bank)) → members_lock_of start offset ≡ members_lock bank → 1 ≤ count → SharePage offset count → IsTrue g.tells
       → oldest_offset start.base.oldest_offset (multi_history lists) ≤ offset → AreFewMultis lists → (k : ℕ) (slot : Slot) → slice_get (slots_on (pages_of store (member_page_of offset)) (low_half offset % 1636) count) k ≡ Some slot → IsSlotRead start lists (offset + k) slot

@@ -1,5 +1,5 @@
 -- What a bank of members says of the slots of a page, by the bank's list, in a life of few.
-use Rattle.std.specs.Prelude.{◌≡◌, ◌⊎◌, ℕ, ◌+◌, ◌<◌, ◌≤◌, List, [], ◌∷◌, Some, Contains, slice_get}
+use Rattle.std.specs.Prelude.{◌≡◌, ℕ, ◌+◌, ◌<◌, ◌≤◌, List, [], ◌∷◌, Some, Contains, slice_get}
 use Rattle.tx_events.specs.Ids.{low_half}
 use Rattle.tx_events.specs.declared.event.By.{By}
 use Rattle.tx_events.specs.declared.multi.Member.{Member}
@@ -34,16 +34,13 @@ pub record IsRecordedMember (start : Start) (offset : ℕ) (member : Member) : T
   pub among : slice_get members place ≡ Some member
   pub at : first + place ≡ offset
 
--- the member at an offset stands: it was set, or is recorded from before the life
-abbrev pub HasMember : Start → List (List Entry) → ℕ → Member → Type 0
-HasMember start lists offset member = IsSlotSet start lists offset member ⊎ IsRecordedMember start offset member
-
 -- A slot that was read holds the member that stands there: its mode, and the low half of its id. An id of low half 0 is
 -- stored as none; no full id has it.
-abbrev pub IsSlotRead : Start → List (List Entry) → ℕ → Slot → Type 0
-IsSlotRead start lists offset slot =
-    (member : Member) → HasMember start lists offset member → 1 ≤ low_half member.id
-    → slot ≡ found.Is (record { number = low_half member.id }) member.mode
+pub record IsSlotRead (start : Start) (lists : List (List Entry)) (offset : ℕ) (slot : Slot) : Type 0 where
+  pub set : (member : Member) → IsSlotSet start lists offset member
+      → slot ≡ found.Is (record { number = low_half member.id }) member.mode
+  pub recorded : (member : Member) → IsRecordedMember start offset member → 1 ≤ low_half member.id
+      → slot ≡ found.Is (record { number = low_half member.id }) member.mode
 
 -- these slots were read from an offset on
 abbrev pub AreSlotsRead : Start → List (List Entry) → ℕ → List Slot → Type 0

@@ -5,7 +5,6 @@ ghost use Rattle.multi_members.specs.declared.slot.Slot.{Slot};
 ghost use Rattle.notes.specs.Lists.{at};
 ghost use Rattle.slru_bank.specs.declared.refusal.BankRefusal.TheVariants.{Cut, DiskFault};
 ghost use Rattle.store_pages.specs.Layouts.{member_page_of};
-ghost use Rattle.tx_events.specs.Ids.{low_half};
 ghost use Rattle.tx_events.specs.Multis.{free_offset, oldest_offset};
 ghost use Rattle.tx_events.specs.declared.multi.Member.{Member};
 ghost use Rattle.tx_core.specs.declared.entry.Kind.TheVariants as kinds;

@@ -27,3 +27,5 @@ pub mod Horizons
 pub mod Visibility
 pub mod ParentLines
 pub mod ModeNumbers
+pub mod Searching
+pub mod SaysLemmas

@@ -2,9 +2,11 @@
 ghost use Rattle.std.specs.Prelude.{◌^◌, ◌<◌};
 ghost use Rattle.tx_events.specs.Limits.{stop_limit, warn_limit};
 ghost use Rattle.tx_events.specs.declared.refusal.Refusal.TheVariants as refusals;
-ghost use Rattle.horizon_limits.specs.Checks.{IsCheck};
+ghost use Rattle.tx_events.specs.Checks.{IsCheck};
 
-use tx_events::{FullXid, Limits, Refusal};
+use crate::full_xid::FullXid;
+use crate::limits::Limits;
+use crate::refusal::Refusal;
 
 /// Whether the id `next` is given with a warning, under an oldest id below 2^63. Refused with `Stop` exactly where it
 /// is at or past the stop limit (`GetNewTransactionId`).

@@ -2,7 +2,7 @@
 ghost use Rattle.std.specs.Prelude.{◌≡◌};
 ghost use Rattle.tx_events.specs.IdLists.{has, Ascending};
 
-use tx_events::FullXid;
+use crate::full_xid::FullXid;
 
 /// Whether the id is among these, which ascend. At most the logarithm of their number of comparisons.
 pub fn is_listed(ids: &[FullXid], x: FullXid) -> bool

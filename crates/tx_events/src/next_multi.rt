@@ -2,9 +2,11 @@
 ghost use Rattle.std.specs.Prelude.{◌^◌, ◌<◌};
 ghost use Rattle.tx_events.specs.Limits.{multi_stop_limit, multi_warn_limit};
 ghost use Rattle.tx_events.specs.declared.refusal.Refusal.TheVariants as refusals;
-ghost use Rattle.horizon_limits.specs.Checks.{IsCheck};
+ghost use Rattle.tx_events.specs.Checks.{IsCheck};
 
-use tx_events::{FullMulti, MultiLimits, Refusal};
+use crate::full_multi::FullMulti;
+use crate::multi_limits::MultiLimits;
+use crate::refusal::Refusal;
 
 /// Whether the multixact `next` is given with a warning, under an oldest multixact below 2^63. Refused with
 /// `MultiStop` exactly where it is at or past the stop limit (`GetNewMultiXactId`).

@@ -1,10 +1,11 @@
 //! What a snapshot tells of when an id ended: by its limits, and by its lists where they hold the id.
 ghost use Rattle.std.specs.Prelude.{◌≡◌};
 ghost use Rattle.tx_events.specs.IdLists.{Ascending};
-ghost use Rattle.snap_core.specs.Says.{says_of, SaysRight};
+ghost use Rattle.tx_events.specs.Says.{says_of, SaysRight};
 
+use crate::full_xid::FullXid;
 use crate::listed::is_listed;
-use tx_events::{FullXid, SnapData};
+use crate::snapshot::SnapData;
 
 /// How an id stood when the snapshot was taken.
 #[derive(Clone, Copy, Debug, PartialEq, Eq)]

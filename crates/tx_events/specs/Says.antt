@@ -7,8 +7,8 @@ use Rattle.tx_events.specs.Running.{running}
 use Rattle.tx_events.specs.History.{IsLegal}
 use Rattle.tx_events.specs.Snapshots.{snapshot_data, snapshot_xmin, snapshot_xmax, is_overflowed}
 use Rattle.tx_events.specs.IdLists.{has}
-use Rattle.snap_core.specs.declared.snapshot.Says.{Says}
-use Rattle.snap_core.specs.declared.snapshot.Says.TheVariants as says
+use Rattle.tx_events.specs.declared.said.Says.{Says}
+use Rattle.tx_events.specs.declared.said.Says.TheVariants as says
 
 -- the steps of the answer
 abbrev pub says_of : SnapData → ℕ → Says

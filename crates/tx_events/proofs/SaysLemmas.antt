@@ -1,9 +1,9 @@
 -- What a snapshot says of an id is so.
 use Rattle.std.proofs.Math.Bool.{and-true}
 use Rattle.tx_events.proofs.Extremes.{fold_min_has, fold_min_start}
-use Rattle.snap_core.specs.Says.{says_of, IsSaid, SaysRight}
-use Rattle.snap_core.specs.Sights.{IsTopSightRight, top_sight_by}
-use Rattle.snap_core.specs.declared.snapshot.Says.{Says}
+use Rattle.tx_events.specs.Says.{says_of, IsSaid, SaysRight}
+use Rattle.tx_events.specs.Sights.{IsTopSightRight, top_sight_by}
+use Rattle.tx_events.specs.declared.said.Says.{Says}
 use Rattle.std.proofs.Common.{◌≡◌, ℕ, ◌<◌, ◌≤◌, List, [], refl, ap, sym, ◌∙◌, arith, Bool, true, false, not, ◌&&◌, ◌==◌, ◌||◌, cond, subst, inl, inr, nat_lt, lt-ltb, ltb-true, ltb-false}
 use Rattle.std.proofs.lemmas.Bool.{false≢true}
 use Rattle.std.specs.List.{filter, list_any}
@@ -20,7 +20,7 @@ use Rattle.tx_events.specs.Snapshots.{snapshot_xmax, snapshot_xips, snapshot_sub
 use Rattle.tx_events.specs.declared.event.Event.{Event}
 use Rattle.tx_events.specs.declared.record.Counters.{Counters}
 use Rattle.tx_events.specs.declared.snapshot.SnapData.{SnapData}
-use Rattle.snap_core.specs.declared.snapshot.Says.TheVariants as says
+use Rattle.tx_events.specs.declared.said.Says.TheVariants as says
 
 -- below the limit, the lists hold what is running
 lists_hold : (first : ℕ) (h : List Event) (x : ℕ) → IsSound first h → is_overflowed first h ≡ false → x < snapshot_xmax first h →

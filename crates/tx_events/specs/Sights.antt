@@ -8,11 +8,11 @@ use Rattle.tx_events.specs.IdLists.{has}
 use Rattle.tx_events.specs.Running.{running}
 use Rattle.tx_events.specs.Snapshots.{snapshot_data, snapshot_xmax}
 use Rattle.tx_events.specs.declared.snapshot.SnapData.{SnapData}
-use Rattle.snap_core.specs.declared.sight.Sight.{Sight}
-use Rattle.snap_core.specs.declared.sight.Sight.TheVariants as sights
-use Rattle.snap_core.specs.declared.snapshot.Says.{Says}
-use Rattle.snap_core.specs.declared.snapshot.Says.TheVariants as says
-use Rattle.snap_core.specs.Says.{SaysRight, says_of}
+use Rattle.tx_events.specs.declared.sight.Sight.{Sight}
+use Rattle.tx_events.specs.declared.sight.Sight.TheVariants as sights
+use Rattle.tx_events.specs.declared.said.Says.{Says}
+use Rattle.tx_events.specs.declared.said.Says.TheVariants as says
+use Rattle.tx_events.specs.Says.{SaysRight, says_of}
 
 abbrev pub sight_said : Says → Sight
 sight_said says.Ended = sights.Seen

@@ -3,11 +3,12 @@
 //! that reads parents from pages may wait and fail between them.
 ghost use Rattle.std.specs.Prelude.{◌≡◌, ◌<◌, true};
 ghost use Rattle.tx_events.specs.IdLists.{Ascending};
-ghost use Rattle.snap_core.specs.Sights.{IsSightRight, IsTopSightRight, sight_by, top_sight_by};
+ghost use Rattle.tx_events.specs.Sights.{IsSightRight, IsTopSightRight, sight_by, top_sight_by};
 
+use crate::full_xid::FullXid;
 use crate::listed::is_listed;
-use crate::snapshot::{Says, said_of};
-use tx_events::{FullXid, SnapData};
+use crate::said::{Says, said_of};
+use crate::snapshot::SnapData;
 
 /// What a snapshot shows of an id.
 #[derive(Clone, Copy, Debug, PartialEq, Eq)]

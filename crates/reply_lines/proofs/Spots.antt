@@ -25,7 +25,7 @@ use Rattle.life_marks.specs.declared.snaps.SnapMark.{SnapMark}
 use Rattle.place_rules.specs.Readings.{IsReading}
 use Rattle.multi_rules.specs.MultiReadings.{IsMultiReading}
 use Rattle.multi_answers.specs.Own.{AreReadMultis}
-use Rattle.multi_told.specs.Shapes.{ArePlacesOf}
+use Rattle.place_columns.specs.OwnPlaces.{ArePlacesOf}
 use Rattle.report_law.specs.Steps.{lines_of}
 use Rattle.event_rules.proofs.Judging.{few_steps}
 use Rattle.event_rules.proofs.Standing.{in_order, size_is, within}

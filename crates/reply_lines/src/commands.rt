@@ -4,7 +4,7 @@ ghost use Rattle.std.specs.List.{count_by};
 ghost use Rattle.tx_events.specs.declared.event.Event.{Event};
 ghost use Rattle.tx_events.specs.declared.multi.MultiEvent.{MultiEvent};
 ghost use Rattle.tx_events.specs.Multis.{multi_by};
-ghost use Rattle.multi_told.specs.Shapes.{ArePlacesOf};
+ghost use Rattle.place_columns.specs.OwnPlaces.{ArePlacesOf};
 ghost use Rattle.report_law.specs.Places.{multis_of};
 ghost use Rattle.tx_events.specs.Events.{events_of, given};
 ghost use Rattle.event_rules.specs.Told.{AreToldEvents};

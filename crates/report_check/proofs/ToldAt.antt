@@ -17,7 +17,7 @@ use Rattle.event_rules.specs.Told.{IsToldMulti}
 use Rattle.event_rules.proofs.Standing.{at_number, in_order, number_stands}
 use Rattle.event_rules.proofs.Telling.{rank_counts}
 use Rattle.multi_told.specs.Reached.{span}
-use Rattle.multi_told.specs.Shapes.{ArePlacesOf}
+use Rattle.place_columns.specs.OwnPlaces.{ArePlacesOf}
 use Rattle.own_events.specs.declared.lines.LineAt.{LineAt}
 use Rattle.own_events.specs.Lined.{bys_of, line_at, line_by, lines_from, number_of, places_of}
 use Rattle.own_events.proofs.Copying.{place_within}

@@ -29,3 +29,5 @@ pub mod ParentLines
 pub mod ModeNumbers
 pub mod Searching
 pub mod SaysLemmas
+pub mod Nearness
+pub mod MultiPlaces

@@ -6,8 +6,8 @@ use Rattle.tx_events.specs.Multis.{multi_by}
 use Rattle.tx_model.specs.declared.report.Life.{Life}
 use Rattle.tx_model.specs.Replies.{RoundSpan}
 use Rattle.multi_told.specs.Reached.{IsReach}
-use Rattle.multi_told.specs.Shapes.{ArePlacesOf}
-use Rattle.multi_told.proofs.Pinning.{stands_at}
+use Rattle.place_columns.specs.OwnPlaces.{ArePlacesOf}
+use Rattle.tx_events.proofs.MultiPlaces.{stands_at}
 use Rattle.own_events.specs.Lined.{Numbered, lines_from, places_of}
 use Rattle.own_events.proofs.Copying.{copied_whole}
 use Rattle.event_rules.specs.Lined.{multis_in}

@@ -28,6 +28,7 @@ use Rattle.reply_rules.specs.Logs.{AreLogs}
 use Rattle.report_law.specs.Begun.{Begun}
 use Rattle.report_law.specs.Steps.{Judged, gave_multi, lines_of}
 use Rattle.event_rules.specs.Lined.{AreLinesInOrder, events_in, multis_in}
+use Rattle.event_rules.specs.SnapsTold.{told_by}
 use Rattle.legal_fronts.specs.Fronts.{IsFront, IsMultiFront}
 use Rattle.multi_gens.specs.Gens.{AreStartsOf, is_ok_gen}
 use Rattle.held_rules.specs.Limits.{AreHeldLimits}
@@ -35,19 +36,6 @@ use Rattle.multi_verdicts.specs.Snapped.{AreTakenByLines}
 use Rattle.multi_verdicts.specs.Stored.{AreHomes}
 use Rattle.reply_lines.specs.declared.known.Known.{Known}
 use Rattle.reply_lines.specs.declared.known.Kept.{Kept}
-
--- what the reply to a command tells of a snapshot
-abbrev pub told_lists : Reply → Option SnapData
-told_lists (replies.Snapped lists) = Some lists
-told_lists reply = None
-
--- and that of a line
-abbrev pub told_in : Option Line → Option SnapData
-told_in (Some l) = told_lists l.reply
-told_in None = None
-
-abbrev pub told_by : Judged → By → Option SnapData
-told_by j by = told_in (slice_get (lines_of j) (number_of (lines_from 0 j.steps) by))
 
 pub record IsKnown (j : Judged) (k : Known) : Type 0 where
   pub base : IsBase j.begun.counters

@@ -8,7 +8,7 @@ ghost use Rattle.place_columns.specs.OwnPlaces.{ArePlacesOf};
 ghost use Rattle.report_law.specs.Places.{multis_of};
 ghost use Rattle.tx_events.specs.Events.{events_of, given};
 ghost use Rattle.event_rules.specs.Told.{AreToldEvents};
-ghost use Rattle.life_check.specs.Sessions.{AreBehind, IsBehind, with_line};
+ghost use Rattle.standing_rules.specs.Sessions.{AreBehind, IsBehind, with_line};
 ghost use Rattle.life_law.specs.Refused.{by_standing, is_by_standing};
 ghost use Rattle.report_law.specs.Steps.{HasFirst, HasFirstMultis, IsLawfulCommand, IsLogged, by_members, is_ok_trim};
 ghost use Rattle.reply_lines.specs.At.{AtLine, IsLawfulOf, IsLawfulUnless, IsReportOf, IsRoundAt, StandsThere, before_at, earlier_at, lines_at, lived_at, rounds_at, span_at, stance_at};
@@ -21,10 +21,11 @@ use crate::replies::is_lawful_reply;
 use crate::rounds::RoundAt;
 use crate::stands::top_of;
 use command_events::told_events;
-use life_check::{Session, add_line};
 use multi_told::has_first_multis;
 use reply_rules::is_logged;
-use standing_rules::{by_members, is_refused_by_members, is_refused_by_standing};
+use standing_rules::{
+    Session, add_line, by_members, is_refused_by_members, is_refused_by_standing,
+};
 use std::alloc::Global;
 use tx_events::{Event, FullXid, Memory, MultiEvent, Refusal};
 use tx_model::{LifeReport, Line, Reply};

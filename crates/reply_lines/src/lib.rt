@@ -18,4 +18,5 @@ mod stands;
 
 pub use commands::{is_lawful_command, pass_line};
 pub use known::{Kept, Known};
+pub use own::multis_at;
 pub use rounds::{RoundAt, round_at};

@@ -30,7 +30,7 @@ use Rattle.multi_verdicts.specs.declared.homes.Home.{Home}
 use Rattle.multi_verdicts.specs.Stored.{IsHome}
 use Rattle.life_starts.specs.Behind.{AreBases}
 use Rattle.life_starts.proofs.Lasting.{later_is}
-use Rattle.life_check.proofs.Walks.{lives_append}
+use Rattle.report_check.proofs.Walks.{lives_append}
 use Rattle.report_law.specs.Begun.{Begun, BeginsRight, IsLawfulStart, begun_after, begun_from, committed_by, last_life, recorded_by}
 use Rattle.report_law.specs.MultiLines.{of_records}
 use Rattle.report_law.specs.Records.{AreOfCheckpoint, IsAnnouncedMulti, IsRecordAt, IsTrueRecord, is_same_multi}

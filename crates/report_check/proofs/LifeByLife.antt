@@ -9,10 +9,10 @@ use Rattle.report_text.specs.ReportText.{report_text}
 use Rattle.report_read.specs.Reports.{IsReport}
 use Rattle.report_law.specs.Begun.{begun_from}
 use Rattle.report_law.specs.ReportLines.{IsLawfulAt, IsLawfulReport, IsUnlawful, ReportLine, life_lines, lives_lines}
-use Rattle.life_check.specs.Numbered.{IsNumbered}
-use Rattle.life_check.specs.Walk.{IsFirstBroken}
-use Rattle.life_check.proofs.Sections.{lives_broken, lives_next}
-use Rattle.life_check.proofs.Walks.{lives_append}
+use Rattle.life_tables.specs.Numbered.{IsNumbered}
+use Rattle.report_check.specs.Walk.{IsFirstBroken}
+use Rattle.report_check.proofs.Sections.{lives_broken, lives_next}
+use Rattle.report_check.proofs.Walks.{lives_append}
 use Rattle.legal_fronts.proofs.Fronting.{all_taken, one_more}
 use Rattle.report_check.specs.Found.{IsTextJudgedAs}
 use Rattle.report_check.specs.Judgement.{IsFirstUnlawful, IsLawfulText}

@@ -14,8 +14,8 @@ use Rattle.tx_model.specs.Rounds.{lines_in}
 use Rattle.own_events.specs.Lined.{line_by}
 use Rattle.event_rules.specs.Told.{AreToldEvents}
 use Rattle.report_law.specs.Steps.{Judged, is_ok_trim, lines_of}
-use Rattle.life_check.specs.Sessions.{AreBehind, Lived, with_line}
-use Rattle.life_check.specs.declared.sessions.Session.{Session}
+use Rattle.standing_rules.specs.Sessions.{AreBehind, Lived, with_line}
+use Rattle.standing_rules.specs.declared.sessions.Session.{Session}
 use Rattle.reply_lines.specs.At.{AtLine, StandsThere, before_at, lines_at, lived_at, rounds_at}
 use Rattle.report_check.specs.Passing.{IsPassed, trims_with}
 use Rattle.report_check.specs.declared.round_lines.Passed.{Passed}

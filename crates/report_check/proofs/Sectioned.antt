@@ -27,11 +27,11 @@ use Rattle.report_law.specs.MultiLines.{of_records}
 use Rattle.report_law.specs.Places.{has_multi_line}
 use Rattle.report_law.specs.ReportLines.{IsLawfulAt, ReportLine, event, judged, life_lines, log, logged, multi, placed, plain, start, steps_lines}
 use Rattle.report_law.specs.Steps.{Judged}
-use Rattle.life_check.specs.Walk.{IsFirstBroken}
-use Rattle.life_check.proofs.Walks.{all_append, broken_first, broken_left, broken_right}
+use Rattle.report_check.specs.Walk.{IsFirstBroken}
+use Rattle.report_check.proofs.Walks.{all_append, broken_first, broken_left, broken_right}
 use Rattle.reply_lines.specs.Known.{IsKnown}
 use Rattle.reply_lines.specs.declared.known.Known.{Known}
-use Rattle.report_check.specs.Noting.{IsReached}
+use Rattle.checkpoint_rules.specs.Noting.{IsReached}
 use Rattle.report_check.specs.Stepping.{noting_of}
 use Rattle.report_check.specs.Walked.{IsWalked, behind_steps}
 use Rattle.report_check.specs.declared.walked.Walked.{Walked}

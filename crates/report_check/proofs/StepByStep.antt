@@ -17,18 +17,18 @@ use Rattle.history_check.specs.Replays.{Replayed}
 use Rattle.checkpoint_rules.specs.declared.counted.Checkpoints.{Checkpoints}
 use Rattle.report_law.specs.Steps.{Judged, lines_of}
 use Rattle.checkpoint_rules.specs.Behind.{AreMultiCounters}
-use Rattle.life_check.specs.Walk.{IsFirstBroken}
-use Rattle.life_check.proofs.Sections.{steps_broken, steps_next}
-use Rattle.life_check.proofs.Walks.{broken_first, broken_right, steps_append}
+use Rattle.report_check.specs.Walk.{IsFirstBroken}
+use Rattle.report_check.proofs.Sections.{steps_broken, steps_next}
+use Rattle.report_check.proofs.Walks.{broken_first, broken_right, steps_append}
 use Rattle.reply_lines.specs.At.{IsRoundAt}
 use Rattle.reply_lines.specs.Known.{IsKnown}
 use Rattle.reply_lines.specs.declared.known.Known.{Known}
 use Rattle.reply_lines.specs.declared.rounds.RoundAt.{RoundAt}
-use Rattle.report_check.specs.declared.checkpoints.Point.{Point}
+use Rattle.checkpoint_rules.specs.declared.checkpoints.Point.{Point}
 use Rattle.report_check.specs.declared.walked.Walked.{Walked}
 use Rattle.report_check.specs.declared.walked.Walked.TheVariants as walks
-use Rattle.report_check.specs.Midst.{AreFew}
-use Rattle.report_check.specs.Noting.{AreFronts, AreNoted, IsPointOf, IsReached}
+use Rattle.checkpoint_rules.specs.Midst.{AreFew}
+use Rattle.checkpoint_rules.specs.Noting.{AreFronts, AreNoted, IsPointOf, IsReached}
 use Rattle.report_check.specs.Stepping.{noting_of, step_or}
 use Rattle.event_rules.specs.Told.{AreToldEvents}
 use Rattle.report_check.specs.Walked.{IfLawful, IsWalked, is_lawful}

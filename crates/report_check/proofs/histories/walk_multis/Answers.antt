@@ -5,7 +5,7 @@ use Rattle.tx_model.specs.declared.report.Life.{Life}
 use Rattle.legal_fronts.proofs.Fronting.{one_more}
 use Rattle.report_law.specs.Events.{IsLawfulMulti}
 use Rattle.report_law.specs.ReportLines.{multi}
-use Rattle.life_check.proofs.Sections.{placed_broken, placed_next}
+use Rattle.report_check.proofs.Sections.{placed_broken, placed_next}
 use Rattle.report_check.specs.Walked.{AreLatest}
 use Rattle.report_check.proofs.Judging.{all_placed, all_there, item_is, latest_push, multis_so_far, never_true, there}
 use Rattle.report_check.proofs.histories.walk_multis.Goals as goal

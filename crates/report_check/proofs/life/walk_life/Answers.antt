@@ -11,11 +11,11 @@ use Rattle.tx_events.specs.Multis.{multi_by}
 use Rattle.tx_model.specs.declared.report.LifeReport.{LifeReport}
 use Rattle.multi_places.specs.declared.start.Start.{Start}
 use Rattle.multi_places.specs.Starts.{FitsBase, start_of}
-use Rattle.life_check.specs.Numbered.{IsNumbered}
+use Rattle.life_tables.specs.Numbered.{IsNumbered}
 use Rattle.report_law.specs.Begun.{Begun}
 use Rattle.report_law.specs.ReportLines.{ReportLine, start, steps_lines}
 use Rattle.report_law.specs.Steps.{Judged}
-use Rattle.report_check.specs.Known.{judged_life}
+use Rattle.life_tables.specs.Lives.{judged_life}
 use Rattle.report_check.specs.Walked.{IsWalked, behind_steps}
 use Rattle.report_check.proofs.Handing.{kept_is}
 use Rattle.report_check.proofs.Leaving.{start_counters}

@@ -3,7 +3,7 @@ use Rattle.std.specs.List.{slice_get}
 use Rattle.tx_model.specs.declared.report.LifeReport.{LifeReport}
 use Rattle.report_law.specs.Begun.{begun_from}
 use Rattle.report_law.specs.ReportLines.{life_lines}
-use Rattle.life_check.proofs.Sections.{lives_next}
+use Rattle.report_check.proofs.Sections.{lives_next}
 use Rattle.report_check.specs.Keeping.{IsLeft}
 use Rattle.report_check.specs.Walked.{IfLawful, IsWalked}
 use Rattle.report_check.specs.declared.walked.Walked.{Walked}

@@ -16,8 +16,8 @@ use crate::asked::{asked_of, named_of};
 use crate::behind::counters_at;
 use crate::counted::{Checkpoints, note_checkpoint, other_steps_are_none};
 use history_places::HistoryPlaces;
-use standing_rules::Session;
 use reply_rules::LogEnd;
+use standing_rules::Session;
 use tx_events::{Counters, Memory};
 use tx_model::{Reply, Step};
 

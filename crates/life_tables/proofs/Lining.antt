@@ -10,7 +10,6 @@ use Rattle.tx_events.specs.declared.multi.MultiEvent.{MultiEvent}
 use Rattle.tx_events.specs.declared.snapshot.SnapData.{SnapData}
 use Rattle.tx_events.specs.Events.{by_of, same_by}
 use Rattle.tx_events.specs.Multis.{multi_by}
-use Rattle.tx_model.specs.declared.report.LifeReport.{LifeReport}
 use Rattle.tx_model.specs.declared.report.Line.{Line}
 use Rattle.life_tables.specs.Numbered.{IsFew}
 use Rattle.life_tables.specs.Numbered as numbered
@@ -22,7 +21,7 @@ use Rattle.own_events.proofs.Numbering.{by_at_number, number_is, same_is, same_s
 use Rattle.multi_gens.proofs.GenPlaces.{bound_at}
 use Rattle.report_law.specs.Steps.{Judged, gave_multi, lines_of}
 use Rattle.event_rules.specs.SnapsTold.{told_by, told_lists}
-use Rattle.life_tables.specs.Lives.{LifeAt, is_multi_reply, judged_life}
+use Rattle.life_tables.specs.Lives.{is_multi_reply}
 
 -- ---- results, fronts and lives under other names
 

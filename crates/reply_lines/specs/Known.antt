@@ -1,5 +1,5 @@
 -- What is known of a life before its lines are judged.
-use Rattle.std.specs.Prelude.{◌≡◌, ℕ, ◌<◌, ◌==◌, ◌↔◌, IsTrue, List, Option, Some, None, Contains, drop, length, map, slice_get}
+use Rattle.std.specs.Prelude.{◌≡◌, ℕ, ◌<◌, ◌==◌, ◌↔◌, IsTrue, List, Contains, drop, length, map}
 use Rattle.std.specs.BTreeSet.{contains}
 use Rattle.std.specs.List.{All, list_any}
 use Rattle.std.specs.Ordering.{nat_cmp}
@@ -7,20 +7,16 @@ use Rattle.tx_events.specs.Base.{IsBase}
 use Rattle.tx_events.specs.declared.event.By.{By}
 use Rattle.tx_events.specs.declared.multi.Member.{Member}
 use Rattle.tx_events.specs.declared.multi.MultiEvent.{MultiEvent}
-use Rattle.tx_events.specs.declared.snapshot.SnapData.{SnapData}
 use Rattle.tx_events.specs.Events.{by_of}
 use Rattle.tx_events.specs.Multis.{multi_by}
-use Rattle.tx_model.specs.declared.reply.Reply.{Reply}
-use Rattle.tx_model.specs.declared.reply.Reply.TheVariants as replies
 use Rattle.tx_model.specs.declared.report.LifeReport.{LifeReport}
-use Rattle.tx_model.specs.declared.report.Line.{Line}
 use Rattle.life_law.specs.DidCommit.{IsRecorded}
 use Rattle.life_law.specs.Pending.{is_commit_of}
 use Rattle.life_marks.specs.IdMarks.{AreMarks}
 use Rattle.life_marks.specs.SnapMarks.{AreSnapMarks}
 use Rattle.given_counts.specs.Counted.{AreCounts}
 use Rattle.multi_places.specs.Starts.{start_of}
-use Rattle.own_events.specs.Lined.{bys_of, line_by, lines_from, number_of}
+use Rattle.own_events.specs.Lined.{bys_of, line_by, lines_from}
 use Rattle.own_places.specs.Owned.{AreAllOwn, AreInTurn}
 use Rattle.open_counts.specs.Opens.{AreOpenCounts}
 use Rattle.reply_rules.specs.Ends.{IsLogEnd}

@@ -22,8 +22,7 @@ use crate::by_multis::{
 };
 use crate::known::{Kept, Known};
 use crate::reading::Asking;
-use crate::stands::{is_lacking, is_open, taken_as};
-use line_stances::Standing;
+use line_stances::{Standing, is_lacking, is_open, taken_as};
 use tx_events::{FullMulti, FullXid, MultiEvent, MultiId, Name, Refusal, Xid};
 use tx_model::{Command, LifeReport, MemberVerdict, PairList, Reply};
 

@@ -14,7 +14,6 @@ mod own;
 mod reading;
 mod replies;
 mod rounds;
-mod stands;
 
 pub use commands::{is_lawful_command, pass_line};
 pub use known::{Kept, Known};

@@ -1,12 +1,10 @@
 //! What the lives before have left to the next one.
-ghost use Rattle.std.specs.Prelude.{◌≡◌, ◌==◌, ◌||◌, ◌++◌, ◌∷◌, ◌↔◌, [], ℕ, List, IfOk, IsTrue, OnOk};
-ghost use Rattle.std.specs.BTreeSet.{contains};
-ghost use Rattle.std.specs.List.{AllByRecursion, cons_option, filter_map, flat_map, list_any};
-ghost use Rattle.std.specs.Ordering.{nat_cmp};
+ghost use Rattle.std.specs.Prelude.{◌≡◌, ◌++◌, ◌∷◌, ◌↔◌, [], List, IfOk, IsTrue, OnOk};
+ghost use Rattle.std.specs.List.{AllByRecursion, cons_option, filter_map};
 ghost use Rattle.tx_events.specs.declared.record.Rec.{Rec};
 ghost use Rattle.tx_model.specs.declared.report.LifeReport.{LifeReport};
 ghost use Rattle.life_starts.specs.Behind.{AreBases};
-ghost use Rattle.report_law.specs.Begun.{IsLawfulStart, begun_from, committed_by};
+ghost use Rattle.report_law.specs.Begun.{IsLawfulStart, begun_from};
 ghost use Rattle.report_law.specs.ReportLines.{IsLawfulAt, lives_lines};
 ghost use Rattle.reply_rules.specs.Logs.{AreRecordedMultis};
 ghost use Rattle.report_check.specs.Keeping.{HasGrown, IsLeft, IsLeftBefore, IsNothingKept, kept_home, kept_homes, kept_start};
@@ -19,7 +17,7 @@ use reply_lines::Kept;
 use reply_rules::recorded_multis;
 use std::alloc::Global;
 use std::collections::BTreeSet;
-use tx_events::{FullXid, Memory, MultiEvent, Rec};
+use tx_events::{Memory, MultiEvent, Rec};
 use tx_model::{Life, LifeReport};
 
 /// What the first life begins from.

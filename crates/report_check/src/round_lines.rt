@@ -10,9 +10,9 @@ ghost use Rattle.report_check.specs.Passing.{AtRound, IsPassed, lines_before, tr
 ghost use Rattle.report_check.specs.Walked.{IfLawful, IsWalked};
 
 use crate::walked::{Walked, plus};
-use standing_rules::Session;
 use reply_lines::{Kept, Known, RoundAt, is_lawful_command, pass_line, round_at};
 use reply_rules::is_ok_trim;
+use standing_rules::Session;
 use std::alloc::Global;
 use tx_events::{Event, Memory};
 use tx_model::{LifeReport, Line};

@@ -15,9 +15,11 @@ ghost use Rattle.report_check.specs.Walked.{IfLawful, IsWalked, is_lawful};
 use crate::dumps::{Dumping, dumping_of, is_lawful_dump};
 use crate::round_lines::{Passed, walk_round};
 use crate::walked::{Walked, plus};
-use checkpoint_rules::{Checkpoints, Point, checkpoints_of, is_lawful_checkpoint, multi_counters_of, pass_step};
-use standing_rules::new_sessions;
+use checkpoint_rules::{
+    Checkpoints, Point, checkpoints_of, is_lawful_checkpoint, multi_counters_of, pass_step,
+};
 use reply_lines::{Kept, Known, RoundAt, round_at};
+use standing_rules::new_sessions;
 use std::alloc::Global;
 use tx_events::{Counters, Memory};
 use tx_model::{LifeReport, Reply, Step};

@@ -1,6 +1,6 @@
 use Rattle.std.proofs.Common.{◌≡◌, ℕ, ◌<◌, ◌≤◌, List, Some, length, map, take, sym, ap, subst, ◌∙◌, ◌==◌}
 use Rattle.std.specs.Prelude.{slice_index}
-use Rattle.std.specs.List.{All, count_by, filter_map, slice_get}
+use Rattle.std.specs.List.{count_by, slice_get}
 use Rattle.tx_events.specs.declared.multi.MultiEvent.{MultiEvent}
 use Rattle.tx_events.specs.Multis.{multi_by}
 use Rattle.tx_model.specs.declared.report.Life.{Life}
@@ -9,7 +9,6 @@ use Rattle.multi_told.specs.Reached.{IsReach}
 use Rattle.place_columns.specs.OwnPlaces.{ArePlacesOf}
 use Rattle.tx_events.proofs.MultiPlaces.{stands_at}
 use Rattle.own_events.specs.Lined.{Numbered, lines_from, numbered, places_of}
-use Rattle.event_rules.specs.Lined.{multis_in}
 use Rattle.event_rules.proofs.Standing.{in_order}
 use Rattle.report_law.specs.Places.{multis_of}
 use Rattle.report_check.proofs.ToldAt.{its_places_are, number_within, rank_is}

@@ -2,7 +2,7 @@
 ghost use Rattle.std.specs.Prelude.{◌≡◌, ◌≢◌, ◌≤◌, ◌↔◌, IsTrue, []};
 ghost use Rattle.tx_model.specs.Stance.{lacking, snap_of, top_level};
 
-use line_stances::Standing;
+use crate::standing::Standing;
 use tx_events::{FullXid, Name};
 
 /// Whether the session has a transaction.

@@ -1,7 +1,7 @@
 //! On how many threads the sessions of a round run.
 ghost use Rattle.std.specs.Prelude.{◌<◌};
 
-use script_rounds::Plan;
+use crate::plan::Plan;
 use session_lang::Items;
 
 // A round of fewer commands isn't worth its threads: starting them costs as much as some hundred commands.

@@ -1,7 +1,6 @@
-use Rattle.std.proofs.Common.{◌≡◌, ap, sym, subst, List}
+use Rattle.std.proofs.Common.{sym, subst, List}
 use Rattle.life_check.specs.Sessions.{AreBehind}
 use Rattle.life_check.specs.declared.sessions.Session.{Session}
-use Rattle.checkpoint_rules.specs.Behind.{Walked}
 use Rattle.report_check.specs.Midst.{lived_behind}
 use Rattle.report_check.specs.Noting.{walked_of}
 use Rattle.report_check.specs.Stepping.{noting_at, steps_before}

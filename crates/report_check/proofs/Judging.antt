@@ -1,5 +1,5 @@
 -- The lines of both histories, one by one.
-use Rattle.std.proofs.Common.{◌≡◌, ◌≢◌, ◌↔◌, ℕ, suc, zero, ◌+◌, ◌<◌, ◌≤◌, ◌==◌, List, [], ◌∷◌, ◌++◌, Some, get_or, length, replicate, set, take, refl, sym, ap, subst, ◌∙◌, arith, ⊎_elim, eqb-true}
+use Rattle.std.proofs.Common.{◌≡◌, ◌≢◌, ◌↔◌, ℕ, suc, zero, ◌<◌, ◌≤◌, ◌==◌, List, [], ◌∷◌, ◌++◌, Some, get_or, length, replicate, set, take, refl, sym, ap, subst, ◌∙◌, arith, ⊎_elim, eqb-true}
 use Rattle.std.specs.Prelude.{slice_index, Bool, IsTrue, false, true}
 use Rattle.std.proofs.lemmas.Bool.{cases_Bool, false≢true}
 use Rattle.std.specs.List.{All, AllByRecursion, Contains, slice_get}

@@ -1,5 +1,5 @@
 -- A life's steps so far.
-use Rattle.std.specs.Prelude.{◌≡◌, ℕ, List, [], get_or, take}
+use Rattle.std.specs.Prelude.{ℕ, List, [], get_or, take}
 use Rattle.std.specs.List.{flat_map}
 use Rattle.tx_events.specs.declared.multi.MultiEvent.{MultiEvent}
 use Rattle.tx_model.specs.declared.report.Step.{Step}

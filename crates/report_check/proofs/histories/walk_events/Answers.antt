@@ -1,5 +1,4 @@
-use Rattle.std.proofs.Common.{◌≡◌, ◌<◌, ℕ, List, length, ap, ◌∙◌, refl, arith}
-use Rattle.tx_events.specs.declared.event.Event.{Event}
+use Rattle.std.proofs.Common.{◌≡◌, ◌<◌, length, ap, ◌∙◌, refl, arith}
 use Rattle.tx_model.specs.declared.report.Life.{Life}
 use Rattle.report_law.specs.Events.{IsLawfulEvent}
 use Rattle.report_law.specs.ReportLines.{event}

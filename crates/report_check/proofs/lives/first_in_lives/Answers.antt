@@ -1,4 +1,4 @@
-use Rattle.std.proofs.Common.{◌≡◌, ◌+◌, ◌<◌, ℕ, List, Some, length, take, subst, arith}
+use Rattle.std.proofs.Common.{◌≡◌, ℕ, List, Some, take, subst}
 use Rattle.std.specs.List.{slice_get}
 use Rattle.tx_model.specs.declared.report.LifeReport.{LifeReport}
 use Rattle.report_law.specs.Begun.{begun_from}

@@ -1,5 +1,5 @@
-use Rattle.std.proofs.Common.{◌≡◌, ◌<◌, ◌≤◌, ◌+◌, ◌++◌, ◌∷◌, [], ℕ, List, Some, true, false, length, take, ap, subst, sym, ◌∙◌, refl, arith, append_assoc}
-use Rattle.std.specs.List.{AllByRecursion, slice_get}
+use Rattle.std.proofs.Common.{◌≡◌, ◌≤◌, ◌+◌, ◌++◌, ◌∷◌, [], ℕ, List, length, take, ap, subst, sym, ◌∙◌, refl, arith, append_assoc}
+use Rattle.std.specs.List.{AllByRecursion}
 use Rattle.tx_model.specs.declared.report.Line.{Line}
 use Rattle.tx_model.specs.Rounds.{lines_in}
 use Rattle.legal_fronts.proofs.Fronting.{all_taken, one_more}

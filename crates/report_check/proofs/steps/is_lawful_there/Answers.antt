@@ -1,7 +1,6 @@
-use Rattle.std.proofs.Common.{◌≡◌, ap, sym, subst, List}
+use Rattle.std.proofs.Common.{sym, subst, List}
 use Rattle.standing_rules.specs.Sessions.{AreBehind}
 use Rattle.standing_rules.specs.declared.sessions.Session.{Session}
-use Rattle.checkpoint_rules.specs.Behind.{Walked}
 use Rattle.checkpoint_rules.specs.Midst.{lived_behind}
 use Rattle.checkpoint_rules.specs.Noting.{walked_of}
 use Rattle.report_check.specs.Stepping.{noting_at, steps_before}

@@ -1,5 +1,4 @@
-use Rattle.std.proofs.Common.{◌≡◌, ◌<◌, ◌+◌, ℕ, List, [], Some, length, take, ap, subst, sym, ◌∙◌, refl, arith}
-use Rattle.std.specs.List.{slice_get}
+use Rattle.std.proofs.Common.{◌≡◌, ◌<◌, ◌+◌, ℕ, length, take, ap, subst, sym, ◌∙◌, refl, arith}
 use Rattle.tx_model.specs.declared.report.Step.{Step}
 use Rattle.report_law.specs.ReportLines.{step_lines}
 use Rattle.report_check.proofs.Sections.{steps_next}

@@ -159,8 +159,11 @@ fn recovered<L: LogDisk + Drop, P: PageDisk + Drop>(
     alloc: Global,
     volumes: Volumes<L, P>,
 ) -> Result<Result<Recovered<L, P>, (Volumes<L, P>, RecoverRefusal)>, Fail> {
-    if volumes.xact.len() != 2 || volumes.subtrans.len() != 2 || volumes.offsets.len() != 2
-        || volumes.members.len() != 2 {
+    if volumes.xact.len() != 2
+        || volumes.subtrans.len() != 2
+        || volumes.offsets.len() != 2
+        || volumes.members.len() != 2
+    {
         return Err("two banks".into());
     }
     Ok(recover(alloc, volumes))

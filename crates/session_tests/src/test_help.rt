@@ -105,7 +105,7 @@ pub fn check_run(
 pub fn is_lawful(alloc: Global, report: &str) -> Result<bool, Fail> {
     let mut source = MemSource::new(Vec::from_slice(alloc, report.as_bytes())?, Vec::new(alloc));
     let mut sink = MemSink::new(alloc, 100, Vec::new(alloc))?;
-    Ok(check_tool(alloc, &mut source, &mut sink) == 0 && sink.held() == b"lawful\n")
+    Ok(check_tool(alloc, &mut source, &mut sink) == 0 && sink.held() == b"lawful\n".as_slice())
 }
 
 /// The report that a run of the script writes, with status 0. It is lawful to the checker.

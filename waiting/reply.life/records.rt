@@ -1,0 +1,55 @@
+//! The lines of a life's records.
+ghost use Rattle.std.specs.Prelude.{◌≡◌, ◌<◌, IfOk};
+ghost use Rattle.std.specs.List.{All};
+ghost use Rattle.tx_events.specs.Events.{by_of};
+ghost use Rattle.tx_events.specs.History.{IsLegal};
+ghost use Rattle.tx_events.specs.Multis.{AreLegalMultis};
+ghost use Rattle.report_law.specs.MultiLines.{of_records};
+ghost use Rattle.report_law.specs.ReportLines.{logged, placed};
+ghost use Rattle.report_law.specs.Steps.{Judged};
+ghost use Rattle.checkpoint_rules.specs.Behind.{AreCheckpoints};
+ghost use Rattle.reply_lines.specs.At.{IsReportOf};
+ghost use Rattle.reply_lines.specs.Known.{IsKnown};
+ghost use Rattle.report_check.specs.Walked.{IsWalked};
+
+use crate::walked::Walked;
+use checkpoint_rules::Checkpoints;
+use record_lines::first_unlawful_record;
+use reply_lines::Known;
+use std::alloc::Global;
+use tx_events::Memory;
+use tx_model::LifeReport;
+
+/// The lines of the records, where those of both histories are lawful. All checkpoints of the life are counted.
+pub fn walk_records(
+    alloc: Global,
+    report: &LifeReport,
+    known: &Known,
+    checkpoints: &Checkpoints,
+) -> Result<Walked, Memory>
+    ghost j: { Judged }
+    requires report { IsReportOf j report.now }
+    requires known { IsKnown j known.now }
+    requires base { j.begun.counters ≡ report.now.life.base }
+    requires few { All (λ e. (by_of e).session < 64) j.life.events }
+    requires legal { IsLegal j.begun.counters j.life.events }
+    requires multis { AreLegalMultis j.begun.counters (of_records j.begun.counters j.begun.recorded) j.life.multis }
+    requires checkpoints { AreCheckpoints j j.steps checkpoints.now }
+    ensures { IfOk result (IsWalked (placed (logged j) 0 j.life.recs)) }
+{
+    let broken = first_unlawful_record(
+        alloc,
+        &report.life.base,
+        report,
+        &known.multi_places,
+        &checkpoints.asked,
+    )?;
+    match broken {
+        Some(place) => Ok(Walked::Broken {
+            lines: place as u64,
+        }),
+        None => Ok(Walked::Lawful {
+            lines: report.life.recs.items().len() as u64,
+        }),
+    }
+}

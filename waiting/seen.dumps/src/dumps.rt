@@ -1,0 +1,127 @@
+//! The lines of dumps.
+ghost use Rattle.std.specs.Prelude.{◌≡◌, ◌↔◌, [], IfOk, IsTrue};
+ghost use Rattle.std.specs.List.{flat_map, list_any};
+ghost use Rattle.tx_model.specs.Rounds.{lines_in};
+ghost use Rattle.checkpoint_rules.specs.Behind.{Walked};
+ghost use Rattle.report_law.specs.Dumps.{MayDump, is_fault, is_faulty_step};
+ghost use Rattle.report_law.specs.Steps.{Judged};
+ghost use Rattle.reply_lines.specs.At.{IsReportOf, IsRoundAt};
+ghost use Rattle.reply_lines.specs.Known.{IsKnown};
+ghost use Rattle.report_check.specs.Dumped.{IsDumping};
+
+use dump_rules::{Cuts, GenMark, cuts_of, gens_of, may_dump};
+use reply_lines::{Known, RoundAt};
+use std::alloc::Global;
+use tx_events::{Counters, Memory, Refusal};
+use tx_model::{DumpOf, LifeReport, Line, Reply, Step};
+
+/// What a life's dumps are held against: the cutoffs that its stores may have, and the multixacts that it gave.
+#[derive(Drop)]
+pub struct Dumping {
+    pub cuts: Cuts,
+    pub gens: Vec<GenMark>,
+    /// Some volume is told to have failed in the life.
+    pub faulty: bool,
+}
+
+/// What the dumps of a life are held against, which begins with these counters. Takes the logarithm of the life an event and
+/// a record.
+pub fn dumping_of(
+    alloc: Global,
+    report: &LifeReport,
+    known: &Known,
+    base: &Counters,
+) -> Result<Dumping, Memory>
+    ghost j: { Judged }
+    requires report { IsReportOf j report.now }
+    requires known { IsKnown j known.now }
+    requires base { base.now ≡ j.begun.counters }
+    ensures { IfOk result (λ d. IsDumping j known.now d) }
+{
+    let cuts = cuts_of(alloc, base, report.life.recs.items(), &known.places)?;
+    let gens = gens_of(alloc, &known.multi_places, known.oks.as_slice())?;
+    Ok(Dumping {
+        cuts,
+        gens,
+        faulty: is_any_fault(report.steps.items()),
+    })
+}
+
+fn is_fault(reply: &Reply) -> bool
+    ensures { result ≡ is_fault reply.now }
+{
+    match reply {
+        Reply::Refused { refusal } => match refusal {
+            Refusal::DiskFault { .. } => true,
+            Refusal::LogFault => true,
+            _ => false,
+        },
+        _ => false,
+    }
+}
+
+fn is_any_faulty(lines: &[Line]) -> bool
+    ensures { result ≡ list_any (λ l. is_fault l.reply) lines.now }
+{
+    for line in lines {
+        if is_fault(&line.reply) {
+            return true;
+        }
+    }
+    false
+}
+
+fn is_faulty_step(step: &Step) -> bool
+    ensures { result ≡ is_faulty_step step.now }
+{
+    match step {
+        Step::Round { lines, .. } => is_any_faulty(lines.items()),
+        Step::Checkpoint { reply } => is_fault(reply),
+        Step::Dump { reply, .. } => is_fault(reply),
+    }
+}
+
+/// Whether some volume is told to have failed in these steps.
+fn is_any_fault(steps: &[Step]) -> bool
+    ensures { result ≡ list_any is_faulty_step steps.now }
+{
+    for step in steps {
+        if is_faulty_step(step) {
+            return true;
+        }
+    }
+    false
+}
+
+/// Whether a dump may be answered so behind these steps, where `round` is the place of no line behind them.
+pub fn is_lawful_dump(
+    dumping: &Dumping,
+    known: &Known,
+    round: RoundAt,
+    what: DumpOf,
+    at: u64,
+    size: u32,
+    reply: &Reply,
+) -> bool
+    ghost walked: { Walked }
+    requires known { IsKnown walked.j known.now }
+    requires dumping { IsDumping walked.j known.now dumping.now }
+    requires round { IsRoundAt walked.j (flat_map lines_in walked.before) [] known.now round }
+    ensures { IsTrue result ↔ MayDump walked.j (flat_map lines_in walked.before) what at size reply.now }
+{
+    may_dump(
+        &dumping.cuts,
+        dumping.gens.as_slice(),
+        &known.places,
+        known.marks.as_slice(),
+        round.from,
+        &known.multi_places,
+        round.multi_from,
+        round.judged,
+        dumping.faulty,
+        what,
+        at,
+        size,
+        reply,
+    )
+}

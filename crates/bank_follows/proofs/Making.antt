@@ -2,7 +2,7 @@
 use Rattle.std.proofs.Common.{Bool, List, None, Option, Some, [], ap, arith, cond, false, nat_lt, refl, subst, sym, true, ℕ, ⊎_elim, ◌&&◌, ◌*◌, ◌+◌, ◌++◌, ◌-◌, ◌/◌, ◌%◌, ◌<◌, ◌==◌, ◌^◌, ◌∙◌, ◌∷◌, ◌≡◌, ◌≤◌}
 use Rattle.std.specs.Prelude.{MatchBool}
 use Rattle.tx_events.specs.PageOrder.{Ids, Multis, Offsets, page_precedes}
-use Rattle.store_pages.specs.Pages.{member_page_in_full}
+use Rattle.tx_events.specs.Pages.{member_page_in_full}
 use Rattle.disk_core.specs.Pages.{zero_page}
 use Rattle.slru_bank.specs.Bank.{PutsPage}
 use Rattle.slru_bank.specs.Crash.{SameMap}

@@ -1,7 +1,7 @@
 -- A page that a life makes is the only one of its stored number.
 use Rattle.std.proofs.Common.{arith, ℕ, ◌%◌, ◌+◌, ◌-◌, ◌/◌, ◌<◌, ◌^◌, ◌≡◌, ◌≤◌}
 use Rattle.tx_events.specs.Ids.{low_half}
-use Rattle.store_pages.specs.Pages.{member_page_in_full}
+use Rattle.tx_events.specs.Pages.{member_page_in_full}
 use Rattle.bank_follows.specs.Laws.{OnePage}
 
 -- of the ids near the next one those on the stored page of one up to 2^29 past it lie on that one's page

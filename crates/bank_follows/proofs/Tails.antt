@@ -4,7 +4,7 @@ use Rattle.std.specs.List.{slice_index}
 use Rattle.tx_events.specs.PageOrder.{Offsets, page_precedes}
 use Rattle.disk_core.specs.Moments.{run_then}
 use Rattle.disk_core.specs.Pages.{Pages, zero_page}
-use Rattle.store_pages.specs.Pages.{id_at}
+use Rattle.tx_events.specs.Pages.{id_at}
 use Rattle.slru_bank.proofs.ZeroBytes.{zero_byte}
 use Rattle.slru_bank.specs.Crash.{IsMixture, IsMixtureOrGone, byte_at}
 use Rattle.multi_members.specs.Changes.{TrimsMembers}

@@ -1,6 +1,6 @@
 -- The laws: one entry of each kind more keeps what a bank's pages and images stand for, in each store.
 use Rattle.std.specs.Prelude.{ℕ, ◌+◌, ◌^◌, ◌≤◌, List, Option}
-use Rattle.store_pages.specs.Pages.{member_page_in_full, offset_page, subtrans_page, xact_page}
+use Rattle.tx_events.specs.Pages.{member_page_in_full, offset_page, subtrans_page, xact_page}
 use Rattle.disk_core.specs.Pages.{Pages}
 use Rattle.tx_core.specs.declared.entry.Entry.{Entry}
 use Rattle.tx_core.specs.declared.entry.Start.{Start}

@@ -2,7 +2,7 @@
 use Rattle.std.specs.Prelude.{ℕ, ◌≤◌, List, [], ◌∷◌, length, Option, Some, Contains}
 use Rattle.tx_events.specs.Ids.{low_half}
 use Rattle.store_pages.specs.Layouts.{member_page_of}
-use Rattle.store_pages.specs.Pages.{member_place}
+use Rattle.tx_events.specs.Pages.{member_place}
 use Rattle.slru_bank.specs.Changes.{SetsStates, ShareAPage}
 use Rattle.multi_members.specs.Changes.{SetsMember}
 use Rattle.tx_events.specs.Modes.{mode_number}

@@ -1,7 +1,7 @@
 -- The bytes of a page of members past its last slot stay 0.
 use Rattle.std.specs.Prelude.{ℕ, ◌<◌, Bool, List}
 use Rattle.disk_core.specs.Pages.{Pages, zero_page}
-use Rattle.store_pages.specs.Pages.{members_per_page}
+use Rattle.tx_events.specs.Pages.{members_per_page}
 use Rattle.slru_bank.specs.Bank.{PutsPage}
 use Rattle.slru_bank.specs.Crash.{CrashLeaves, IsMixture, IsMixtureOrGone, SameMap}
 use Rattle.slru_bank.specs.Removal.{MayDrop}

@@ -2,7 +2,7 @@
 use Rattle.std.specs.Prelude.{ℕ, List, [], ◌∷◌, Option}
 use Rattle.tx_events.specs.Ids.{low_half}
 use Rattle.store_pages.specs.Layouts.{word_page_of}
-use Rattle.store_pages.specs.Pages.{offset_place, subtrans_place}
+use Rattle.tx_events.specs.Pages.{offset_place, subtrans_place}
 use Rattle.slru_bank.specs.ByteRange.{SetsEntry}
 use Rattle.tx_events.specs.declared.event.By.{By}
 use Rattle.tx_core.specs.declared.entry.Change.TheVariants as changes

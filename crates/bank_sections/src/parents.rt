@@ -25,10 +25,10 @@ use engine_parts::{
 };
 use hall::{Hall, Note};
 use slru_bank::BankRefusal;
-use store_pages::{subtrans_page, subtrans_page_in_full};
+use store_pages::subtrans_page;
 use subtrans_log::{parent as stored_parent, set_parent};
 use tx_core::Entry;
-use tx_events::{By, FullXid, Xid, near};
+use tx_events::{By, FullXid, Xid, near, subtrans_page_in_full};
 
 /// Makes the page of the parent of `id`, which was given or comes next, where the bank's last made page is before it
 /// (`ExtendSUBTRANS` of `subtrans.c`). The page of an id that isn't before the oldest xmin isn't cut, in a life of few

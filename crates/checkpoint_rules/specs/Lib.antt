@@ -1,2 +1,4 @@
 pub mod Asked
 pub mod Behind
+pub mod Midst
+pub mod Noting

@@ -11,7 +11,7 @@ use Rattle.tx_events.specs.declared.multi.MultiEvent.TheVariants as multis
 use Rattle.tx_events.specs.Multis.{multi_by}
 use Rattle.tx_events.proofs.Membership.{contains_has, has_map, has_place}
 use Rattle.store_pages.specs.Layouts.{word_place_of}
-use Rattle.store_pages.specs.Pages.{member_page, offset_page}
+use Rattle.tx_events.specs.Pages.{member_page, offset_page}
 use Rattle.report_law.specs.Dumps.{HasWord}
 use Rattle.life_marks.specs.declared.mark.IdMark.{IdMark}
 use Rattle.life_marks.specs.IdMarks.{AreMarks, IsMissing, mark_ids}

@@ -4,7 +4,7 @@ use Rattle.std.specs.List.{slice_get}
 use Rattle.tx_events.specs.Ids.{low_half}
 use Rattle.tx_model.specs.declared.report.DumpOf.{DumpOf}
 use Rattle.tx_model.specs.declared.report.DumpOf.TheVariants as dumps
-use Rattle.store_pages.specs.Pages.{id_at, member_page, member_place, mode_at, xact_page, xact_place}
+use Rattle.tx_events.specs.Pages.{id_at, member_page, member_place, mode_at, xact_page, xact_place}
 use Rattle.place_columns.specs.declared.span.Span.{Span}
 use Rattle.dump_rules.specs.Shown.{AreEpochs, Behind, IsThere, ShowsLow, ShowsNumber, numbers_in}
 

@@ -17,7 +17,7 @@ use Rattle.tx_model.specs.declared.report.DumpOf.{DumpOf}
 use Rattle.tx_model.specs.declared.report.DumpOf.TheVariants as dumps
 use Rattle.tx_model.specs.declared.report.Line.{Line}
 use Rattle.tx_model.specs.Lines.{has_line}
-use Rattle.store_pages.specs.Pages.{id_at, member_page, member_place, mode_at}
+use Rattle.tx_events.specs.Pages.{id_at, member_page, member_place, mode_at}
 use Rattle.life_law.specs.Dumps.{events_behind}
 use Rattle.report_law.specs.Dumps.{HasByte, HasWord, MayDump, Shows, ShowsIds, is_faulty_step}
 use Rattle.report_law.specs.Places.{has_multi_line}

@@ -12,7 +12,7 @@ use Rattle.tx_model.specs.declared.report.DumpOf.{DumpOf}
 use Rattle.tx_model.specs.declared.report.DumpOf.TheVariants as dumps
 use Rattle.tx_model.specs.declared.report.Line.{Line}
 use Rattle.store_pages.specs.Layouts.{word_place_of}
-use Rattle.store_pages.specs.Pages.{id_at, member_page, member_place, mode_at, offset_page, subtrans_page, xact_page}
+use Rattle.tx_events.specs.Pages.{id_at, member_page, member_place, mode_at, offset_page, subtrans_page, xact_page}
 use Rattle.place_columns.specs.declared.span.Span.{Span}
 use Rattle.report_law.specs.Dumps.{HasBits, HasByte, HasWord, parent_or_none, state_number}
 use Rattle.report_law.specs.Steps.{Judged}

@@ -1,7 +1,7 @@
 //! What the bytes of a dump have.
 ghost use Rattle.std.specs.Prelude.{◌≡◌, ◌↔◌, ◌<◌, ◌/◌, ◌%◌, ◌^◌, IsTrue};
 ghost use Rattle.report_law.specs.Dumps.{HasBits, HasByte, HasWord, byte_of};
-ghost use Rattle.store_pages.specs.Pages.{xact_place};
+ghost use Rattle.tx_events.specs.Pages.{xact_place};
 
 use store_pages::xact_place;
 use tx_events::Xid;

@@ -5,7 +5,7 @@ ghost use Rattle.tx_events.specs.IdLists.{Ascending};
 ghost use Rattle.tx_events.specs.History.{IsLegal};
 ghost use Rattle.tx_events.specs.Ids.{IsFullId, low_half};
 ghost use Rattle.store_pages.specs.Layouts.{word_place_of};
-ghost use Rattle.store_pages.specs.Pages.{subtrans_page, xact_page};
+ghost use Rattle.tx_events.specs.Pages.{subtrans_page, xact_page};
 ghost use Rattle.life_marks.specs.IdMarks.{AreMarks, IsMissing, IsPlaceOf, mark_ids};
 ghost use Rattle.report_law.specs.Dumps.{HasBits, HasWord, parent_or_none, state_number};
 ghost use Rattle.dump_rules.specs.Shown.{ShowsParent, ShowsState};

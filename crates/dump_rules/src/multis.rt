@@ -3,7 +3,7 @@ ghost use Rattle.std.specs.Prelude.{◌≡◌, ◌↔◌, ◌≤◌, ◌<◌, Is
 ghost use Rattle.tx_events.specs.Ids.{low_half};
 ghost use Rattle.tx_events.specs.Modes.{mode_number};
 ghost use Rattle.store_pages.specs.Layouts.{word_place_of};
-ghost use Rattle.store_pages.specs.Pages.{id_at, member_place, mode_at, offset_page};
+ghost use Rattle.tx_events.specs.Pages.{id_at, member_place, mode_at, offset_page};
 ghost use Rattle.report_law.specs.Dumps.{HasByte, HasWord};
 ghost use Rattle.dump_rules.specs.Gens.{AreGens, IsGenMark};
 ghost use Rattle.dump_rules.specs.Shown.{Behind, HasMember, ShowsMember, ShowsOffset, member_in};

@@ -13,7 +13,7 @@ use Rattle.tx_events.specs.Ids.{id_before}
 use Rattle.tx_events.proofs.Membership.{Has, has_contains, place_has}
 use Rattle.store_pages.specs.declared.page_rule.PageRule as rules
 use Rattle.store_pages.specs.Layouts.{word_page_of, xact_cutoff, xact_page_of}
-use Rattle.store_pages.specs.Pages.{subtrans_page, xact_page}
+use Rattle.tx_events.specs.Pages.{subtrans_page, xact_page}
 use Rattle.tx_model.specs.declared.report.DumpOf.TheVariants as dumps
 use Rattle.life_law.specs.Dumps.{IsSubtransCutoff, IsXactCutoff, MayDump}
 use Rattle.slru_bank.specs.declared.bank.SlruBank.{SlruBank}

@@ -5,7 +5,7 @@ ghost use Rattle.disk_core.specs.Faults.{HasRisen};
 ghost use Rattle.disk_core.specs.Pages.{zero_page};
 ghost use Rattle.slru_bank.specs.Calls.{IsDurable, cutoff_of, faults_of, last_page, pages_of, volume_of};
 ghost use Rattle.store_pages.specs.Layouts.{multi_before};
-ghost use Rattle.store_pages.specs.Pages.{offset_page};
+ghost use Rattle.tx_events.specs.Pages.{offset_page};
 ghost use Rattle.tx_events.specs.Base.{IsBase};
 ghost use Rattle.tx_events.specs.declared.refusal.Lock.TheVariants as locks;
 ghost use Rattle.engine_host.specs.declared.refusal.OpenRefusal.TheVariants as refusals;

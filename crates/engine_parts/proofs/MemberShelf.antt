@@ -3,7 +3,7 @@ use Rattle.std.proofs.Common.{arith, refl, sym, ℕ, nat_lt, ◌≡◌, ◌+◌,
 use Rattle.disk_core.specs.Pages.{zero_page}
 use Rattle.slru_bank.proofs.ZeroBytes.{zero_byte}
 use Rattle.store_pages.specs.Layouts.{member_page_of, member_place_of, mode_place_of, number_in}
-use Rattle.store_pages.specs.Pages.{member_page_in_full}
+use Rattle.tx_events.specs.Pages.{member_page_in_full}
 use Rattle.tx_events.specs.PageOrder.{Offsets, page_precedes}
 use Rattle.tx_core.specs.declared.entry.Start.{Start}
 use Rattle.tx_core.specs.CleanMultis.{CleanMembers}

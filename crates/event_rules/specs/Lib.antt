@@ -1,3 +1,4 @@
 pub mod Lined
 pub mod Same
 pub mod Told
+pub mod SnapsTold

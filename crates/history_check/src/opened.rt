@@ -11,9 +11,8 @@ ghost use Rattle.history_check.specs.declared.opened.OpenId.{OpenId};
 ghost use Rattle.history_check.specs.Opened.{AreAllOpened, AreClosed, AreOpened, IsMissing, IsPlaceOf, is_closed_below, opened_after, opened_ids};
 
 use proc_table::ProcTable;
-use snap_core::is_listed;
 use std::alloc::Global;
-use tx_events::{Event, FullXid, Memory};
+use tx_events::{Event, FullXid, Memory, is_listed};
 
 /// An id that is open.
 #[derive(Clone, Copy, Debug, PartialEq, Eq)]

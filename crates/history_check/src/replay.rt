@@ -20,10 +20,9 @@ use crate::may::may_come;
 use crate::opened::{OpenId, closed_by, note_opened};
 use crate::turns::{is_in_turn, no_turns, note};
 use proc_table::{Given, ProcTable};
-use snap_core::is_listed;
 use std::alloc::Global;
 use std::marker::Model;
-use tx_events::{By, Counters, Event, FullXid, Memory, SnapData, XactEnd, make_one_room};
+use tx_events::{By, Counters, Event, FullXid, Memory, SnapData, XactEnd, is_listed, make_one_room};
 
 /// A history that is legal, and what its events say of ids. A contract sees the life's base, the number of sessions and
 /// the events. An event takes the logarithm of the history's length, and the end of a transaction besides as many steps as

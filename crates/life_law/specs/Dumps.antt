@@ -12,7 +12,7 @@ use Rattle.tx_events.specs.Horizon.{oldest_xmin}
 use Rattle.tx_events.specs.PageOrder.{Ids, is_cut}
 use Rattle.tx_events.specs.Places.{EachPlace}
 use Rattle.store_pages.specs.Layouts.{subtrans_cutoff, xact_cutoff}
-use Rattle.store_pages.specs.Pages.{parents_per_page, xacts_per_page}
+use Rattle.tx_events.specs.Pages.{parents_per_page, xacts_per_page}
 use Rattle.tx_model.specs.declared.reply.Reply.{Reply}
 use Rattle.tx_model.specs.declared.reply.Reply.TheVariants as replies
 use Rattle.tx_model.specs.declared.report.DumpOf.{DumpOf}

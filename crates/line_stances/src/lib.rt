@@ -5,7 +5,9 @@
 mod levels;
 mod snaps;
 mod standing;
+mod stands;
 
 pub use levels::Levels;
 pub use snaps::Snaps;
 pub use standing::Standing;
+pub use stands::{is_lacking, is_open, taken_as, top_of};

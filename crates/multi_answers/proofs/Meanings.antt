@@ -15,7 +15,7 @@ use Rattle.place_columns.specs.declared.span.Span.{Span}
 use Rattle.place_columns.specs.Columns.{IsWhere}
 use Rattle.report_law.specs.MultiLines.{IsMultiFuture, IsMultiTooOld}
 use Rattle.multi_places.specs.MultiTold.{next_in, oldest_in}
-use Rattle.multi_told.proofs.Nearness.{of_some, some_of}
+use Rattle.tx_events.proofs.Nearness.{of_some, some_of}
 use Rattle.multi_answers.specs.Own.{AreReadMultis}
 
 -- ---- before another

@@ -11,8 +11,10 @@ use Rattle.tx_events.specs.Limits.{down_to_multi, multi_warn_limit, up_to_multi}
 use Rattle.tx_events.specs.Multis.{AreLegalMultis, BaseOffset, multi_by, next_made, oldest_multi}
 use Rattle.report_law.specs.Kinds.{IsPinAt}
 use Rattle.report_law.specs.MultiLines.{IsMultiWarned, IsPinnedOrNext}
-use Rattle.multi_told.specs.Shapes.{AnyPlace, ArePlacesOf}
-use Rattle.multi_told.proofs.Pinning.{any_place, bound_of, its_by, pin_by, stands_at}
+use Rattle.place_columns.specs.OwnPlaces.{AnyPlace, ArePlacesOf}
+use Rattle.tx_events.proofs.MultiPlaces.{bound_of, its_by, stands_at}
+use Rattle.place_columns.proofs.PlaceLists.{any_place}
+use Rattle.report_law.proofs.Pinned.{pin_by}
 use Rattle.multi_answers.specs.Own.{GivesLate, PinsOrRaises}
 
 -- ---- pins and raises

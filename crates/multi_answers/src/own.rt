@@ -3,7 +3,7 @@ ghost use Rattle.std.specs.Prelude.{◌≡◌, ◌↔◌, IsTrue, Some, map, sli
 ghost use Rattle.tx_events.specs.Multis.{multi_by};
 ghost use Rattle.report_law.specs.MultiLines.{IsPinnedOrNext};
 ghost use Rattle.given_counts.specs.Counted.{AreCounts};
-ghost use Rattle.multi_told.specs.Shapes.{AnyPlace, ArePlacesOf};
+ghost use Rattle.place_columns.specs.OwnPlaces.{AnyPlace, ArePlacesOf};
 ghost use Rattle.multi_answers.specs.Own.{Owner, PinsOrRaises};
 
 use given_counts::GivenCounts;

@@ -4,7 +4,7 @@ ghost use Rattle.tx_events.specs.declared.event.By.{By};
 ghost use Rattle.tx_events.specs.Limits.{down_to_multi, multi_warn_limit, up_to_multi};
 ghost use Rattle.tx_events.specs.Multis.{multi_by};
 ghost use Rattle.report_law.specs.MultiLines.{IsMultiWarned};
-ghost use Rattle.multi_told.specs.Shapes.{AnyPlace, ArePlacesOf};
+ghost use Rattle.place_columns.specs.OwnPlaces.{AnyPlace, ArePlacesOf};
 ghost use Rattle.multi_answers.specs.Own.{GivesLate};
 
 use multi_places::MultiPlaces;

@@ -5,7 +5,7 @@ use Rattle.std.specs.List.{cons_option, filter_map, last_or, slice_get, slice_in
 use Rattle.disk_core.specs.declared.page_disk.PageDisk as disks
 use Rattle.store_pages.specs.declared.page_rule.PageRule as rules
 use Rattle.store_pages.specs.Layouts.{member_page_of, member_place_of, mode_place_of, number_in}
-use Rattle.store_pages.specs.Pages.{id_at, member_page_in_full, mode_at}
+use Rattle.tx_events.specs.Pages.{id_at, member_page_in_full, mode_at}
 use Rattle.slru_bank.specs.declared.bank.SlruBank.{SlruBank}
 use Rattle.slru_bank.specs.Calls.{CrashKeeps, cutoff_of, last_page, pages_of}
 use Rattle.multi_members.specs.Changes.{SameSlot}

@@ -1,7 +1,7 @@
 //! Offsets and pages as they are stored, and the page before which the offsets are cut.
 ghost use Rattle.std.specs.Prelude.{◌≡◌, ◌%◌, ◌^◌};
 ghost use Rattle.store_pages.specs.Layouts.{multi_before};
-ghost use Rattle.store_pages.specs.Pages.{offset_page};
+ghost use Rattle.tx_events.specs.Pages.{offset_page};
 ghost use Rattle.tx_events.specs.Ids.{low_half};
 
 use tx_events::FullMulti;

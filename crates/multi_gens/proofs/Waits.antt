@@ -11,8 +11,9 @@ use Rattle.tx_events.specs.declared.record.Counters.{Counters}
 use Rattle.tx_events.specs.Multis.{multi_by, next_made}
 use Rattle.report_law.specs.MultiLines.{IsNotYet}
 use Rattle.multi_places.specs.declared.start.Start.{Start}
-use Rattle.multi_told.specs.Shapes.{AnyPlace, ArePlacesOf}
-use Rattle.multi_told.proofs.Pinning.{any_place, bound_of, its_by, stands_at}
+use Rattle.place_columns.specs.OwnPlaces.{AnyPlace, ArePlacesOf}
+use Rattle.tx_events.proofs.MultiPlaces.{bound_of, its_by, stands_at}
+use Rattle.place_columns.proofs.PlaceLists.{any_place}
 use Rattle.multi_gens.specs.Gens.{AreStartsOf, IsAboveAt, IsOnlyGenAt, IsRecordedIn, NoGen, Waiting, WaitsIn, is_ok_gen}
 
 -- ---- pins above it

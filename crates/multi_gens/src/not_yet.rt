@@ -10,7 +10,7 @@ ghost use Rattle.given_counts.specs.Counted.{AreCounts};
 ghost use Rattle.multi_places.specs.declared.start.Start.{Start};
 ghost use Rattle.multi_places.specs.Starts.{IsMissing, IsPlaceOf};
 ghost use Rattle.report_law.specs.MultiLines.{IsNotYet};
-ghost use Rattle.multi_told.specs.Shapes.{AnyPlace, ArePlacesOf};
+ghost use Rattle.place_columns.specs.OwnPlaces.{AnyPlace, ArePlacesOf};
 ghost use Rattle.multi_gens.specs.Gens.{AreStartsOf, IsAboveAt, IsRecordedIn, Waiting, WaitsIn, is_ok_gen};
 
 use crate::made::gen_place;

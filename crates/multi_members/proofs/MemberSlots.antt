@@ -4,7 +4,7 @@ use Rattle.std.proofs.lemmas.Bool.{eqb-true}
 use Rattle.std.proofs.lemmas.List.{get_or-set_same, get_or-set_other}
 use Rattle.tx_events.specs.PageOrder.{Offsets}
 use Rattle.store_pages.specs.Layouts.{number_in}
-use Rattle.store_pages.specs.Pages.{mode_at, id_at}
+use Rattle.tx_events.specs.Pages.{mode_at, id_at}
 use Rattle.slru_bank.specs.Bank.{masked, PutsPage, StaysAPage}
 use Rattle.slru_bank.specs.Removal.{ClearsAfter}
 use Rattle.slru_bank.specs.ByteRange.{PutsNumber, other_number, cleared_before, cleared_past, cleared_number_before, cleared_number_past}

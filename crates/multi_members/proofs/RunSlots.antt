@@ -5,7 +5,7 @@ use Rattle.tx_events.specs.Ids.{low_half}
 use Rattle.tx_events.specs.Modes.{mode_number}
 use Rattle.tx_events.specs.declared.multi.Member.{Member}
 use Rattle.store_pages.specs.Layouts.{number_in}
-use Rattle.store_pages.specs.Pages.{id_at, member_page, member_place, mode_at}
+use Rattle.tx_events.specs.Pages.{id_at, member_page, member_place, mode_at}
 use Rattle.disk_core.specs.declared.page_disk.PageDisk.{Ghosts as DiskGhosts}
 use Rattle.store_pages.specs.declared.page_rule.PageRule.{Ghosts as RuleGhosts}
 use Rattle.slru_bank.specs.Bank.{IsPage}

@@ -3,7 +3,7 @@ use Rattle.std.specs.Prelude.{◌≡◌, ◌≢◌, ℕ, ◌<◌, ◌≤◌, ◌
 use Rattle.disk_core.specs.Pages.{zero_page}
 use Rattle.tx_events.specs.PageOrder.{Offsets, page_precedes}
 use Rattle.store_pages.specs.Layouts.{number_in}
-use Rattle.store_pages.specs.Pages.{id_at, members_per_page, mode_at}
+use Rattle.tx_events.specs.Pages.{id_at, members_per_page, mode_at}
 use Rattle.slru_bank.specs.Bank.{OthersStay, StaysAPage}
 
 -- the k-th slot of a page is the same on two pages

@@ -4,7 +4,7 @@ use Rattle.tx_events.specs.Ids.{low_half}
 use Rattle.tx_events.specs.Modes.{mode_number}
 use Rattle.tx_events.specs.declared.multi.Member.{Member}
 use Rattle.store_pages.specs.Layouts.{number_in}
-use Rattle.store_pages.specs.Pages.{id_at, members_per_page, mode_at}
+use Rattle.tx_events.specs.Pages.{id_at, members_per_page, mode_at}
 use Rattle.slru_bank.specs.Bank.{OthersStay, StaysAPage}
 use Rattle.multi_members.specs.Changes.{SameSlot}
 use Rattle.multi_members.specs.Slots.{slot_of}

@@ -3,7 +3,7 @@ ghost use Rattle.std.specs.Prelude.{◌≡◌, ℕ, ◌+◌, ◌*◌, ◌/◌, �
 ghost use Rattle.tx_events.specs.Ids.{low_half};
 ghost use Rattle.tx_events.specs.PageOrder.{Offsets, page_precedes};
 ghost use Rattle.store_pages.specs.Layouts.{number_in};
-ghost use Rattle.store_pages.specs.Pages.{id_at, member_page, member_place, members_per_page, mode_at};
+ghost use Rattle.tx_events.specs.Pages.{id_at, member_page, member_place, members_per_page, mode_at};
 ghost use Rattle.slru_bank.specs.Calls.{CallsBank, SamePages, TrimsBank, pages_of};
 ghost use Rattle.tx_events.specs.Modes.{mode_number};
 ghost use Rattle.multi_members.specs.Slots.{slot_of};

@@ -1,6 +1,6 @@
 // Members of a multixact that lie on one page, in one go.
 ghost use Rattle.std.specs.Prelude.{◌≡◌, ℕ, ◌+◌, ◌^◌, ◌≤◌, ◌++◌, IsTrue, OnErr, OnOk, length, vec_capacity};
-ghost use Rattle.store_pages.specs.Pages.{member_page, member_place, members_per_page};
+ghost use Rattle.tx_events.specs.Pages.{member_page, member_place, members_per_page};
 ghost use Rattle.slru_bank.specs.Calls.{CallsBank, SamePages, pages_of};
 ghost use Rattle.multi_members.specs.Runs.{SetsMembers, slots_on};
 

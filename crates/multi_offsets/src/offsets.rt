@@ -3,7 +3,7 @@ ghost use Rattle.std.specs.Prelude.{◌≡◌, ℕ, ◌*◌, ◌^◌, IsTrue, On
 ghost use Rattle.tx_events.specs.PageOrder.{Multis, page_precedes};
 ghost use Rattle.tx_events.specs.Ids.{low_half};
 ghost use Rattle.store_pages.specs.Layouts.{number_in};
-ghost use Rattle.store_pages.specs.Pages.{offset_page, offset_place, offsets_per_page};
+ghost use Rattle.tx_events.specs.Pages.{offset_page, offset_place, offsets_per_page};
 ghost use Rattle.slru_bank.specs.ByteRange.{SetsEntry, TrimsEntries};
 ghost use Rattle.slru_bank.specs.Calls.{CallsBank, SamePages, TrimsBank, pages_of};
 ghost use Rattle.multi_offsets.specs.Offsets.{offset_of};

@@ -1,4 +1,3 @@
-pub mod Nearness
 pub mod Reaching
 pub mod Pinning
 pub mod Shaping

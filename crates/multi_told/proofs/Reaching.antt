@@ -14,7 +14,7 @@ use Rattle.tx_model.specs.Replies.{RoundSpan}
 use Rattle.report_law.specs.MultiLines.{IsMemberOf}
 use Rattle.multi_told.specs.declared.reach.Reach.{Reach}
 use Rattle.multi_told.specs.Reached.{IsMember, IsReach, MayBeMember}
-use Rattle.multi_told.proofs.Nearness.{near_again, near_is}
+use Rattle.tx_events.proofs.Nearness.{near_again, near_is}
 
 -- ---- a number that rises by small steps
 

@@ -1,5 +1,5 @@
 -- Which multixact events a command has, by its reply.
-use Rattle.std.specs.Prelude.{◌≡◌, ◌↔◌, ℕ, ◌==◌, ◌&&◌, ◌⊎◌, cond, Bool, true, false, List, [], ◌∷◌, Some, Contains, take, slice_get}
+use Rattle.std.specs.Prelude.{◌≡◌, ℕ, ◌==◌, ◌&&◌, cond, Bool, true, false, List, [], ◌∷◌, Some, take}
 use Rattle.tx_events.specs.Nearest.{near_id}
 use Rattle.tx_events.specs.declared.event.By.{By}
 use Rattle.tx_events.specs.declared.event.Event.{Event}
@@ -124,14 +124,6 @@ begins_between es = false
 
 -- ---- pins
 
--- these are the places of the command's events
-abbrev pub ArePlacesOf : By → List By → List ℕ → Type 0
-ArePlacesOf by bys places = (p : ℕ) → (slice_get bys p ≡ Some by) ↔ Contains places p
-
 -- the command pins there, where the stored half means this multixact
 abbrev pub IsPinNear : Counters → List MultiEvent → By → ℕ → ℕ → ℕ → Type 0
 IsPinNear base all by m multi place = IsPinAt all by place × (near_id (next_made base.multi (take place all)) m ≡ Some multi)
-
-abbrev pub AnyPlace : (ℕ → Type 0) → List ℕ → Type 0
-AnyPlace P [] = ⊥
-AnyPlace P (p ∷ places) = P p ⊎ AnyPlace P places

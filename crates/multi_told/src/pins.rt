@@ -5,7 +5,8 @@ ghost use Rattle.tx_events.specs.declared.multi.MultiEvent.TheVariants as multis
 ghost use Rattle.tx_events.specs.Multis.{multi_by};
 ghost use Rattle.tx_events.specs.Nearest.{near_id};
 ghost use Rattle.given_counts.specs.Counted.{AreCounts};
-ghost use Rattle.multi_told.specs.Shapes.{AnyPlace, ArePlacesOf, IsPinNear, Teller};
+ghost use Rattle.place_columns.specs.OwnPlaces.{AnyPlace, ArePlacesOf};
+ghost use Rattle.multi_told.specs.Shapes.{IsPinNear, Teller};
 
 use given_counts::GivenCounts;
 use tx_events::{FullMulti, MultiEvent, MultiId};

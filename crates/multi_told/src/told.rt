@@ -9,7 +9,8 @@ ghost use Rattle.report_law.specs.Places.{multis_of};
 ghost use Rattle.report_law.specs.Steps.{HasFirstMultis};
 ghost use Rattle.given_counts.specs.Counted.{AreCounts};
 ghost use Rattle.multi_told.specs.Reached.{IsMember, IsReach, JudgedRound, MayBeMember};
-ghost use Rattle.multi_told.specs.Shapes.{ArePlacesOf, IsShaped, Teller, pairs_of};
+ghost use Rattle.place_columns.specs.OwnPlaces.{ArePlacesOf};
+ghost use Rattle.multi_told.specs.Shapes.{IsShaped, Teller, pairs_of};
 
 use crate::begin::{
     begins_between, begins_given, begins_pinned, begins_raised, begins_with, is_gen_of, is_of_pin,

@@ -15,7 +15,7 @@ use Rattle.tx_model.specs.declared.reply.Verdict.TheVariants as verdicts
 use Rattle.tx_model.specs.Replies.{RoundSpan}
 use Rattle.report_law.specs.MultiLines.{IsMemberVerdict, IsTold}
 use Rattle.multi_verdicts.specs.Telling.{IsCarriedPast}
-use Rattle.multi_told.proofs.Nearness.{near_again, near_is}
+use Rattle.tx_events.proofs.Nearness.{near_again, near_is}
 use Rattle.multi_verdicts.proofs.Nearness.{none_again, none_is}
 
 low_low : (n : ℕ) → n % 2 ^ 32 ≡ (n % 2 ^ 32) % 2 ^ 32

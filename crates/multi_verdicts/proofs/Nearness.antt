@@ -2,7 +2,7 @@
 use Rattle.std.proofs.Common.{◌≡◌, ℕ, ◌+◌, ◌-◌, ◌%◌, ◌^◌, ◌<◌, ◌≤◌, Option, Some, None, refl, arith, ⊎_elim}
 use Rattle.std.proofs.lemmas.Bool.{cases_lt}
 use Rattle.tx_events.specs.Nearest.{near_id, offset_near}
-use Rattle.multi_told.proofs.Nearness.{near_some}
+use Rattle.tx_events.proofs.Nearness.{near_some}
 
 far : (f x o : ℕ) → o ≡ (x + 2 ^ 31 + 2 ^ 32 - f % 2 ^ 32) % 2 ^ 32 → x < 2 ^ 32 → f + o < 2 ^ 31 → f + 2 ^ 31 ≤ x
 far f x o is small l = omega arith

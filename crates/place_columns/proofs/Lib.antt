@@ -1,2 +1,3 @@
 pub mod ColumnSteps
 pub mod Parting
+pub mod PlaceLists

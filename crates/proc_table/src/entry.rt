@@ -5,9 +5,8 @@ ghost use Rattle.std.specs.Vec.{vec_len, vec_capacity};
 ghost use Rattle.tx_events.specs.IdLists.{has, Ascending};
 ghost use Rattle.proc_table.specs.Entries.{IsSame, IsAdded, IsTaken, HasRoomFor};
 
-use snap_core::is_listed;
 use std::alloc::Global;
-use tx_events::{FullXid, Memory};
+use tx_events::{FullXid, Memory, is_listed};
 
 /// How many running subids an entry lists in a snapshot (`PGPROC_MAX_CACHED_SUBXIDS`).
 const MOST_LISTED: usize = 64;

@@ -23,13 +23,11 @@ use crate::entries::{
 };
 use crate::entry::{Entry, greatest};
 use crate::live::LiveSnapshots;
-use horizon_limits::check_id;
 use std::alloc::{AllocError, Global};
 use std::marker::Model;
-use store_pages::subtrans_page_in_full;
 use tx_events::{
     By, Copied, Counters, Event, EventList, FullXid, Memory, Name, Refusal, SnapData, XactEnd,
-    make_one_room, make_room,
+    check_id, make_one_room, make_room, subtrans_page_in_full,
 };
 
 /// The running transactions and the live snapshots of all sessions, and the history so far: what PostgreSQL keeps under

@@ -3,7 +3,7 @@
 use Rattle.std.specs.Prelude.{◌≡◌, ℕ, ◌+◌, ◌^◌, ◌<◌, ◌==◌, cond, take, List, Option, Some, None}
 use Rattle.std.specs.List.{filter_map, flat_map, last_or}
 use Rattle.notes.specs.Lists.{at}
-use Rattle.store_pages.specs.Pages.{member_page_in_full, offset_page}
+use Rattle.tx_events.specs.Pages.{member_page_in_full, offset_page}
 use Rattle.tx_core.specs.declared.entry.Entry.{Entry}
 use Rattle.tx_core.specs.declared.entry.Start.{Start}
 use Rattle.tx_core.specs.CleanStart.{IsClearFrom}

@@ -1,7 +1,7 @@
 -- Volumes that fit a log: what a crash may leave of all of them at once.
 use Rattle.std.specs.Prelude.{◌≡◌, ℕ, ◌+◌, ◌-◌, ◌%◌, ◌^◌, ◌<◌, ◌≤◌, ◌⊎◌, List, [], ◌∷◌, ◌++◌, length, drop, Some, Ok, slice_get}
 use Rattle.store_pages.specs.Layouts.{member_page_of, word_page_of, xact_page_of}
-use Rattle.store_pages.specs.Pages.{member_page_in_full}
+use Rattle.tx_events.specs.Pages.{member_page_in_full}
 use Rattle.tx_events.specs.declared.record.Counters.{Counters}
 use Rattle.tx_events.specs.declared.record.Rec.{Rec}
 use Rattle.tx_events.specs.declared.record.Rec.TheVariants as records

@@ -21,7 +21,8 @@ use Rattle.event_rules.proofs.Standing.{at_number, in_order, within}
 use Rattle.event_rules.proofs.Judging.{few_steps}
 use Rattle.open_counts.proofs.Earlier.{has_there}
 use Rattle.reply_lines.specs.At.{AtLine, IsAsking, IsRoundAt, StandsThere, lines_at, multi_span_at, rounds_at, span_at}
-use Rattle.reply_lines.specs.Known.{IsKnown, told_by, told_in, told_lists}
+use Rattle.event_rules.specs.SnapsTold.{told_by, told_in, told_lists}
+use Rattle.reply_lines.specs.Known.{IsKnown}
 use Rattle.reply_lines.specs.declared.known.Known.{Known}
 use Rattle.reply_lines.specs.declared.rounds.RoundAt.{RoundAt}
 use Rattle.reply_lines.proofs.Spots.{by_at}

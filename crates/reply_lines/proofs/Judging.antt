@@ -22,7 +22,7 @@ use Rattle.report_law.specs.MultiLines.{of_records}
 use Rattle.report_law.specs.Places.{AreMultisJudged, IsJudged, has_multi_line}
 use Rattle.report_law.specs.Steps.{Judged, lines_of}
 use Rattle.event_rules.specs.Lined.{AreMultisTheirs, AreTheirs}
-use Rattle.life_check.proofs.Fronts.{got, taken}
+use Rattle.report_law.proofs.Fronts.{got, taken}
 use Rattle.open_counts.proofs.Earlier.{there_is}
 use Rattle.multi_told.specs.Reached.{IsReach, span}
 use Rattle.multi_told.specs.declared.reach.Reach.{Reach}

@@ -11,7 +11,7 @@ use Rattle.tx_model.specs.declared.reply.Reply.TheVariants as replies
 use Rattle.tx_model.specs.declared.report.Line.{Line}
 use Rattle.tx_model.specs.Lines.{is_line_of, stance}
 use Rattle.tx_model.specs.Stance.{Stance, after, nothing_yet, second_of, snap_of, stance_from}
-use Rattle.life_check.proofs.Fronts.{got, got_within}
+use Rattle.report_law.proofs.Fronts.{got, got_within}
 use Rattle.reply_lines.specs.At.{IsSnapAsked, Spot, before_at, lines_at, rounds_at, stance_at}
 use Rattle.reply_lines.proofs.Spots.{behind}
 

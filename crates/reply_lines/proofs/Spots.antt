@@ -25,15 +25,15 @@ use Rattle.life_marks.specs.declared.snaps.SnapMark.{SnapMark}
 use Rattle.place_rules.specs.Readings.{IsReading}
 use Rattle.multi_rules.specs.MultiReadings.{IsMultiReading}
 use Rattle.multi_answers.specs.Own.{AreReadMultis}
-use Rattle.multi_told.specs.Shapes.{ArePlacesOf}
+use Rattle.place_columns.specs.OwnPlaces.{ArePlacesOf}
 use Rattle.report_law.specs.Steps.{lines_of}
 use Rattle.event_rules.proofs.Judging.{few_steps}
 use Rattle.event_rules.proofs.Standing.{in_order, size_is, within}
-use Rattle.life_check.proofs.FrontsAtEvents.{AreWithin}
-use Rattle.life_check.proofs.FrontsOfMultis.{AreMultisWithin}
-use Rattle.life_check.proofs.Theirs.{multis_within, theirs_within}
+use Rattle.report_law.proofs.FrontsAtEvents.{AreWithin}
+use Rattle.report_law.proofs.FrontsOfMultis.{AreMultisWithin}
+use Rattle.report_law.proofs.Theirs.{multis_within, theirs_within}
 use Rattle.reply_lines.specs.At.{IsAsking, IsLineOfSnap, IsSnapAsked, IsSpot, SnapSpot, Spot, base_of, history_of, lines_at, multi_round_of, multis_of_life, round_of, rounds_at}
-use Rattle.reply_lines.specs.Known.{told_by}
+use Rattle.event_rules.specs.SnapsTold.{told_by}
 use Rattle.seen_rules.specs.Runs.{AreItsPlaces, AreReadPlaces}
 use Rattle.reply_lines.specs.declared.known.Known.{Known}
 use Rattle.reply_lines.specs.declared.reading.Asking.{Asking}

@@ -7,8 +7,8 @@ use Rattle.tx_events.specs.declared.record.Counters.{Counters}
 use Rattle.tx_events.specs.Limits.{multi_warn_limit}
 use Rattle.tx_events.specs.Multis.{oldest_multi}
 use Rattle.report_law.specs.MultiLines.{IsMultiWarned}
-use Rattle.life_check.proofs.Fronts.{got, got_within, taken}
-use Rattle.life_check.proofs.FrontsOfMultis.{AreMultisWithin}
+use Rattle.report_law.proofs.Fronts.{got, got_within, taken}
+use Rattle.report_law.proofs.FrontsOfMultis.{AreMultisWithin}
 
 pub multi_warned_whole : (base : Counters) (all : List MultiEvent) (n : ℕ) (by : By) (multi : ℕ) → AreMultisWithin all n by → IsMultiWarned base (take n all) by multi ↔ IsMultiWarned base all by multi
 multi_warned_whole base all n by multi within = (

@@ -19,7 +19,7 @@ use Rattle.tx_model.specs.Replies.{RoundSpan, taken_by}
 use Rattle.tx_model.specs.Rounds.{lines_in}
 use Rattle.tx_model.specs.Stance.{Stance}
 use Rattle.life_law.specs.Refused.{by_standing}
-use Rattle.life_check.specs.Sessions.{Lived}
+use Rattle.standing_rules.specs.Sessions.{Lived}
 use Rattle.report_law.specs.Kinds.{IsSnapAt}
 use Rattle.report_law.specs.Places.{multi_span}
 use Rattle.report_law.specs.Steps.{AreJudged, IsLawfulByHistory, IsLawfulReply, Judged, by_members}

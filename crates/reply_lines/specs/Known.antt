@@ -1,5 +1,5 @@
 -- What is known of a life before its lines are judged.
-use Rattle.std.specs.Prelude.{◌≡◌, ℕ, ◌<◌, ◌==◌, ◌↔◌, IsTrue, List, Option, Some, None, Contains, drop, length, map, slice_get}
+use Rattle.std.specs.Prelude.{◌≡◌, ℕ, ◌<◌, ◌==◌, ◌↔◌, IsTrue, List, Contains, drop, length, map}
 use Rattle.std.specs.BTreeSet.{contains}
 use Rattle.std.specs.List.{All, list_any}
 use Rattle.std.specs.Ordering.{nat_cmp}
@@ -7,20 +7,16 @@ use Rattle.tx_events.specs.Base.{IsBase}
 use Rattle.tx_events.specs.declared.event.By.{By}
 use Rattle.tx_events.specs.declared.multi.Member.{Member}
 use Rattle.tx_events.specs.declared.multi.MultiEvent.{MultiEvent}
-use Rattle.tx_events.specs.declared.snapshot.SnapData.{SnapData}
 use Rattle.tx_events.specs.Events.{by_of}
 use Rattle.tx_events.specs.Multis.{multi_by}
-use Rattle.tx_model.specs.declared.reply.Reply.{Reply}
-use Rattle.tx_model.specs.declared.reply.Reply.TheVariants as replies
 use Rattle.tx_model.specs.declared.report.LifeReport.{LifeReport}
-use Rattle.tx_model.specs.declared.report.Line.{Line}
 use Rattle.life_law.specs.DidCommit.{IsRecorded}
 use Rattle.life_law.specs.Pending.{is_commit_of}
 use Rattle.life_marks.specs.IdMarks.{AreMarks}
 use Rattle.life_marks.specs.SnapMarks.{AreSnapMarks}
 use Rattle.given_counts.specs.Counted.{AreCounts}
 use Rattle.multi_places.specs.Starts.{start_of}
-use Rattle.own_events.specs.Lined.{bys_of, line_by, lines_from, number_of}
+use Rattle.own_events.specs.Lined.{bys_of, line_by, lines_from}
 use Rattle.own_places.specs.Owned.{AreAllOwn, AreInTurn}
 use Rattle.open_counts.specs.Opens.{AreOpenCounts}
 use Rattle.reply_rules.specs.Ends.{IsLogEnd}
@@ -28,6 +24,7 @@ use Rattle.reply_rules.specs.Logs.{AreLogs}
 use Rattle.report_law.specs.Begun.{Begun}
 use Rattle.report_law.specs.Steps.{Judged, gave_multi, lines_of}
 use Rattle.event_rules.specs.Lined.{AreLinesInOrder, events_in, multis_in}
+use Rattle.event_rules.specs.SnapsTold.{told_by}
 use Rattle.legal_fronts.specs.Fronts.{IsFront, IsMultiFront}
 use Rattle.multi_gens.specs.Gens.{AreStartsOf, is_ok_gen}
 use Rattle.held_rules.specs.Limits.{AreHeldLimits}
@@ -35,19 +32,6 @@ use Rattle.multi_verdicts.specs.Snapped.{AreTakenByLines}
 use Rattle.multi_verdicts.specs.Stored.{AreHomes}
 use Rattle.reply_lines.specs.declared.known.Known.{Known}
 use Rattle.reply_lines.specs.declared.known.Kept.{Kept}
-
--- what the reply to a command tells of a snapshot
-abbrev pub told_lists : Reply → Option SnapData
-told_lists (replies.Snapped lists) = Some lists
-told_lists reply = None
-
--- and that of a line
-abbrev pub told_in : Option Line → Option SnapData
-told_in (Some l) = told_lists l.reply
-told_in None = None
-
-abbrev pub told_by : Judged → By → Option SnapData
-told_by j by = told_in (slice_get (lines_of j) (number_of (lines_from 0 j.steps) by))
 
 pub record IsKnown (j : Judged) (k : Known) : Type 0 where
   pub base : IsBase j.begun.counters

@@ -6,7 +6,8 @@ ghost use Rattle.tx_model.specs.declared.report.LifeReport.{LifeReport};
 ghost use Rattle.tx_model.specs.Stance.{snap_of};
 ghost use Rattle.report_law.specs.Answers.{goes_by_places};
 ghost use Rattle.reply_lines.specs.At.{IsLawfulHere, IsSpot, Spot, stance_at};
-ghost use Rattle.reply_lines.specs.Known.{IsKept, told_by, told_lists};
+ghost use Rattle.event_rules.specs.SnapsTold.{told_by, told_lists};
+ghost use Rattle.reply_lines.specs.Known.{IsKept};
 
 use crate::both::{are_same, both, is_below};
 use crate::by_events::{
@@ -21,8 +22,7 @@ use crate::by_multis::{
 };
 use crate::known::{Kept, Known};
 use crate::reading::Asking;
-use crate::stands::{is_lacking, is_open, taken_as};
-use line_stances::Standing;
+use line_stances::{Standing, is_lacking, is_open, taken_as};
 use tx_events::{FullMulti, FullXid, MultiEvent, MultiId, Name, Refusal, Xid};
 use tx_model::{Command, LifeReport, MemberVerdict, PairList, Reply};
 

@@ -3,7 +3,7 @@ ghost use Rattle.std.specs.Prelude.{◌≡◌, ◌↔◌, ◌≤◌, IsTrue, Som
 ghost use Rattle.report_law.specs.MultiLines.{IsNotGiven, IsOldMember};
 ghost use Rattle.report_law.specs.Steps.{IsDidAt, IsDidTooOld, IsFutureAt, IsSeen, IsStatusAt, IsTooOldFor};
 ghost use Rattle.reply_lines.specs.At.{HasCommitted, IsLineOfSnap, IsSnapAsked, IsSnappedBy, IsSpot, ListSpot, SnapSpot, Spot, base_of, history_of, round_of};
-ghost use Rattle.reply_lines.specs.Known.{told_by};
+ghost use Rattle.event_rules.specs.SnapsTold.{told_by};
 
 use crate::by_events::is_carried;
 use crate::known::{Kept, Known};

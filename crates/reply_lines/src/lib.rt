@@ -14,8 +14,8 @@ mod own;
 mod reading;
 mod replies;
 mod rounds;
-mod stands;
 
 pub use commands::{is_lawful_command, pass_line};
 pub use known::{Kept, Known};
+pub use own::multis_at;
 pub use rounds::{RoundAt, round_at};

@@ -5,14 +5,10 @@ use Rattle.std.specs.List.{count_by, list_any}
 use Rattle.std.specs.Ordering.{nat_cmp}
 use Rattle.tx_events.specs.declared.record.Rec.{Rec}
 use Rattle.tx_events.specs.declared.record.Rec.TheVariants as records
-use Rattle.life_law.specs.Pending.{is_commit_of}
 use Rattle.report_law.specs.Records.{is_same_multi}
+use Rattle.report_law.specs.Tops.{AreTops}
 use Rattle.report_law.specs.Steps.{IsStrayMulti, Judged, flushed_recs, is_truncation}
 use Rattle.reply_rules.specs.declared.logged.Logs.{Logs}
-
--- the transactions of the commit records among these
-abbrev pub AreTops : List Rec → BTreeSet ℕ → Type 0
-AreTops recs tops = (x : ℕ) → contains nat_cmp tops x ≡ list_any (is_commit_of x) recs
 
 -- the multixacts of the records among these
 abbrev pub AreRecordedMultis : List Rec → BTreeSet ℕ → Type 0

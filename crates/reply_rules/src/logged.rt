@@ -5,7 +5,8 @@ ghost use Rattle.tx_events.specs.declared.record.Rec.{Rec};
 ghost use Rattle.tx_model.specs.declared.report.Line.{Line};
 ghost use Rattle.tx_model.specs.Stance.{Stance, top_level};
 ghost use Rattle.report_law.specs.Steps.{IsLogged, Judged, is_ok_trim, is_truncation};
-ghost use Rattle.reply_rules.specs.Logs.{AreLogs, AreTops, IsCommitLogged};
+ghost use Rattle.reply_rules.specs.Logs.{AreLogs, IsCommitLogged};
+ghost use Rattle.report_law.specs.Tops.{AreTops};
 
 use std::collections::BTreeSet;
 use tx_events::{FullXid, Rec};

@@ -1,6 +1,6 @@
 -- The multixacts that a legal history gives, where those of the base begin as is told.
-use Rattle.std.proofs.Common.{◌≡◌, ℕ, suc, zero, ◌+◌, ◌-◌, ◌<◌, ◌≤◌, ◌⊎◌, inl, inr, Bool, true, false, List, [], ◌∷◌, ◌++◌, Option, Some, None, length, take, drop, refl, sym, ap, subst, ◌∙◌, arith, ⊎_elim, append_assoc, append-nil, take-append-drop}
-use Rattle.std.specs.List.{Contains, slice_get}
+use Rattle.std.proofs.Common.{◌≡◌, ℕ, ◌-◌, ◌<◌, ◌≤◌, ◌⊎◌, inl, inr, List, [], ◌∷◌, ◌++◌, Some, None, take, drop, sym, ap, subst, ◌∙◌, arith, ⊎_elim, append_assoc, append-nil, take-append-drop}
+use Rattle.std.specs.List.{Contains}
 use Rattle.std.proofs.lemmas.Bool.{cases_lt}
 use Rattle.tx_events.specs.declared.event.By.{By}
 use Rattle.tx_events.specs.declared.multi.Member.{Member}
@@ -8,7 +8,7 @@ use Rattle.tx_events.specs.declared.multi.MultiEvent.{MultiEvent}
 use Rattle.tx_events.specs.declared.multi.MultiEvent.TheVariants as events
 use Rattle.tx_events.specs.declared.record.Counters.{Counters}
 use Rattle.tx_events.specs.Base.{IsBase}
-use Rattle.tx_events.specs.Multis.{AreLegalMultis, BaseOffset, InBase, MultiMayCome, first_member, free_offset, made_at, multi_counters, next_made, oldest_multi, oldest_multi_after, oldest_offset, oldest_offset_after}
+use Rattle.tx_events.specs.Multis.{AreLegalMultis, BaseOffset, InBase, MultiMayCome, free_offset, made_at, multi_counters, next_made, oldest_multi, oldest_multi_after, oldest_offset, oldest_offset_after}
 use Rattle.tx_events.proofs.Membership.{Has, by_end, has_cases}
 use Rattle.tx_events.proofs.PlaceLemmas.{each_place_last, each_place_start}
 use Rattle.place_columns.proofs.ColumnSteps.{parts}

@@ -1,16 +1,16 @@
 -- What the lives before have left, as the lines of commands ask it.
-use Rattle.std.proofs.Common.{◌≡◌, ℕ, ◌<◌, ◌↔◌, List, [], ◌∷◌, Contains, get_or, length, map, refl, sym, ap, subst, ◌∙◌, arith}
+use Rattle.std.proofs.Common.{◌≡◌, ℕ, ◌<◌, List, [], ◌∷◌, Contains, get_or, length, map, refl, sym, ap, subst, ◌∙◌}
 use Rattle.std.proofs.lemmas.List.{get_or_default}
 use Rattle.tx_events.specs.IdLists.{Ascending}
 use Rattle.tx_events.specs.declared.multi.Member.{Member}
 use Rattle.tx_events.proofs.Membership.{contains_has, has_contains, has_map}
 use Rattle.tx_model.specs.declared.report.LifeReport.{LifeReport}
-use Rattle.multi_gens.specs.Gens.{AreStartsOf, IsRecordedIn}
+use Rattle.multi_gens.specs.Gens.{AreStartsOf}
 use Rattle.multi_places.specs.declared.start.Start.{Start}
 use Rattle.multi_places.specs.Starts.{start_of}
 use Rattle.multi_verdicts.specs.declared.homes.Home.{Home}
-use Rattle.multi_verdicts.specs.Stored.{AreHomes, IsHome}
-use Rattle.report_law.specs.Begun.{Begun, Recorded}
+use Rattle.multi_verdicts.specs.Stored.{IsHome}
+use Rattle.report_law.specs.Begun.{Begun}
 use Rattle.reply_lines.specs.Known.{IsKept}
 use Rattle.reply_lines.specs.declared.known.Kept.{Kept}
 use Rattle.report_check.specs.Keeping.{AreStarts, IsLeft, start_at}

@@ -1,12 +1,10 @@
 -- Where the multixacts were given that the log has recorded.
-use Rattle.std.proofs.Common.{◌≡◌, ℕ, suc, zero, ◌+◌, ◌<◌, Bool, true, false, List, [], ◌∷◌, ◌++◌, Option, Some, None, length, map, take, refl, sym, ap, subst, ◌∙◌, arith, append_assoc}
+use Rattle.std.proofs.Common.{◌≡◌, ℕ, suc, ◌+◌, ◌<◌, Bool, true, false, List, [], ◌∷◌, ◌++◌, Option, Some, None, length, map, take, refl, sym, ap, ◌∙◌, arith, append_assoc}
 use Rattle.std.specs.Bool.{then_some}
-use Rattle.std.specs.List.{cons_option, filter_map, list_any, slice_get}
+use Rattle.std.specs.List.{cons_option, filter_map, list_any}
 use Rattle.std.specs.Option.{option_map}
 use Rattle.std.proofs.lemmas.List.{length-take-le}
 use Rattle.std.proofs.lemmas.List.Elements.{filter_map-append}
-use Rattle.tx_events.specs.declared.event.By.{By}
-use Rattle.tx_events.specs.declared.multi.Member.{Member}
 use Rattle.tx_events.specs.declared.multi.MultiEvent.{MultiEvent}
 use Rattle.tx_events.specs.declared.multi.MultiEvent.TheVariants as events
 use Rattle.tx_events.specs.declared.record.Rec.{Rec}

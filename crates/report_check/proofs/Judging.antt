@@ -1,8 +1,7 @@
 -- The lines of both histories, one by one.
-use Rattle.std.proofs.Common.{◌≡◌, ◌≢◌, ◌↔◌, ℕ, suc, zero, ◌+◌, ◌<◌, ◌≤◌, ◌==◌, List, [], ◌∷◌, ◌++◌, Some, get_or, length, replicate, set, take, refl, sym, ap, subst, ◌∙◌, arith, ⊎_elim, eqb-true}
-use Rattle.std.specs.Prelude.{slice_index}
+use Rattle.std.proofs.Common.{◌≡◌, ◌≢◌, ◌↔◌, ℕ, suc, zero, ◌<◌, ◌≤◌, ◌==◌, List, [], ◌∷◌, ◌++◌, Some, get_or, length, replicate, set, take, refl, sym, ap, subst, ◌∙◌, arith, ⊎_elim, eqb-true}
+use Rattle.std.specs.Prelude.{slice_index, Bool, IsTrue, false, true}
 use Rattle.std.proofs.lemmas.Bool.{cases_Bool, false≢true}
-use Rattle.std.specs.Prelude.{Bool, IsTrue, false, true}
 use Rattle.std.specs.List.{All, AllByRecursion, Contains, slice_get}
 use Rattle.std.proofs.lemmas.List.{get_or-set_other, get_or-set_same, length-replicate, length-set, length-take}
 use Rattle.std.proofs.lemmas.Option.{slice_get-get_or, slice_get_within}
@@ -15,7 +14,7 @@ use Rattle.tx_events.specs.declared.multi.MultiEvent.{MultiEvent}
 use Rattle.tx_events.specs.History.{ComesInTurn, IsLegal, MayCome}
 use Rattle.tx_events.specs.Multis.{AreLegalMultis, MultiMayCome, multi_by}
 use Rattle.legal_fronts.proofs.Fronting.{all_taken, one_got, taken}
-use Rattle.life_check.proofs.Walks.{placed_length}
+use Rattle.report_check.proofs.Walks.{placed_length}
 use Rattle.report_law.specs.Events.{IsLawfulEvent, IsLawfulMulti}
 use Rattle.report_law.specs.MultiLines.{of_records}
 use Rattle.report_law.specs.ReportLines.{IsLawfulAt, ReportLine, event, multi, placed}

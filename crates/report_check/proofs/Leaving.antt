@@ -1,5 +1,5 @@
 -- What a lawful life leaves to the next one.
-use Rattle.std.proofs.Common.{◌≡◌, ◌↔◌, ℕ, suc, zero, ◌+◌, ◌-◌, ◌<◌, ◌≤◌, ◌||◌, ◌==◌, Bool, true, false, List, [], ◌∷◌, ◌++◌, Option, Some, None, get_or, length, map, take, refl, sym, ap, subst, ◌∙◌, arith, ⊎_elim, inl, inr}
+use Rattle.std.proofs.Common.{◌≡◌, ℕ, suc, zero, ◌+◌, ◌-◌, ◌<◌, ◌≤◌, ◌||◌, ◌==◌, Bool, true, List, [], ◌∷◌, ◌++◌, Option, Some, None, get_or, length, map, take, refl, sym, ap, subst, ◌∙◌, arith, ⊎_elim}
 use Rattle.std.specs.Bool.{then_some}
 use Rattle.std.specs.BTreeSet.{contains}
 use Rattle.std.specs.List.{AllByRecursion, Contains, cons_option, count_by, filter_map, flat_map, fold, list_any, slice_get}
@@ -17,7 +17,7 @@ use Rattle.tx_events.specs.declared.record.Rec.TheVariants as records
 use Rattle.tx_events.specs.After.{after_records}
 use Rattle.tx_events.specs.Base.{IsBase}
 use Rattle.tx_events.specs.Multis.{AreLegalMultis, oldest_multi, oldest_offset}
-use Rattle.tx_events.proofs.Membership.{Has, contains_has, has_cases, has_contains, has_left, has_map, has_place, has_right, has_take, place_has}
+use Rattle.tx_events.proofs.Membership.{Has, contains_has, has_cases, has_contains, has_left, has_place, has_right, has_take, place_has}
 use Rattle.tx_events.proofs.PlaceLemmas.{slice_get-grows}
 use Rattle.tx_model.specs.declared.report.Life.{Life}
 use Rattle.tx_model.specs.declared.report.LifeReport.{LifeReport}
@@ -25,15 +25,14 @@ use Rattle.tx_model.specs.Rounds.{lines_in}
 use Rattle.legal_fronts.proofs.Fronting.{one_more}
 use Rattle.multi_store.proofs.MadeSteps.{oldest_offset_push, oldest_push}
 use Rattle.multi_places.specs.declared.start.Start.{Start}
-use Rattle.multi_places.specs.Starts.{BeginsAs, start_of}
+use Rattle.multi_places.specs.Starts.{BeginsAs}
 use Rattle.multi_verdicts.specs.declared.homes.Home.{Home}
-use Rattle.multi_verdicts.specs.Stored.{IsHome}
 use Rattle.life_starts.specs.Behind.{AreBases}
 use Rattle.life_starts.proofs.Lasting.{later_is}
-use Rattle.life_check.proofs.Walks.{lives_append}
+use Rattle.report_check.proofs.Walks.{lives_append}
 use Rattle.report_law.specs.Begun.{Begun, BeginsRight, IsLawfulStart, begun_after, begun_from, committed_by, last_life, recorded_by}
 use Rattle.report_law.specs.MultiLines.{of_records}
-use Rattle.report_law.specs.Records.{AreOfCheckpoint, IsAnnouncedMulti, IsRecordAt, IsTrueRecord, is_same_multi}
+use Rattle.report_law.specs.Records.{IsRecordAt, IsTrueRecord, is_same_multi}
 use Rattle.report_law.specs.ReportLines.{IsLawfulAt, ReportLine, event, judged, life_lines, lives_lines, log, logged, multi, placed, plain, start, steps_lines}
 use Rattle.report_law.specs.Steps.{Judged}
 use Rattle.report_law.specs.Places.{has_multi_line}

@@ -1,18 +1,15 @@
 -- From life to life.
-use Rattle.std.proofs.Common.{◌≡◌, ◌↔◌, ℕ, suc, zero, ◌+◌, ◌<◌, ◌≤◌, List, [], ◌∷◌, ◌++◌, Option, Some, None, get_or, length, take, refl, sym, ap, subst, ◌∙◌, arith, ⊎_elim, inl, inr}
+use Rattle.std.proofs.Common.{◌≡◌, ◌↔◌, ℕ, suc, zero, ◌+◌, ◌<◌, ◌≤◌, List, [], ◌∷◌, ◌++◌, Option, Some, None, get_or, length, take, refl, sym, ap, subst, ◌∙◌, arith}
 use Rattle.std.specs.List.{AllByRecursion, slice_get}
-use Rattle.std.proofs.lemmas.List.{append-nil, length-append, take_more}
+use Rattle.std.proofs.lemmas.List.{append-nil, length-append}
 use Rattle.std.proofs.lemmas.Option.{slice_get-get_or}
 use Rattle.tx_model.specs.declared.report.LifeReport.{LifeReport}
-use Rattle.tx_model.specs.declared.report.Report.{Report}
-use Rattle.report_text.specs.ReportText.{report_text}
-use Rattle.report_read.specs.Reports.{IsReport}
 use Rattle.report_law.specs.Begun.{begun_from}
-use Rattle.report_law.specs.ReportLines.{IsLawfulAt, IsLawfulReport, IsUnlawful, ReportLine, life_lines, lives_lines}
-use Rattle.life_check.specs.Numbered.{IsNumbered}
-use Rattle.life_check.specs.Walk.{IsFirstBroken}
-use Rattle.life_check.proofs.Sections.{lives_broken, lives_next}
-use Rattle.life_check.proofs.Walks.{lives_append}
+use Rattle.report_law.specs.ReportLines.{IsLawfulAt, ReportLine, life_lines, lives_lines}
+use Rattle.life_tables.specs.Numbered.{IsNumbered}
+use Rattle.report_check.specs.Walk.{IsFirstBroken}
+use Rattle.report_check.proofs.Sections.{lives_broken}
+use Rattle.report_check.proofs.Walks.{lives_append}
 use Rattle.legal_fronts.proofs.Fronting.{all_taken, one_more}
 use Rattle.report_check.specs.Found.{IsTextJudgedAs}
 use Rattle.report_check.specs.Judgement.{IsFirstUnlawful, IsLawfulText}

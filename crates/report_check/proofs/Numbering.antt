@@ -25,7 +25,7 @@ use Rattle.report_read.specs.Reports.{IsReport, IsRun, nothing_told}
 use Rattle.report_read.specs.declared.told.Stage.{Stage}
 use Rattle.report_read.specs.declared.told.Stage.TheVariants as stages
 use Rattle.report_read.specs.declared.told.Told.{Told}
-use Rattle.life_check.specs.Numbered.{AreInOrder, IsFew, IsNumbered}
+use Rattle.life_tables.specs.Numbered.{AreInOrder, IsFew, IsNumbered}
 
 -- ---- lists
 

@@ -8,7 +8,7 @@ use Rattle.tx_events.specs.Multis.{AreLegalMultis}
 use Rattle.multi_places.specs.MultiTold.{MultiReplayed}
 use Rattle.multi_places.specs.Starts.{BeginsAs, start_of}
 use Rattle.legal_fronts.specs.Fronts.{IsMultiFront}
-use Rattle.life_check.proofs.Sections.{placed_next}
+use Rattle.report_check.proofs.Sections.{placed_next}
 use Rattle.reply_lines.proofs.Judging.{multi_front_reaches}
 use Rattle.report_law.specs.MultiLines.{of_records}
 use Rattle.report_law.specs.ReportLines.{IsLawfulAt, ReportLine, placed}

@@ -1,12 +1,11 @@
 -- The lines of a round among those of its life.
-use Rattle.std.proofs.Common.{◌≡◌, ◌↔◌, ℕ, suc, zero, ◌+◌, ◌<◌, ◌≤◌, Bool, true, false, cond, List, [], ◌∷◌, ◌++◌, Option, Some, get_or, length, map, take, drop, refl, sym, ap, subst, ◌∙◌, arith, append_assoc}
-use Rattle.std.specs.List.{All, AllByRecursion, count_by, flat_map, slice_get}
+use Rattle.std.proofs.Common.{◌≡◌, ℕ, suc, zero, ◌+◌, ◌<◌, ◌≤◌, Bool, true, false, cond, List, [], ◌∷◌, ◌++◌, Some, get_or, length, map, take, drop, refl, sym, ap, subst, ◌∙◌, arith, append_assoc}
+use Rattle.std.specs.List.{All, count_by, flat_map, slice_get}
 use Rattle.std.proofs.lemmas.Grind.{flat_map-append}
 use Rattle.std.proofs.lemmas.List.{length-append, length-take-le}
 use Rattle.std.proofs.lemmas.List.Sums.{sum_by-append, sum_by-cons}
 use Rattle.std.proofs.lemmas.Option.{slice_get-get_or, slice_get_within}
 use Rattle.tx_events.specs.declared.event.By.{By}
-use Rattle.tx_events.specs.declared.event.Event.{Event}
 use Rattle.tx_events.proofs.PlaceLemmas.{slice_get-grows}
 use Rattle.tx_model.specs.declared.report.Line.{Line}
 use Rattle.tx_model.specs.declared.report.Step.{Step}
@@ -14,8 +13,8 @@ use Rattle.tx_model.specs.Rounds.{lines_in}
 use Rattle.own_events.specs.Lined.{line_by}
 use Rattle.event_rules.specs.Told.{AreToldEvents}
 use Rattle.report_law.specs.Steps.{Judged, is_ok_trim, lines_of}
-use Rattle.life_check.specs.Sessions.{AreBehind, Lived, with_line}
-use Rattle.life_check.specs.declared.sessions.Session.{Session}
+use Rattle.standing_rules.specs.Sessions.{AreBehind, Lived, with_line}
+use Rattle.standing_rules.specs.declared.sessions.Session.{Session}
 use Rattle.reply_lines.specs.At.{AtLine, StandsThere, before_at, lines_at, lived_at, rounds_at}
 use Rattle.report_check.specs.Passing.{IsPassed, trims_with}
 use Rattle.report_check.specs.declared.round_lines.Passed.{Passed}

@@ -1,8 +1,8 @@
 -- A life from part to part.
-use Rattle.std.proofs.Common.{◌≡◌, ◌↔◌, ℕ, suc, zero, ◌+◌, ◌<◌, ◌≤◌, Bool, true, false, List, [], ◌∷◌, ◌++◌, Option, Some, length, map, take, drop, refl, sym, ap, subst, ◌∙◌, arith, append_assoc, take-append-drop}
+use Rattle.std.proofs.Common.{◌≡◌, ◌↔◌, ℕ, suc, zero, ◌+◌, ◌≤◌, Bool, false, List, [], ◌∷◌, ◌++◌, Option, length, take, drop, refl, sym, subst, ◌∙◌, arith, append_assoc, take-append-drop}
 use Rattle.std.specs.Prelude.{IfOk, IsTrue, Result}
 use Rattle.std.proofs.lemmas.Result.{IfOk-weaker}
-use Rattle.std.specs.List.{All, AllByRecursion, count_by, flat_map}
+use Rattle.std.specs.List.{All, AllByRecursion, flat_map}
 use Rattle.std.proofs.lemmas.List.{length-append}
 use Rattle.std.proofs.lemmas.List.Sums.{count_by-le-length}
 use Rattle.tx_events.specs.declared.event.Event.{Event}
@@ -27,11 +27,11 @@ use Rattle.report_law.specs.MultiLines.{of_records}
 use Rattle.report_law.specs.Places.{has_multi_line}
 use Rattle.report_law.specs.ReportLines.{IsLawfulAt, ReportLine, event, judged, life_lines, log, logged, multi, placed, plain, start, steps_lines}
 use Rattle.report_law.specs.Steps.{Judged}
-use Rattle.life_check.specs.Walk.{IsFirstBroken}
-use Rattle.life_check.proofs.Walks.{all_append, broken_first, broken_left, broken_right}
+use Rattle.report_check.specs.Walk.{IsFirstBroken}
+use Rattle.report_check.proofs.Walks.{all_append, broken_first, broken_left, broken_right}
 use Rattle.reply_lines.specs.Known.{IsKnown}
 use Rattle.reply_lines.specs.declared.known.Known.{Known}
-use Rattle.report_check.specs.Noting.{IsReached}
+use Rattle.checkpoint_rules.specs.Noting.{IsReached}
 use Rattle.report_check.specs.Stepping.{noting_of}
 use Rattle.report_check.specs.Walked.{IsWalked, behind_steps}
 use Rattle.report_check.specs.declared.walked.Walked.{Walked}

@@ -1,7 +1,7 @@
 -- The multixacts that a lawful life leaves recorded fit as those of the next life's base.
-use Rattle.std.proofs.Common.{◌≡◌, ◌↔◌, ℕ, suc, zero, ◌+◌, ◌<◌, ◌≤◌, ◌⊎◌, ◌==◌, max, inl, inr, Bool, true, false, List, [], ◌∷◌, ◌++◌, Option, Some, None, length, map, take, refl, sym, ap, subst, ◌∙◌, arith, ⊎_elim, append-nil, eqb-true}
+use Rattle.std.proofs.Common.{◌≡◌, ◌↔◌, ℕ, ◌<◌, ◌≤◌, max, inl, inr, Bool, true, false, List, [], ◌∷◌, ◌++◌, Option, Some, None, map, take, refl, sym, ap, subst, ◌∙◌, arith, ⊎_elim, append-nil, eqb-true}
 use Rattle.std.specs.Bool.{then_some}
-use Rattle.std.specs.List.{AllByRecursion, Contains, cons_option, filter_map, list_any}
+use Rattle.std.specs.List.{Contains, cons_option, filter_map, list_any}
 use Rattle.std.proofs.lemmas.Bool.{cases_lt}
 use Rattle.std.proofs.lemmas.List.{map-append}
 use Rattle.std.proofs.lemmas.List.Elements.{filter_map-append}
@@ -17,7 +17,7 @@ use Rattle.tx_events.specs.After.{after_record, after_records}
 use Rattle.tx_events.specs.Base.{IsBase}
 use Rattle.tx_events.specs.IdLists.{Ascending}
 use Rattle.tx_events.specs.Ids.{next_multi}
-use Rattle.tx_events.specs.Multis.{MultiMayCome, made_at, next_made, oldest_multi, oldest_offset}
+use Rattle.tx_events.specs.Multis.{MultiMayCome, made_at, oldest_multi, oldest_offset}
 use Rattle.tx_events.proofs.Membership.{Has, all_at, all_from, any_has, by_end, contains_has, has_any, has_cases, has_contains, has_filter_map, has_left, has_map, has_right}
 use Rattle.tx_events.proofs.ListSteps.{eqb-refl}
 use Rattle.tx_events.proofs.PlaceLemmas.{each_place_last, each_place_start}

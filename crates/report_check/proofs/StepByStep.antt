@@ -1,7 +1,7 @@
 -- From step to step.
-use Rattle.std.proofs.Common.{◌≡◌, ◌↔◌, ℕ, suc, zero, ◌+◌, ◌<◌, ◌≤◌, Bool, true, false, List, [], ◌∷◌, ◌++◌, Option, Some, length, map, take, drop, refl, sym, ap, subst, ◌∙◌, arith, append_assoc, append-nil}
+use Rattle.std.proofs.Common.{◌≡◌, ◌↔◌, ℕ, suc, zero, ◌+◌, ◌<◌, ◌≤◌, Bool, false, List, [], ◌∷◌, ◌++◌, Some, length, map, take, drop, refl, sym, ap, subst, ◌∙◌, arith, append_assoc, append-nil}
 use Rattle.std.specs.Prelude.{IsTrue}
-use Rattle.std.specs.List.{All, AllByRecursion, count_by, flat_map, slice_get}
+use Rattle.std.specs.List.{All, AllByRecursion, flat_map, slice_get}
 use Rattle.std.proofs.lemmas.Grind.{flat_map-append}
 use Rattle.std.proofs.lemmas.List.{length-append}
 use Rattle.tx_events.specs.declared.event.By.{By}
@@ -10,25 +10,24 @@ use Rattle.tx_events.specs.declared.record.Counters.{Counters}
 use Rattle.tx_model.specs.declared.report.Line.{Line}
 use Rattle.tx_model.specs.declared.report.Step.{Step}
 use Rattle.tx_model.specs.Rounds.{lines_in}
-use Rattle.legal_fronts.proofs.Fronting.{all_taken, one_more}
+use Rattle.legal_fronts.proofs.Fronting.{one_more}
 use Rattle.own_events.specs.Lined.{line_by}
 use Rattle.report_law.specs.ReportLines.{IsLawfulAt, ReportLine, plain, step_lines, steps_lines}
 use Rattle.history_check.specs.Replays.{Replayed}
 use Rattle.checkpoint_rules.specs.declared.counted.Checkpoints.{Checkpoints}
 use Rattle.report_law.specs.Steps.{Judged, lines_of}
 use Rattle.checkpoint_rules.specs.Behind.{AreMultiCounters}
-use Rattle.life_check.specs.Walk.{IsFirstBroken}
-use Rattle.life_check.proofs.Sections.{steps_broken, steps_next}
-use Rattle.life_check.proofs.Walks.{broken_first, broken_right, steps_append}
+use Rattle.report_check.specs.Walk.{IsFirstBroken}
+use Rattle.report_check.proofs.Sections.{steps_broken}
+use Rattle.report_check.proofs.Walks.{broken_first, broken_right, steps_append}
 use Rattle.reply_lines.specs.At.{IsRoundAt}
 use Rattle.reply_lines.specs.Known.{IsKnown}
 use Rattle.reply_lines.specs.declared.known.Known.{Known}
 use Rattle.reply_lines.specs.declared.rounds.RoundAt.{RoundAt}
-use Rattle.report_check.specs.declared.checkpoints.Point.{Point}
 use Rattle.report_check.specs.declared.walked.Walked.{Walked}
 use Rattle.report_check.specs.declared.walked.Walked.TheVariants as walks
-use Rattle.report_check.specs.Midst.{AreFew}
-use Rattle.report_check.specs.Noting.{AreFronts, AreNoted, IsPointOf, IsReached}
+use Rattle.checkpoint_rules.specs.Midst.{AreFew}
+use Rattle.checkpoint_rules.specs.Noting.{AreFronts, AreNoted, IsPointOf, IsReached}
 use Rattle.report_check.specs.Stepping.{noting_of, step_or}
 use Rattle.event_rules.specs.Told.{AreToldEvents}
 use Rattle.report_check.specs.Walked.{IfLawful, IsWalked, is_lawful}

@@ -1,7 +1,7 @@
 -- Where the line of a multixact event's command stands.
 use Rattle.std.proofs.Common.{◌≡◌, ℕ, zero, suc, ◌+◌, ◌-◌, ◌<◌, ◌≤◌, ◌↔◌, Some, None, List, [], ◌∷◌, ◌++◌, length, get_or, map, take, refl, sym, ap, subst, ◌∙◌, ⊎_elim, arith, length-append, ◌==◌}
 use Rattle.std.specs.Prelude.{slice_index}
-use Rattle.std.specs.List.{All, count_by, flat_map, slice_get}
+use Rattle.std.specs.List.{count_by, flat_map, slice_get}
 use Rattle.std.proofs.lemmas.Bool.{cases_lt}
 use Rattle.std.proofs.lemmas.List.{length-map}
 use Rattle.tx_events.specs.declared.event.By.{By}
@@ -17,10 +17,9 @@ use Rattle.event_rules.specs.Told.{IsToldMulti}
 use Rattle.event_rules.proofs.Standing.{at_number, in_order, number_stands}
 use Rattle.event_rules.proofs.Telling.{rank_counts}
 use Rattle.multi_told.specs.Reached.{span}
-use Rattle.multi_told.specs.Shapes.{ArePlacesOf}
+use Rattle.place_columns.specs.OwnPlaces.{ArePlacesOf}
 use Rattle.own_events.specs.declared.lines.LineAt.{LineAt}
 use Rattle.own_events.specs.Lined.{bys_of, line_at, line_by, lines_from, number_of, places_of}
-use Rattle.own_events.proofs.Copying.{place_within}
 use Rattle.own_events.proofs.LinePlaces.{its_places}
 use Rattle.own_events.proofs.LineSteps.{bys_are}
 use Rattle.report_law.specs.Events.{StandsAt, rounds_before}
@@ -61,14 +60,6 @@ module _ (j : Judged) (order : AreLinesInOrder j) where
       ap (λ n. count_by (λ k. k == n) (take place (multis_in j).numbers)) is
       ∙ ap (λ (ks : List ℕ). count_by (λ k. k == number) ks) (first_numbers f j.life.multis place)
       ∙ rank_counts multi_by (lines_from 0 j.steps) number by (take place j.life.multis) (in_order j order) line
-
-  pub places_within : (number : ℕ) → All (λ p. p < length j.life.multis) (places_of number (multis_in j).numbers)
-  places_within number k d l =
-      let f = number_of (lines_from 0 j.steps) in
-      let w = place_within number 0 (multis_in j).numbers k d l in
-      let a = length-map (map multi_by j.life.multis) f in
-      let b = length-map j.life.multis multi_by in
-      omega arith
 
   pub its_places_are : (number : ℕ) (by : By) → slice_get (bys_of (lines_from 0 j.steps)) number ≡ Some by → ArePlacesOf by (map multi_by j.life.multis) (places_of number (multis_in j).numbers)
   its_places_are number by line p = its_places (lines_from 0 j.steps) number by (in_order j order) line (map multi_by j.life.multis) p

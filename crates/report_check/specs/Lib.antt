@@ -1,11 +1,9 @@
 pub mod Judgement
 pub mod Checks
-pub mod Midst
-pub mod Noting
 pub mod Keeping
 pub mod Walked
 pub mod Found
-pub mod Known
 pub mod Passing
 pub mod Dumped
 pub mod Stepping
+pub mod Walk

@@ -6,7 +6,7 @@ use Rattle.tx_model.specs.declared.report.Step.{Step}
 use Rattle.tx_model.specs.Rounds.{lines_in}
 use Rattle.report_law.specs.Steps.{Judged, is_ok_trim}
 use Rattle.event_rules.specs.Told.{AreToldEvents}
-use Rattle.life_check.specs.Sessions.{AreBehind, Lived}
+use Rattle.standing_rules.specs.Sessions.{AreBehind, Lived}
 use Rattle.report_check.specs.declared.round_lines.Passed.{Passed}
 
 abbrev pub lived_by : Judged → List Line → Lived

@@ -1,5 +1,5 @@
 -- A life's steps so far.
-use Rattle.std.specs.Prelude.{◌≡◌, ℕ, List, [], get_or, take}
+use Rattle.std.specs.Prelude.{ℕ, List, [], get_or, take}
 use Rattle.std.specs.List.{flat_map}
 use Rattle.tx_events.specs.declared.multi.MultiEvent.{MultiEvent}
 use Rattle.tx_model.specs.declared.report.Step.{Step}
@@ -9,7 +9,7 @@ use Rattle.report_law.specs.Steps.{Judged}
 use Rattle.checkpoint_rules.specs.Behind.{AreMultiCounters}
 use Rattle.reply_lines.specs.declared.known.Known.{Known}
 use Rattle.report_check.specs.Dumped.{IsDumping}
-use Rattle.report_check.specs.Noting.{AreNoted, Noting}
+use Rattle.checkpoint_rules.specs.Noting.{AreNoted, Noting}
 use Rattle.report_check.specs.Passing.{IsPassed}
 use Rattle.report_check.specs.declared.steps.SoFar.{SoFar}
 use Rattle.report_check.specs.declared.steps.Tables.{Tables}

@@ -6,7 +6,7 @@ use Rattle.tx_events.specs.Multis.{multi_by}
 use Rattle.tx_model.specs.declared.report.How.{How}
 use Rattle.report_law.specs.ReportLines.{IsLawfulAt, ReportLine, event, log, logged, multi, placed, plain}
 use Rattle.report_law.specs.Steps.{Judged}
-use Rattle.life_check.specs.Walk.{IsFirstBroken}
+use Rattle.report_check.specs.Walk.{IsFirstBroken}
 use Rattle.report_check.specs.declared.walked.Walked.{Walked}
 use Rattle.report_check.specs.declared.walked.Walked.TheVariants as walks
 

@@ -1,24 +1,23 @@
 //! What the lives before have left to the next one.
-ghost use Rattle.std.specs.Prelude.{◌≡◌, ◌==◌, ◌||◌, ◌++◌, ◌∷◌, ◌↔◌, [], ℕ, List, IfOk, IsTrue, OnOk};
-ghost use Rattle.std.specs.BTreeSet.{contains};
-ghost use Rattle.std.specs.List.{AllByRecursion, cons_option, filter_map, flat_map, list_any};
-ghost use Rattle.std.specs.Ordering.{nat_cmp};
+ghost use Rattle.std.specs.Prelude.{◌≡◌, ◌++◌, ◌∷◌, ◌↔◌, [], List, IfOk, IsTrue, OnOk};
+ghost use Rattle.std.specs.List.{AllByRecursion, cons_option, filter_map};
 ghost use Rattle.tx_events.specs.declared.record.Rec.{Rec};
 ghost use Rattle.tx_model.specs.declared.report.LifeReport.{LifeReport};
 ghost use Rattle.life_starts.specs.Behind.{AreBases};
-ghost use Rattle.report_law.specs.Begun.{IsLawfulStart, begun_from, committed_by};
+ghost use Rattle.report_law.specs.Begun.{IsLawfulStart, begun_from};
 ghost use Rattle.report_law.specs.ReportLines.{IsLawfulAt, lives_lines};
 ghost use Rattle.reply_rules.specs.Logs.{AreRecordedMultis};
 ghost use Rattle.report_check.specs.Keeping.{HasGrown, IsLeft, IsLeftBefore, IsNothingKept, kept_home, kept_homes, kept_start};
 
 use life_starts::{begins_behind, begins_log, starts_go_by_the_last};
+use life_tables::add_all_committed;
 use multi_places::Start;
 use multi_verdicts::Home;
 use reply_lines::Kept;
 use reply_rules::recorded_multis;
 use std::alloc::Global;
 use std::collections::BTreeSet;
-use tx_events::{FullXid, Memory, MultiEvent, Rec};
+use tx_events::{Memory, MultiEvent, Rec};
 use tx_model::{Life, LifeReport};
 
 /// What the first life begins from.
@@ -30,37 +29,6 @@ pub fn nothing_kept(alloc: Global) -> Kept
         starts: Vec::new(alloc),
         homes: Vec::new(alloc),
     }
-}
-
-fn add_ids(committed: &mut BTreeSet<u64>, ids: &[FullXid]) -> Result<(), Memory>
-    ensures { OnOk result ((x : ℕ) → contains nat_cmp committed.new x ≡ (contains nat_cmp committed.old x || list_any (λ z. z == x) ids.now)) }
-{
-    for id in ids {
-        committed.insert(id.number())?;
-    }
-    Ok(())
-}
-
-fn add_committed(committed: &mut BTreeSet<u64>, rec: &Rec) -> Result<(), Memory>
-    ensures { OnOk result ((x : ℕ) → contains nat_cmp committed.new x ≡ (contains nat_cmp committed.old x || list_any (λ z. z == x) (committed_by rec.now))) }
-{
-    match rec {
-        Rec::Commit { top, subs } => {
-            committed.insert(top.number())?;
-            add_ids(committed, subs.items())
-        }
-        _ => Ok(()),
-    }
-}
-
-/// The ids that these records commit, by their numbers, beside those of before.
-pub fn add_all_committed(committed: &mut BTreeSet<u64>, recs: &[Rec]) -> Result<(), Memory>
-    ensures { OnOk result ((x : ℕ) → contains nat_cmp committed.new x ≡ (contains nat_cmp committed.old x || list_any (λ z. z == x) (flat_map committed_by recs.now))) }
-{
-    for rec in recs {
-        add_committed(committed, rec)?;
-    }
-    Ok(())
 }
 
 /// Where the multixact begins that the event gives, and where it was given, if it is one of these recorded ones.

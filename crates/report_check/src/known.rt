@@ -3,17 +3,16 @@ ghost use Rattle.std.specs.Prelude.{◌≡◌, ℕ, ◌↔◌, List, Contains, I
 ghost use Rattle.tx_events.specs.declared.multi.Member.{Member};
 ghost use Rattle.tx_events.specs.Base.{IsBase};
 ghost use Rattle.multi_places.specs.Starts.{FitsBase, start_of};
-ghost use Rattle.life_check.specs.Numbered.{IsNumbered};
+ghost use Rattle.life_tables.specs.Numbered.{IsNumbered};
 ghost use Rattle.reply_lines.specs.Known.{IsKnown};
-ghost use Rattle.report_check.specs.Known.{LifeAt, judged_life};
+ghost use Rattle.life_tables.specs.Lives.{LifeAt, judged_life};
 
-use crate::making::{
-    are_in_turn, copied, counts_in, front_of, late_of, log_end_of, logs_of, multi_front_of, oks_of,
-    opened_of, owned, recorded_in, table_of, taken_of, turns_of,
-};
-use crate::telling::{gave_by_lines, lists_by_lines};
 use held_rules::held_limits;
 use life_marks::id_marks;
+use life_tables::{
+    are_in_turn, copied, counts_in, front_of, gave_by_lines, late_of, lists_by_lines, log_end_of,
+    logs_of, multi_front_of, oks_of, opened_of, owned, recorded_in, table_of, taken_of, turns_of,
+};
 use multi_places::Start;
 use reply_lines::Known;
 use reply_rules::commit_tops;

@@ -3,9 +3,6 @@
 //! docs/SCRIPT-AND-REPORT.md.
 #![tactic(auto)]
 
-mod asked;
-mod checkpoints;
-mod copying;
 mod dumps;
 mod ending;
 mod first;
@@ -15,11 +12,9 @@ mod known;
 mod law;
 mod life;
 mod lives;
-mod making;
 mod records;
 mod round_lines;
 mod steps;
-mod telling;
 mod told_multis;
 mod tool;
 mod walked;

@@ -8,11 +8,11 @@ ghost use Rattle.report_law.specs.Begun.{IsLawfulStart, begun_from};
 ghost use Rattle.report_law.specs.MultiLines.{of_records};
 ghost use Rattle.report_law.specs.ReportLines.{IsLawfulAt, ReportLine, event, life_lines, log, logged, multi, placed, plain, steps_lines};
 ghost use Rattle.report_law.specs.Steps.{Judged};
-ghost use Rattle.life_check.specs.Numbered.{IsNumbered};
+ghost use Rattle.life_tables.specs.Numbered.{IsNumbered};
 ghost use Rattle.reply_lines.specs.At.{IsReportOf};
 ghost use Rattle.reply_lines.specs.Known.{IsKept, IsKnown};
 ghost use Rattle.report_check.specs.Keeping.{IsLeft};
-ghost use Rattle.report_check.specs.Known.{LifeAt, judged_life};
+ghost use Rattle.life_tables.specs.Lives.{LifeAt, judged_life};
 ghost use Rattle.report_check.specs.Stepping.{IsSoFar};
 ghost use Rattle.report_check.specs.Walked.{IfLawful, IsWalked, behind_events, behind_steps, log_lines};
 

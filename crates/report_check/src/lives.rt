@@ -3,8 +3,8 @@ ghost use Rattle.std.specs.Prelude.{◌≡◌, [], IfOk};
 ghost use Rattle.std.specs.List.{AllByRecursion};
 ghost use Rattle.report_law.specs.Begun.{begun_from};
 ghost use Rattle.report_law.specs.ReportLines.{IsLawfulAt, life_lines, lives_lines};
-ghost use Rattle.life_check.specs.Numbered.{IsNumbered};
-ghost use Rattle.life_check.specs.Walk.{IsFound};
+ghost use Rattle.life_tables.specs.Numbered.{IsNumbered};
+ghost use Rattle.report_check.specs.Walk.{IsFound};
 ghost use Rattle.report_check.specs.Keeping.{IsLeft, IsLeftBefore};
 ghost use Rattle.report_check.specs.Walked.{IfLawful, IsWalked};
 

@@ -3,16 +3,16 @@ ghost use Rattle.std.specs.Prelude.{◌≡◌, ◌++◌, ◌∷◌, ◌+◌, ◌
 ghost use Rattle.tx_model.specs.Rounds.{lines_in};
 ghost use Rattle.report_law.specs.ReportLines.{command_lines};
 ghost use Rattle.report_law.specs.Steps.{IsLawfulCommand};
-ghost use Rattle.life_check.specs.Sessions.{AreBehind, IsBehind, Lived};
+ghost use Rattle.standing_rules.specs.Sessions.{AreBehind, IsBehind, Lived};
 ghost use Rattle.reply_lines.specs.At.{AtLine, IsReportOf, IsRoundAt, before_at, earlier_at, lines_at, rounds_at};
 ghost use Rattle.reply_lines.specs.Known.{IsKept, IsKnown};
 ghost use Rattle.report_check.specs.Passing.{AtRound, IsPassed, lines_before, trims_with};
 ghost use Rattle.report_check.specs.Walked.{IfLawful, IsWalked};
 
 use crate::walked::{Walked, plus};
-use life_check::Session;
 use reply_lines::{Kept, Known, RoundAt, is_lawful_command, pass_line, round_at};
 use reply_rules::is_ok_trim;
+use standing_rules::Session;
 use std::alloc::Global;
 use tx_events::{Event, Memory};
 use tx_model::{LifeReport, Line};

@@ -7,18 +7,19 @@ ghost use Rattle.report_law.specs.ReportLines.{IsLawfulAt, ReportLine, plain, st
 ghost use Rattle.report_law.specs.Steps.{Judged};
 ghost use Rattle.reply_lines.specs.At.{IsReportOf, IsRoundAt};
 ghost use Rattle.reply_lines.specs.Known.{IsKept, IsKnown};
-ghost use Rattle.report_check.specs.Noting.{AreNoted};
+ghost use Rattle.checkpoint_rules.specs.Noting.{AreNoted};
 ghost use Rattle.report_check.specs.Passing.{IsPassed};
 ghost use Rattle.report_check.specs.Stepping.{AreTables, AtStep, IsSoFar, noting_at, steps_before};
 ghost use Rattle.report_check.specs.Walked.{IfLawful, IsWalked, is_lawful};
 
-use crate::checkpoints::{Point, is_lawful_checkpoint, pass_step};
 use crate::dumps::{Dumping, dumping_of, is_lawful_dump};
 use crate::round_lines::{Passed, walk_round};
 use crate::walked::{Walked, plus};
-use checkpoint_rules::{Checkpoints, checkpoints_of, multi_counters_of};
-use life_check::new_sessions;
+use checkpoint_rules::{
+    Checkpoints, Point, checkpoints_of, is_lawful_checkpoint, multi_counters_of, pass_step,
+};
 use reply_lines::{Kept, Known, RoundAt, round_at};
+use standing_rules::new_sessions;
 use std::alloc::Global;
 use tx_events::{Counters, Memory};
 use tx_model::{LifeReport, Reply, Step};

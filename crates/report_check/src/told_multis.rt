@@ -17,11 +17,10 @@ ghost use Rattle.report_law.specs.Steps.{HasFirstMultis, Judged};
 ghost use Rattle.reply_lines.specs.At.{IsReportOf};
 ghost use Rattle.reply_lines.specs.Known.{IsKnown};
 
-use crate::copying::copied_multis;
 use event_rules::count_of_events;
 use multi_told::{is_told_multi, reach_of};
 use own_events::LineTable;
-use reply_lines::Known;
+use reply_lines::{Known, multis_at};
 use std::alloc::Global;
 use tx_events::Memory;
 use tx_model::{LifeReport, Line, Step};
@@ -66,7 +65,7 @@ fn is_told_of(
     ensures { IfOk result (λ b. (e : MultiEvent) → slice_get of.judged.life.multis place ≡ Some e → IsTrue b ↔ ((es : List MultiEvent) × HasFirstMultis of.judged of.round line.now es × (slice_get es (length (multis_of line.now.by (take place of.judged.life.multis))) ≡ Some e))) }
 {
     let multis = report.life.multis.items();
-    let own = copied_multis(alloc, multis, &known.multis, number)?;
+    let own = multis_at(alloc, multis, &known.multis, number)?;
     let reach = reach_of(&known.counts, from, to);
     let rank = known.multis.rank_at(place);
     Ok(is_told_multi(

@@ -1,1 +1,6 @@
 pub mod Worked
+pub mod Pinned
+pub mod Fronts
+pub mod FrontsAtEvents
+pub mod FrontsOfMultis
+pub mod Theirs

@@ -27,7 +27,7 @@ use Rattle.tx_model.specs.declared.report.Line.{Line}
 use Rattle.tx_model.specs.declared.report.Step.{Step}
 use Rattle.tx_model.specs.declared.report.Step.TheVariants as steps
 use Rattle.store_pages.specs.Layouts.{member_cutoff, offset_cutoff, word_place_of, xact_cutoff}
-use Rattle.store_pages.specs.Pages.{id_at, member_page, member_place, members_per_page, mode_at, offset_page, offsets_per_page, parents_per_page, subtrans_page, xact_page, xact_place, xacts_per_page}
+use Rattle.tx_events.specs.Pages.{id_at, member_page, member_place, members_per_page, mode_at, offset_page, offsets_per_page, parents_per_page, subtrans_page, xact_page, xact_place, xacts_per_page}
 use Rattle.life_law.specs.Dumps.{IsOldest, IsSubtransCutoff, events_behind}
 use Rattle.report_law.specs.Places.{has_multi_line}
 use Rattle.report_law.specs.Steps.{AreJudged, Judged, gave_multi, lines_of}

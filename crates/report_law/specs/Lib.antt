@@ -11,3 +11,4 @@ pub mod Events
 pub mod Records
 pub mod ReportLines
 pub mod Worked
+pub mod Tops

@@ -1,7 +1,6 @@
 // Where ids and multixacts warn and stop, from numbers worked out by hand from the formulas.
-use horizon_limits::{check_id, check_multi};
 use std::test::Fail;
-use tx_events::{FullMulti, FullXid, Refusal};
+use tx_events::{FullMulti, FullXid, Refusal, check_id, check_multi};
 
 // Whether an id may be given, with a warning or without, while the oldest one is 3.
 fn id_answer(next: FullXid) -> Result<Result<bool, Refusal>, Fail> {

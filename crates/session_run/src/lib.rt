@@ -9,7 +9,6 @@ mod laws;
 mod life;
 mod member;
 mod round;
-mod round_threads;
 mod rounds;
 mod run;
 mod stop;
@@ -17,5 +16,4 @@ mod task;
 mod text;
 mod tool;
 
-pub use round_threads::RoundThreads;
 pub use tool::{run_tool, say_out_of_memory};

@@ -8,12 +8,11 @@ ghost use Rattle.session_run.specs.OneLife.{HasRunLife, IsOpened, MayRunIn};
 ghost use Rattle.session_run.specs.Parts.{IsTakenPart};
 
 use crate::laws::life_ends;
-use crate::round_threads::RoundThreads;
 use crate::rounds::run_rounds;
 use disk_core::{LogDisk, PageDisk};
 use engine_life::{ClosedLife, OpenLife, close_life};
 use engine_parts::Gate;
-use script_rounds::LineKeeper;
+use script_rounds::{LineKeeper, RoundThreads};
 use session_lang::Items;
 use std::alloc::Global;
 use std::sync::Wait;

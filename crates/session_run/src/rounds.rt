@@ -15,7 +15,6 @@ ghost use Rattle.session_run.specs.Parts.{AnswersOn, HasRun, RunsOn};
 
 use crate::laws::{life_begins, life_goes_on};
 use crate::round::run_round;
-use crate::round_threads::RoundThreads;
 use disk_core::{LogDisk, PageDisk};
 use engine_checkpoints::checkpoint;
 use engine_dumps::show;
@@ -23,7 +22,7 @@ use engine_host::Host;
 use engine_life::new_sessions;
 use engine_parts::{EngineLaw, Gate, Session};
 use hall::Hall;
-use script_rounds::{LineKeeper, Plan, next_round};
+use script_rounds::{LineKeeper, Plan, RoundThreads, next_round};
 use session_lang::{Between, Dump, Items};
 use std::alloc::Global;
 use std::sync::Wait;

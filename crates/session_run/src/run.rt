@@ -24,7 +24,6 @@ ghost use Rattle.session_run.specs.Stops.{IsStopped, MountsFirst};
 
 use crate::ended::{Ended, FittedLog, log_left};
 use crate::life::run_life;
-use crate::round_threads::RoundThreads;
 use crate::stop::{Stopped, no_life_of};
 use crate::text::put_end;
 use disk_core::{Crash, LogDisk, Media, PageDisk, Volumes};
@@ -35,7 +34,7 @@ use engine_parts::Gate;
 use notes::Note;
 use report_text::Text;
 use script_gen::Summary;
-use script_rounds::{LineKeeper, Tally, next_part};
+use script_rounds::{LineKeeper, RoundThreads, Tally, next_part};
 use script_source::{LifeText, front_of, put_life};
 use session_lang::{Items, Script};
 use std::alloc::Global;

@@ -14,13 +14,13 @@ ghost use Rattle.session_run.specs.Leaves.{LeavesVolumes};
 ghost use Rattle.session_run.specs.Tool.{Ends, HasMounted, HasWritten, HoldsFront, IsAccepted, IsMemoryLast, IsSized, IsUnread, IsUnrunBy, IsWholeSummary, WritesLast, damage_text, status_of, text_of};
 
 use crate::ending::{Ending, stopped, unopened, unread};
-use crate::round_threads::RoundThreads;
 use crate::run::{count_script, run_script};
 use crate::task::{Task, task_of};
 use disk_core::Media;
 use engine_parts::Gate;
 use script_gen::generate;
 use script_gen::laws::generated_scripts_run;
+use script_rounds::RoundThreads;
 use script_source::take_script;
 use std::alloc::Global;
 use std::sync::Wait;

@@ -1,7 +1,7 @@
 //! Gates: sessions that are held up in an order which no thread alone could take, and that each critical section passes.
 use crate::test_help::{is_lawful, report_past};
 use engine_parts::Gate;
-use session_run::RoundThreads;
+use script_rounds::RoundThreads;
 use std::alloc::{AllocGlobal, Global};
 use std::sync::Wait;
 use std::sync::atomic::{AtomicBool, AtomicU64, Ordering};

@@ -2,7 +2,8 @@
 use disk_core::MemMedia;
 use engine_parts::{Gate, OpenGate};
 use report_check::check_tool;
-use session_run::{RoundThreads, run_tool};
+use script_rounds::RoundThreads;
+use session_run::run_tool;
 use std::alloc::{AllocGlobal, Global};
 use std::process::Abort;
 use std::sync::Wait;

@@ -3,7 +3,7 @@ use Rattle.std.proofs.Common.{zero, suc, ◌≡◌, ◌≢◌, ◌⊎◌, ℕ, �
 use Rattle.std.proofs.lemmas.Option.{slice_get_within}
 use Rattle.std.proofs.lemmas.List.{length-append, length-map}
 use Rattle.tx_events.proofs.Membership.{Has, contains_has, has_contains, has_map, has_place, has_right, map_has, place_has}
-use Rattle.store_pages.specs.Pages.{xact_page}
+use Rattle.tx_events.specs.Pages.{xact_page}
 use Rattle.slru_bank.specs.declared.plan.PlanStep.{PlanStep}
 use Rattle.slru_bank.specs.declared.xact_state.State.{State}
 use Rattle.slru_bank.specs.declared.xact_state.State.TheVariants.{Committed, SubCommitted}

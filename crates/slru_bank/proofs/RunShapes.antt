@@ -2,7 +2,7 @@
 use Rattle.std.proofs.Common.{zero, suc, ◌≡◌, ◌≢◌, ◌⊎◌, ℕ, ◌+◌, ◌-◌, ◌≤◌, ◌<◌, ◌==◌, cond, Bool, true, false, List, [], ◌∷◌, ◌++◌, Some, refl, sym, ap, subst, ◌∙◌, inl, inr, ⊎_elim, length, take, drop, arith, eqb-true, slice_index, Contains, slice_get}
 use Rattle.std.specs.List.{slice_range}
 use Rattle.tx_events.proofs.Membership.{Has, contains_has, has_contains, place_has}
-use Rattle.store_pages.specs.Pages.{xact_page}
+use Rattle.tx_events.specs.Pages.{xact_page}
 use Rattle.slru_bank.specs.Plan.{Run, run_at, runs, with_next}
 
 -- ---- places

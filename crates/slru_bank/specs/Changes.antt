@@ -3,7 +3,7 @@ use Rattle.std.specs.Prelude.{◌≡◌, ◌≢◌, ℕ, ◌<◌, ◌≤◌, ◌
 use Rattle.disk_core.specs.Pages.{zero_page}
 use Rattle.tx_events.specs.PageOrder.{Ids, page_precedes}
 use Rattle.store_pages.specs.Layouts.{state_in, xact_page_of, xact_place_of}
-use Rattle.store_pages.specs.Pages.{xacts_per_page}
+use Rattle.tx_events.specs.Pages.{xacts_per_page}
 use Rattle.slru_bank.specs.Bank.{OthersStay}
 
 -- the n-th id of a page has this state, and all other ids have what they had

@@ -1,6 +1,6 @@
 -- The tree rule of a commit: which pages change, and in which order.
 use Rattle.std.specs.Prelude.{ℕ, ◌+◌, ◌%◌, ◌^◌, ◌==◌, true, false, if◌then◌else◌, List, [], ◌∷◌, ◌++◌, map}
-use Rattle.store_pages.specs.Pages.{xact_page}
+use Rattle.tx_events.specs.Pages.{xact_page}
 use Rattle.slru_bank.specs.declared.xact_state.State.{State}
 use Rattle.slru_bank.specs.declared.xact_state.State.TheVariants.{Committed, SubCommitted}
 use Rattle.slru_bank.specs.declared.plan.PlanStep.{PlanStep}

@@ -4,7 +4,7 @@ use Rattle.std.proofs.lemmas.Bool.Decides.{nat_tests}
 use Rattle.slru_bank.specs.declared.xact_state.State.{State}
 use Rattle.slru_bank.specs.declared.xact_state.State.TheVariants.{InProgress, Committed, Aborted, SubCommitted}
 use Rattle.slru_bank.specs.declared.plan.PlanStep.{PlanStep}
-use Rattle.store_pages.specs.Pages.{xact_page}
+use Rattle.tx_events.specs.Pages.{xact_page}
 use Rattle.slru_bank.specs.Plan.{Run, with_next, runs, run_step, top_step, around, plan_over, plan}
 
 -- 1 for a number of a range, 0 for others

@@ -1,7 +1,7 @@
 // The states of ids: set page by page, and read.
 ghost use Rattle.std.specs.Prelude.{◌≡◌, ℕ, ◌*◌, ◌/◌, ◌%◌, ◌^◌, ◌<◌, ◌≤◌, IsTrue, List, length, slice_index, OnOk, OnErr, IfOk};
 ghost use Rattle.store_pages.specs.Layouts.{state_in, xact_page_of};
-ghost use Rattle.store_pages.specs.Pages.{xact_page, xact_place};
+ghost use Rattle.tx_events.specs.Pages.{xact_page, xact_place};
 ghost use Rattle.slru_bank.specs.Calls.{CallsBank, SamePages, pages_of};
 ghost use Rattle.slru_bank.specs.Changes.{SetsState, SetsStates, ShareAPage};
 ghost use Rattle.slru_bank.specs.States.{state_number};

@@ -4,7 +4,7 @@ ghost use Rattle.disk_core.specs.Faults.{HasRisen};
 ghost use Rattle.tx_events.specs.Ids.{low_half};
 ghost use Rattle.tx_events.specs.PageOrder.{Ids, page_precedes};
 ghost use Rattle.store_pages.specs.Layouts.{xact_page_of, xact_place_of};
-ghost use Rattle.store_pages.specs.Pages.{xacts_per_page};
+ghost use Rattle.tx_events.specs.Pages.{xacts_per_page};
 ghost use Rattle.slru_bank.specs.Bank.{masked, PutsPage, IsPage};
 ghost use Rattle.slru_bank.specs.Calls.{CrashMayLack, IsCut, SamePages, cutoff_of, faults_of, last_page, pages_of};
 ghost use Rattle.slru_bank.specs.Removal.{MayDrop};

@@ -1,7 +1,7 @@
 -- What stands on the stores' pages, byte by byte, and the pages from which on a store is kept. By full numbers.
 use Rattle.std.specs.Prelude.{ℕ, zero, suc, ◌+◌, ◌-◌, ◌*◌, ◌/◌, ◌%◌, ◌==◌, if◌then◌else◌, List, slice_index}
 use Rattle.tx_events.specs.Ids.{low_half, id_before}
-use Rattle.store_pages.specs.Pages.{xact_page, xact_place, subtrans_page, subtrans_place, member_page, member_place, mode_at, id_at}
+use Rattle.tx_events.specs.Pages.{xact_page, xact_place, subtrans_page, subtrans_place, member_page, member_place, mode_at, id_at}
 
 -- the commit log: two bits an id, 32768 ids a page
 

@@ -2,7 +2,7 @@
 ghost use Rattle.std.specs.Prelude.{◌≡◌, ◌<◌, ◌+◌, ◌*◌, ◌%◌, ◌^◌, ℕ};
 ghost use Rattle.tx_events.specs.Ids.{low_half};
 ghost use Rattle.tx_events.specs.PageOrder.{Ids, page_precedes};
-ghost use Rattle.store_pages.specs.Pages.{xact_page, xact_place, xacts_per_page};
+ghost use Rattle.tx_events.specs.Pages.{xact_page, xact_place, xacts_per_page};
 
 use crate::page_rule::PageRule;
 use crate::ring::number_on;

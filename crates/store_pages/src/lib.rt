@@ -18,6 +18,4 @@ pub use members::{
 };
 pub use offsets::{OFFSETS_PER_PAGE, OffsetPages, offset_page, offset_page_in_full, offset_place};
 pub use page_rule::{PAGES_PER_SEGMENT, PageRule};
-pub use subtrans::{
-    PARENTS_PER_PAGE, SubtransPages, subtrans_page, subtrans_page_in_full, subtrans_place,
-};
+pub use subtrans::{SubtransPages, subtrans_page, subtrans_place};

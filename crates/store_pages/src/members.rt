@@ -2,7 +2,7 @@
 ghost use Rattle.std.specs.Prelude.{◌≡◌, ◌<◌, ◌≤◌, ◌+◌, ◌*◌, ◌%◌, ◌^◌, ℕ};
 ghost use Rattle.tx_events.specs.Ids.{low_half};
 ghost use Rattle.tx_events.specs.PageOrder.{Offsets, page_precedes};
-ghost use Rattle.store_pages.specs.Pages.{id_at, member_page, member_page_in_full, member_place, members_per_page, mode_at};
+ghost use Rattle.tx_events.specs.Pages.{id_at, member_page, member_page_in_full, member_place, members_per_page, mode_at};
 
 use crate::page_rule::PageRule;
 use crate::ring::number_on;

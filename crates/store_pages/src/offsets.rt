@@ -2,7 +2,7 @@
 ghost use Rattle.std.specs.Prelude.{◌≡◌, ◌<◌, ◌+◌, ◌*◌, ◌%◌, ◌^◌, ℕ};
 ghost use Rattle.tx_events.specs.Ids.{low_half};
 ghost use Rattle.tx_events.specs.PageOrder.{Multis, page_precedes};
-ghost use Rattle.store_pages.specs.Pages.{offset_page, offset_place, offsets_per_page};
+ghost use Rattle.tx_events.specs.Pages.{offset_page, offset_place, offsets_per_page};
 
 use crate::page_rule::PageRule;
 use crate::ring::number_on;

@@ -1,15 +1,11 @@
 // The pages of the parents of subtransactions. After PostgreSQL's `src/backend/access/transam/subtrans.c`.
 ghost use Rattle.std.specs.Prelude.{◌≡◌, ◌<◌, ◌+◌, ◌*◌, ◌%◌, ◌^◌, ℕ};
-ghost use Rattle.tx_events.specs.Ids.{low_half};
 ghost use Rattle.tx_events.specs.PageOrder.{Ids, page_precedes};
-ghost use Rattle.store_pages.specs.Pages.{parents_per_page, subtrans_page, subtrans_place};
+ghost use Rattle.tx_events.specs.Pages.{parents_per_page, subtrans_page, subtrans_place};
 
 use crate::page_rule::PageRule;
 use crate::ring::number_on;
-use tx_events::{FullXid, Xid, precedes};
-
-/// How many ids have their parents on one page, four bytes each (`SUBTRANS_XACTS_PER_PAGE`).
-pub const PARENTS_PER_PAGE: u32 = 2048;
+use tx_events::{PARENTS_PER_PAGE, Xid, precedes};
 
 /// The page of an id's parent as it is stored, below 2^21 (`TransactionIdToPage`).
 pub fn subtrans_page(x: Xid) -> u32
@@ -25,14 +21,6 @@ pub fn subtrans_place(x: Xid) -> u32
     ensures within { result < parents_per_page }
 {
     x.number % PARENTS_PER_PAGE
-}
-
-/// The page in full. The stored one is its rest by 2^21.
-pub fn subtrans_page_in_full(id: FullXid) -> u64
-    ensures page { result ≡ subtrans_page id }
-    ensures stored { result % 2 ^ 21 ≡ subtrans_page (low_half id) }
-{
-    id.number() / u64::from(PARENTS_PER_PAGE)
 }
 
 /// The order of the pages of parents.

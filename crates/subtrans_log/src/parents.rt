@@ -1,7 +1,7 @@
 // A parent is stored as its low half, 0 where there is none.
 ghost use Rattle.std.specs.Prelude.{◌≡◌, ℕ, ◌*◌, ◌^◌, IsTrue, OnOk, OnErr, IfOk};
 ghost use Rattle.store_pages.specs.Layouts.{number_in};
-ghost use Rattle.store_pages.specs.Pages.{subtrans_page, subtrans_place};
+ghost use Rattle.tx_events.specs.Pages.{subtrans_page, subtrans_place};
 ghost use Rattle.slru_bank.specs.ByteRange.{SetsEntry};
 ghost use Rattle.slru_bank.specs.Calls.{CallsBank, SamePages, pages_of};
 ghost use Rattle.subtrans_log.specs.Parents.{parent_of, ends_climb};

@@ -1,7 +1,7 @@
 -- Stored pages compare as the pages in full do, where their numbers are less than a quarter of the ring apart.
 use Rattle.std.proofs.Common.{arith, false, refl, sym, true, ℕ, ⊎_elim, nat_lt, ◌&&◌, ◌*◌, ◌+◌, ◌-◌, ◌/◌, ◌%◌, ◌<◌, ◌^◌, ◌∙◌, ◌≡◌, ◌≤◌}
 use Rattle.std.proofs.lemmas.Bool.{le-leb, le-ltb, lt-leb, lt-ltb}
-use Rattle.store_pages.specs.Pages.{member_page_in_full}
+use Rattle.tx_events.specs.Pages.{member_page_in_full}
 use Rattle.tx_events.proofs.ListSteps.{le_or_over}
 use Rattle.tx_events.specs.Order.{ring_before, xid_before}
 use Rattle.tx_events.specs.PageOrder.{Ids, Multis, Offsets, Shape, is_before, page_number, page_precedes}

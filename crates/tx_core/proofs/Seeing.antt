@@ -2,12 +2,12 @@
 use Rattle.std.proofs.Common.{Bool, List, Option, [], ap, arith, cond, false, not, refl, subst, sym, take, true, ℕ, ◌&&◌, ◌==◌, ◌||◌, ◌∙◌, ◌∷◌, ◌≡◌}
 use Rattle.std.proofs.lemmas.Bool.Decides.{nat_tests}
 use Rattle.std.specs.Prelude.{nat_le, nat_lt}
-use Rattle.snap_core.proofs.SaysLemmas.{subs_ascend, xips_ascend}
-use Rattle.snap_core.specs.Says.{says_of}
-use Rattle.snap_core.specs.Sights.{sight_by, sight_said, top_sight_by}
-use Rattle.snap_core.specs.declared.sight.Sight.{Sight}
-use Rattle.snap_core.specs.declared.sight.Sight.TheVariants as sights
-use Rattle.snap_core.specs.declared.snapshot.Says.TheVariants as says
+use Rattle.tx_events.proofs.SaysLemmas.{subs_ascend, xips_ascend}
+use Rattle.tx_events.specs.Says.{says_of}
+use Rattle.tx_events.specs.Sights.{sight_by, sight_said, top_sight_by}
+use Rattle.tx_events.specs.declared.sight.Sight.{Sight}
+use Rattle.tx_events.specs.declared.sight.Sight.TheVariants as sights
+use Rattle.tx_events.specs.declared.said.Says.TheVariants as says
 use Rattle.tx_events.proofs.GivenIds.{legal_take}
 use Rattle.tx_events.proofs.ListSteps.{equal_swap}
 use Rattle.tx_events.specs.IdLists.{Ascending, has}

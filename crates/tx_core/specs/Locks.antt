@@ -1,7 +1,7 @@
 -- The locks by their numbers, and the lock under which a number's page lies.
 use Rattle.std.specs.Prelude.{ℕ, ◌+◌, ◌*◌, ◌%◌, ◌≤◌, ◌<◌}
 use Rattle.tx_events.specs.Ids.{low_half}
-pub use Rattle.store_pages.specs.Pages.{member_page, member_page_in_full, offset_page, subtrans_page, xact_page}
+pub use Rattle.tx_events.specs.Pages.{member_page, member_page_in_full, offset_page, subtrans_page, xact_page}
 use Rattle.tx_events.specs.declared.refusal.Lock.{Lock}
 use Rattle.tx_events.specs.declared.refusal.Lock.TheVariants as locks
 use Rattle.tx_core.specs.declared.entry.Start.{Start}

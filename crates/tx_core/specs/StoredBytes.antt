@@ -1,7 +1,7 @@
 -- What the pages of offsets and members hold of a number, byte by byte and as it is stored.
 use Rattle.std.specs.Prelude.{ℕ, ◌+◌, ◌/◌, ◌%◌, ◌^◌, ◌<◌, ◌≤◌, ◌≡◌, ◌==◌, cond, List, slice_index, Option, Some, None}
 use Rattle.store_pages.specs.Layouts.{member_place_of, mode_place_of}
-use Rattle.store_pages.specs.Pages.{member_page_in_full, offset_page}
+use Rattle.tx_events.specs.Pages.{member_page_in_full, offset_page}
 use Rattle.tx_events.specs.Modes.{mode_number}
 use Rattle.tx_events.specs.declared.multi.Member.{Member}
 use Rattle.tx_core.specs.MultiEntries.{SetOffset, SetSlot, offsets_in, slots_in}

@@ -1,7 +1,7 @@
 ghost use Rattle.std.specs.Prelude.{◌≡◌, ℕ, ◌%◌, ◌<◌};
 ghost use Rattle.tx_events.specs.Ids.{low_half};
 ghost use Rattle.tx_events.specs.declared.refusal.Lock.TheVariants as locks;
-ghost use Rattle.store_pages.specs.Pages.{member_page, offset_page, subtrans_page, xact_page};
+ghost use Rattle.tx_events.specs.Pages.{member_page, offset_page, subtrans_page, xact_page};
 ghost use Rattle.tx_core.specs.Locks.{number_of};
 
 use store_pages::{bank_of, member_page, offset_page, subtrans_page, xact_page};

@@ -4,10 +4,9 @@ ghost use Rattle.tx_events.specs.IdLists.{Ascending};
 ghost use Rattle.tx_core.specs.Verdict.{is_committed, verdict, IsRight};
 
 use crate::entry::State;
-use snap_core::{Sight, sight_of, sight_of_top};
-use tx_events::{FullXid, SnapData};
+use tx_events::{FullXid, Sight, SnapData, sight_of, sight_of_top};
 
-/// Whether a snapshot sees the id `x`, of which `state` was read: the rule is `snap_core`'s (`sight_of`,
+/// Whether a snapshot sees the id `x`, of which `state` was read: the rule is `tx_events`' (`sight_of`,
 /// `sight_of_top`). `topmost` is the topmost parent that was found for `x`, or an ancestor below the snapshot's xmin; only
 /// an overflowed snapshot asks for it. Where the id is at or past the snapshot's xmax, the answer is no, whatever was
 /// read. Takes at most the logarithm of what the snapshot lists.

@@ -27,3 +27,7 @@ pub mod Horizons
 pub mod Visibility
 pub mod ParentLines
 pub mod ModeNumbers
+pub mod Searching
+pub mod SaysLemmas
+pub mod Nearness
+pub mod MultiPlaces

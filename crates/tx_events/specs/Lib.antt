@@ -22,3 +22,7 @@ pub mod Savepoints
 pub mod Multis
 pub mod Modes
 pub mod XactEnds
+pub mod Says
+pub mod Sights
+pub mod Checks
+pub mod Pages

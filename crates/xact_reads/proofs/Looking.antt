@@ -8,9 +8,9 @@ use Rattle.tx_events.specs.declared.event.By.{By}
 use Rattle.tx_events.specs.IdLists.{Ascending}
 use Rattle.tx_events.specs.Visible.{is_visible}
 use Rattle.tx_events.proofs.PlaceLemmas.{take-grows}
-use Rattle.snap_core.specs.Sights.{sight_by, top_sight_by}
-use Rattle.snap_core.specs.declared.sight.Sight.{Sight}
-use Rattle.snap_core.specs.declared.sight.Sight.TheVariants as sights
+use Rattle.tx_events.specs.Sights.{sight_by, top_sight_by}
+use Rattle.tx_events.specs.declared.sight.Sight.{Sight}
+use Rattle.tx_events.specs.declared.sight.Sight.TheVariants as sights
 use Rattle.tx_core.specs.declared.entry.Entry.{Entry}
 use Rattle.tx_core.specs.declared.entry.Start.{Start}
 use Rattle.tx_core.specs.declared.entry.State.{State}

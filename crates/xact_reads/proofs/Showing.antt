@@ -17,9 +17,9 @@ use Rattle.tx_events.proofs.GivenIds.{legal_take}
 use Rattle.tx_events.proofs.IdOrder.{nth_upto}
 use Rattle.tx_events.proofs.Membership.{contains_has, has_contains}
 use Rattle.tx_events.proofs.Visibility.{among_has, has_among}
-use Rattle.snap_core.proofs.SaysLemmas.{subs_ascend, xips_ascend}
-use Rattle.snap_core.specs.Sights.{sight_by, top_sight_by}
-use Rattle.snap_core.specs.declared.sight.Sight.TheVariants as sights
+use Rattle.tx_events.proofs.SaysLemmas.{subs_ascend, xips_ascend}
+use Rattle.tx_events.specs.Sights.{sight_by, top_sight_by}
+use Rattle.tx_events.specs.declared.sight.Sight.TheVariants as sights
 use Rattle.tx_core.specs.declared.entry.Entry.{Entry}
 use Rattle.tx_core.specs.declared.entry.Start.{Start}
 use Rattle.tx_core.specs.declared.entry.State.{State}

@@ -2,9 +2,9 @@
 use Rattle.std.proofs.Common.{Bool, Option, ap, arith, cond, false, refl, sym, true, ℕ, ◌&&◌, ◌<◌, ◌∙◌, ◌≡◌}
 use Rattle.std.proofs.lemmas.Bool.Decides.{nat_tests}
 use Rattle.std.specs.Prelude.{nat_le}
-use Rattle.snap_core.specs.Says.{says_of}
-use Rattle.snap_core.specs.Sights.{sight_by, sight_said, top_sight_by}
-use Rattle.snap_core.specs.declared.sight.Sight.TheVariants as sights
+use Rattle.tx_events.specs.Says.{says_of}
+use Rattle.tx_events.specs.Sights.{sight_by, sight_said, top_sight_by}
+use Rattle.tx_events.specs.declared.sight.Sight.TheVariants as sights
 use Rattle.tx_events.specs.declared.snapshot.SnapData.{SnapData}
 use Rattle.tx_core.specs.declared.entry.State.{State}
 use Rattle.tx_core.specs.Verdict.{is_committed, verdict}

@@ -6,7 +6,7 @@ use Rattle.tx_events.specs.Nearest.{near_id}
 use Rattle.tx_events.specs.declared.snapshot.SnapData.{SnapData}
 use Rattle.tx_events.specs.Events.{same_name}
 use Rattle.tx_events.specs.IdLists.{Ascending}
-use Rattle.snap_core.specs.Sights.{sight_by}
+use Rattle.tx_events.specs.Sights.{sight_by}
 use Rattle.session_levels.specs.declared.session.RegisteredSnapshot.{RegisteredSnapshot}
 use Rattle.session_levels.specs.declared.session.Session as plain
 use Rattle.xact_reads.specs.declared.glances.Glance.{Glance}

@@ -2,8 +2,7 @@
 ghost use Rattle.std.specs.Prelude.{◌≤◌};
 ghost use Rattle.xact_reads.specs.Glances.{HasLimits, IsGlance};
 
-use snap_core::{Sight, sight_of};
-use tx_events::{FullXid, SnapData, Xid, near};
+use tx_events::{FullXid, Sight, SnapData, Xid, near, sight_of};
 
 /// What a snapshot shows of an id before anything is read of it.
 #[derive(Clone, Copy)]

@@ -2,8 +2,8 @@
 ghost use Rattle.std.specs.Prelude.{◌≡◌, ℕ, ◌+◌, ◌*◌, ◌≤◌, [], IfErr, IfOk, IsTrue, Some};
 ghost use Rattle.hall.specs.Calls.{view, IsOf, start_of};
 ghost use Rattle.tx_events.specs.IdLists.{Ascending};
-ghost use Rattle.snap_core.specs.Sights.{top_sight_by};
-ghost use Rattle.snap_core.specs.declared.sight.Sight.TheVariants as sights;
+ghost use Rattle.tx_events.specs.Sights.{top_sight_by};
+ghost use Rattle.tx_events.specs.declared.sight.Sight.TheVariants as sights;
 ghost use Rattle.session_levels.specs.declared.session.RegisteredSnapshot.{RegisteredSnapshot};
 ghost use Rattle.engine_parts.specs.Adding.{Adds, MayFault};
 ghost use Rattle.engine_parts.specs.Sessions.{IsReady, by_at};
@@ -18,8 +18,7 @@ use disk_core::{LogDisk, PageDisk};
 use engine_parts::{Caller, EngineLaw, Passing};
 use hall::Hall;
 use session_levels::{Session as Levels, registered_as};
-use snap_core::{Sight, sight_of_top};
-use tx_events::{FullXid, Name, Refusal};
+use tx_events::{FullXid, Name, Refusal, Sight, sight_of_top};
 
 /// Whether the session's snapshot of this name shows a committed id of this topmost parent.
 fn shows_top(levels: &Levels, name: &Name, topmost: FullXid) -> bool

@@ -2,7 +2,7 @@ use Rattle.std.proofs.Common.{◌≡◌, ℕ, Option, IfNone, IfSome, Contains, 
 use Rattle.tx_events.specs.Events.{given}
 use Rattle.tx_events.specs.Ids.{low_half}
 use Rattle.store_pages.specs.Layouts.{word_place_of}
-use Rattle.store_pages.specs.Pages.{subtrans_page}
+use Rattle.tx_events.specs.Pages.{subtrans_page}
 use Rattle.report_law.specs.Dumps.{HasWord, parent_or_none}
 use Rattle.dump_rules.proofs.ids.shows_parent.Goals as goal
 

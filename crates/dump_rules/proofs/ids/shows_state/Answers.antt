@@ -1,7 +1,7 @@
 use Rattle.std.proofs.Common.{◌≡◌, ℕ, Option, IfNone, IfSome, Contains, take, sym, subst, refl}
 use Rattle.tx_events.specs.Events.{given}
 use Rattle.tx_events.specs.Ids.{low_half}
-use Rattle.store_pages.specs.Pages.{xact_page}
+use Rattle.tx_events.specs.Pages.{xact_page}
 use Rattle.report_law.specs.Dumps.{HasBits, state_number}
 use Rattle.dump_rules.proofs.ids.shows_state.Goals as goal
 

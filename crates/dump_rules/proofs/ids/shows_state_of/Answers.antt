@@ -1,6 +1,6 @@
 use Rattle.std.proofs.Common.{◌≡◌, ℕ, sym, subst, arith}
 use Rattle.tx_events.specs.Ids.{low_half}
-use Rattle.store_pages.specs.Pages.{xact_page}
+use Rattle.tx_events.specs.Pages.{xact_page}
 use Rattle.report_law.specs.Dumps.{HasBits}
 use Rattle.dump_rules.proofs.ids.shows_state_of.Goals as goal
 

@@ -1,6 +1,6 @@
 use Rattle.std.proofs.Common.{◌≡◌, arith}
 use Rattle.tx_events.specs.Ids.{low_half}
-use Rattle.store_pages.specs.Pages.{member_page}
+use Rattle.tx_events.specs.Pages.{member_page}
 use Rattle.dump_rules.proofs.Dumped.{member_shown}
 use Rattle.dump_rules.proofs.multis.shows_member.Goals as goal
 

@@ -2,7 +2,7 @@ use Rattle.std.proofs.Common.{◌≡◌, ◌-◌, Some, None, sym, subst, ◌∙
 use Rattle.tx_events.specs.Ids.{low_half}
 use Rattle.tx_events.specs.Modes.{mode_number}
 use Rattle.tx_events.specs.declared.multi.Member.{Member}
-use Rattle.store_pages.specs.Pages.{id_at, member_place, mode_at}
+use Rattle.tx_events.specs.Pages.{id_at, member_place, mode_at}
 use Rattle.report_law.specs.Dumps.{HasByte, HasWord}
 use Rattle.dump_rules.specs.Shown.{member_in}
 use Rattle.dump_rules.proofs.Dumped.{event_is, is_member, member_is}

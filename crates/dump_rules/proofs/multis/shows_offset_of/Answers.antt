@@ -1,7 +1,7 @@
 use Rattle.std.proofs.Common.{◌≡◌, ◌*◌, ℕ, sym, subst, arith}
 use Rattle.tx_events.specs.Ids.{low_half}
 use Rattle.store_pages.specs.Layouts.{word_place_of}
-use Rattle.store_pages.specs.Pages.{offset_page}
+use Rattle.tx_events.specs.Pages.{offset_page}
 use Rattle.report_law.specs.Dumps.{HasWord}
 use Rattle.dump_rules.proofs.multis.shows_offset_of.Goals as goal
 

@@ -1,5 +1,5 @@
 use Rattle.std.proofs.Common.{◌↔◌, drop}
-use Rattle.multi_told.specs.Shapes.{AnyPlace}
+use Rattle.place_columns.specs.OwnPlaces.{AnyPlace}
 use Rattle.multi_answers.specs.Own.{PinsOrRaises}
 use Rattle.multi_answers.proofs.own.is_any_place.Given as goal
 

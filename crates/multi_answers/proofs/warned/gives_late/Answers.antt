@@ -3,7 +3,7 @@ use Rattle.tx_events.specs.declared.multi.MultiEvent.{MultiEvent}
 use Rattle.tx_events.specs.Limits.{multi_warn_limit}
 use Rattle.tx_events.specs.Multis.{oldest_multi}
 use Rattle.multi_places.specs.Starts.{BeginsAs}
-use Rattle.multi_told.proofs.Pinning.{bound_of}
+use Rattle.tx_events.proofs.MultiPlaces.{bound_of}
 use Rattle.multi_answers.proofs.Owned.{gen_at, gen_small, late_event}
 use Rattle.multi_answers.proofs.warned.gives_late.Goals as goal
 

@@ -1,5 +1,5 @@
 use Rattle.std.proofs.Common.{◌↔◌, drop}
-use Rattle.multi_told.specs.Shapes.{AnyPlace}
+use Rattle.place_columns.specs.OwnPlaces.{AnyPlace}
 use Rattle.multi_answers.specs.Own.{GivesLate}
 use Rattle.multi_answers.proofs.warned.is_given_late.Given as goal
 

@@ -4,7 +4,7 @@ use Rattle.tx_events.specs.declared.multi.MultiEvent.{MultiEvent}
 use Rattle.place_columns.specs.Columns.{IsWhere}
 use Rattle.multi_places.specs.MultiTold.{next_in}
 use Rattle.multi_places.specs.Starts.{BeginsAs}
-use Rattle.multi_told.proofs.Pinning.{stands_at}
+use Rattle.tx_events.proofs.MultiPlaces.{stands_at}
 use Rattle.multi_gens.proofs.GenPlaces.{bound_at, none_given, none_last, only_at}
 use Rattle.multi_gens.proofs.made.gen_place.Goals as goal
 

@@ -1,5 +1,5 @@
 use Rattle.std.proofs.Common.{◌↔◌, drop}
-use Rattle.multi_told.specs.Shapes.{AnyPlace}
+use Rattle.place_columns.specs.OwnPlaces.{AnyPlace}
 use Rattle.multi_gens.specs.Gens.{IsAboveAt}
 use Rattle.multi_gens.proofs.not_yet.is_below_a_pin.Given as goal
 

@@ -1,5 +1,5 @@
 use Rattle.std.proofs.Common.{◌≡◌, ℕ, List, slice_index, ap, refl, rules, ◌∙◌}
-use Rattle.store_pages.specs.Pages.{member_page, member_place, mode_at}
+use Rattle.tx_events.specs.Pages.{member_page, member_place, mode_at}
 use Rattle.slru_bank.specs.ByteRange.{first_read}
 use Rattle.slru_bank.specs.Calls.{calls_again, pages_of}
 use Rattle.multi_members.proofs.members.read_member.Goals as goal

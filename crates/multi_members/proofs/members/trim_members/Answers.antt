@@ -1,6 +1,6 @@
 use Rattle.std.proofs.Common.{◌≡◌, ap, ◌/◌, ◌%◌, ◌∙◌}
 use Rattle.tx_events.specs.Ids.{low_half}
-use Rattle.store_pages.specs.Pages.{id_at, member_page, member_place}
+use Rattle.tx_events.specs.Pages.{id_at, member_page, member_place}
 use Rattle.slru_bank.specs.Calls.{pages_of}
 use Rattle.multi_members.proofs.MemberSlots.{trims_members}
 use Rattle.multi_members.proofs.members.trim_members.Goals as goal

@@ -1,5 +1,5 @@
 use Rattle.std.proofs.Common.{arith}
-use Rattle.store_pages.specs.Pages.{member_page, member_place}
+use Rattle.tx_events.specs.Pages.{member_page, member_place}
 use Rattle.slru_bank.specs.Calls.{SamePages, calls_again, pages_of, second_is_ok, unrefused}
 use Rattle.tx_events.specs.Modes.{mode_number}
 use Rattle.multi_members.proofs.MemberSlots.{SetsMode, sets_member_ok}

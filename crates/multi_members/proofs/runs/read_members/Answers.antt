@@ -1,7 +1,7 @@
 use Rattle.std.proofs.Common.{◌≡◌, ◌+◌, ◌++◌, ◌∷◌, [], Err, Ok, ℕ, suc, List, ap, append_assoc, arith, length, length-append, subst, sym, ◌∙◌}
 use Rattle.std.specs.List.{slice_index}
 use Rattle.store_pages.specs.Layouts.{number_in}
-use Rattle.store_pages.specs.Pages.{id_at, member_page, member_place, mode_at}
+use Rattle.tx_events.specs.Pages.{id_at, member_page, member_place, mode_at}
 use Rattle.slru_bank.specs.Calls.{CallsBank, pages_of}
 use Rattle.multi_members.specs.Runs.{slots_on}
 use Rattle.multi_members.specs.Slots.{slot_of}

@@ -1,5 +1,5 @@
 use Rattle.std.proofs.Common.{◌≡◌, ◌+◌, ◌++◌, ◌≤◌, ◌-◌, Ok, length, IsTrue, vec_capacity}
-use Rattle.store_pages.specs.Pages.{member_page, member_place}
+use Rattle.tx_events.specs.Pages.{member_page, member_place}
 use Rattle.slru_bank.specs.Calls.{CallsBank, SamePages, pages_of}
 use Rattle.multi_members.specs.Runs.{slots_on}
 use Rattle.multi_members.proofs.runs.read_members.Given as goal

@@ -1,7 +1,7 @@
 use Rattle.std.proofs.Common.{Some, ◌≡◌, ◌+◌, ℕ, ap, arith, length, rules, subst, sym, ◌∙◌, OnOk}
 use Rattle.tx_events.specs.Ids.{low_half}
 use Rattle.tx_events.specs.Modes.{mode_number}
-use Rattle.store_pages.specs.Pages.{member_page, member_place}
+use Rattle.tx_events.specs.Pages.{member_page, member_place}
 use Rattle.slru_bank.specs.Calls.{CallsBank, pages_of}
 use Rattle.slru_bank.proofs.ManyStates.{calls_more}
 use Rattle.multi_members.specs.Changes.{SetsMember}

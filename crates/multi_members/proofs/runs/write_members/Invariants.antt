@@ -1,5 +1,5 @@
 use Rattle.std.proofs.Common.{◌≡◌, ◌≤◌, ◌-◌, Ok, length, IsTrue}
-use Rattle.store_pages.specs.Pages.{member_page, member_place}
+use Rattle.tx_events.specs.Pages.{member_page, member_place}
 use Rattle.slru_bank.specs.Calls.{CallsBank, pages_of}
 use Rattle.multi_members.specs.Runs.{SetsMembers}
 use Rattle.multi_members.proofs.runs.write_members.Given as goal

@@ -1,7 +1,7 @@
 use Rattle.std.proofs.Common.{◌≡◌, ap, ◌/◌, ◌%◌, ◌∙◌}
 use Rattle.tx_events.specs.Ids.{low_half}
 use Rattle.tx_events.specs.PageOrder.{Multis}
-use Rattle.store_pages.specs.Pages.{offset_page, offset_place}
+use Rattle.tx_events.specs.Pages.{offset_page, offset_place}
 use Rattle.slru_bank.specs.ByteRange.{trims_entries}
 use Rattle.slru_bank.specs.Calls.{pages_of}
 use Rattle.multi_offsets.proofs.offsets.trim_offsets.Goals as goal

@@ -1,7 +1,7 @@
 use Rattle.std.proofs.Common.{◌≡◌, arith}
 use Rattle.std.proofs.lemmas.Bool.Decides.{nat_tests}
 use Rattle.tx_events.specs.Nearest.{offset_near}
-use Rattle.multi_told.proofs.Nearness.{near_some}
+use Rattle.tx_events.proofs.Nearness.{near_some}
 use Rattle.multi_told.proofs.pins.has_near.Goals as goal
 
 pub returns : goal.returns

@@ -1,5 +1,6 @@
 use Rattle.std.proofs.Common.{◌↔◌, ℕ, drop}
-use Rattle.multi_told.specs.Shapes.{AnyPlace, IsPinNear}
+use Rattle.place_columns.specs.OwnPlaces.{AnyPlace}
+use Rattle.multi_told.specs.Shapes.{IsPinNear}
 use Rattle.multi_told.proofs.pins.is_near_a_pin.Given as goal
 
 abbrev pub invariant-loop-place : goal.invariant-loop-place

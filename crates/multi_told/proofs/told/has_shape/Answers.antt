@@ -4,7 +4,8 @@ use Rattle.tx_events.specs.Multis.{multi_by}
 use Rattle.multi_told.specs.declared.shape.Shape.{Shape}
 use Rattle.multi_told.specs.Reached.{MayBeMember}
 use Rattle.multi_told.specs.Shapes.{IsPinNear, begins_between, begins_raised}
-use Rattle.multi_told.proofs.Pinning.{any_place, pin_by}
+use Rattle.place_columns.proofs.PlaceLists.{any_place}
+use Rattle.report_law.proofs.Pinned.{pin_by}
 use Rattle.multi_told.proofs.Telling.{Has, between, gives, gives_this, pins, pins_near, raised, raises}
 use Rattle.multi_told.proofs.told.has_shape.Goals as goal
 

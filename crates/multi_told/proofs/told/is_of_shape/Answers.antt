@@ -5,7 +5,8 @@ use Rattle.tx_events.specs.declared.multi.MultiEvent.TheVariants as multis
 use Rattle.tx_events.specs.Multis.{multi_by}
 use Rattle.multi_told.specs.declared.shape.Shape.{Shape}
 use Rattle.multi_told.specs.Shapes.{IsPinNear}
-use Rattle.multi_told.proofs.Pinning.{any_place, pin_by}
+use Rattle.place_columns.proofs.PlaceLists.{any_place}
+use Rattle.report_law.proofs.Pinned.{pin_by}
 use Rattle.multi_told.proofs.Telling.{HasAt, between_at, pins_at, pins_near_at, raised_at}
 use Rattle.multi_told.proofs.told.is_of_shape.Goals as goal
 

@@ -1,7 +1,7 @@
 use Rattle.std.proofs.Common.{◌↔◌, ◌<◌, length, subst}
 use Rattle.std.specs.Prelude.{IsTrue}
 use Rattle.report_law.specs.Steps.{IsBackwardAt}
-use Rattle.life_check.proofs.Fronts.{backward_whole}
+use Rattle.report_law.proofs.Fronts.{backward_whole}
 use Rattle.reply_lines.specs.At.{base_of, history_of, round_of}
 use Rattle.reply_lines.proofs.Spots.{fits, lift, reading_here, reading_within}
 use Rattle.reply_lines.proofs.Replying.{backward_by}

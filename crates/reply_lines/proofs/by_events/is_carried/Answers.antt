@@ -1,6 +1,6 @@
 use Rattle.std.proofs.Common.{length}
 use Rattle.report_law.specs.MultiLines.{MayCarry}
-use Rattle.life_check.proofs.Fronts.{carry_whole}
+use Rattle.report_law.proofs.Fronts.{carry_whole}
 use Rattle.reply_lines.specs.At.{base_of, history_of, round_of}
 use Rattle.reply_lines.proofs.Spots.{asked, fits, lift}
 use Rattle.reply_lines.proofs.by_events.is_carried.Goals as goal

@@ -1,6 +1,6 @@
 use Rattle.std.proofs.Common.{length}
 use Rattle.tx_model.specs.Replies.{IsWarned}
-use Rattle.life_check.proofs.FrontsAtEvents.{warned_whole}
+use Rattle.report_law.proofs.FrontsAtEvents.{warned_whole}
 use Rattle.reply_lines.specs.At.{base_of, history_of}
 use Rattle.reply_lines.proofs.Spots.{asked, few_events, its_places_here, its_within, lift}
 use Rattle.reply_lines.proofs.by_events.is_given_late.Goals as goal

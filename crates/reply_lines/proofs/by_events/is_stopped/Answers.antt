@@ -1,6 +1,6 @@
 use Rattle.std.proofs.Common.{length}
 use Rattle.report_law.specs.Steps.{IsStoppedAt}
-use Rattle.life_check.proofs.Fronts.{stopped_whole}
+use Rattle.report_law.proofs.Fronts.{stopped_whole}
 use Rattle.reply_lines.specs.At.{base_of, history_of, round_of}
 use Rattle.reply_lines.proofs.Spots.{fits, lift, reading_here, reading_within}
 use Rattle.reply_lines.proofs.by_events.is_stopped.Goals as goal

@@ -1,6 +1,6 @@
 use Rattle.std.proofs.Common.{length}
 use Rattle.report_law.specs.Steps.{IsStatusAt}
-use Rattle.life_check.proofs.FrontsAtEvents.{status_whole}
+use Rattle.report_law.proofs.FrontsAtEvents.{status_whole}
 use Rattle.reply_lines.specs.At.{base_of, history_of}
 use Rattle.reply_lines.proofs.Spots.{asked, few_events, id_marks_here, its_places_here, its_within, lift}
 use Rattle.reply_lines.proofs.by_ids.has_status.Goals as goal

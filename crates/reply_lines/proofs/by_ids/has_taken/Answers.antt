@@ -4,10 +4,10 @@ use Rattle.life_marks.specs.declared.snaps.SnapMark.{SnapMark}
 use Rattle.tx_events.specs.Snapshots.{snapshot_data}
 use Rattle.life_marks.specs.SnapMarks.{AreSnapMarks}
 use Rattle.report_law.specs.Kinds.{IsSnapAt}
-use Rattle.reply_lines.specs.Known.{told_by}
+use Rattle.event_rules.specs.SnapsTold.{told_by}
 use Rattle.seen_rules.specs.Runs.{AreItsPlaces}
 use Rattle.reply_lines.specs.declared.known.Known.{Known}
-use Rattle.life_check.proofs.FrontsAtEvents.{snapped_whole}
+use Rattle.report_law.proofs.FrontsAtEvents.{snapped_whole}
 use Rattle.reply_lines.specs.At.{base_of, history_of}
 use Rattle.reply_lines.proofs.Spots.{asked, few_events, its_places_here, its_within, lift}
 use Rattle.reply_lines.proofs.by_ids.has_taken.Goals as goal

@@ -1,4 +1,4 @@
-use Rattle.reply_lines.specs.Known.{told_by}
+use Rattle.event_rules.specs.SnapsTold.{told_by}
 use Rattle.reply_lines.proofs.by_ids.has_taken.Given as goal
 
 abbrev pub ghost-is_snapped : goal.ghost-is_snapped

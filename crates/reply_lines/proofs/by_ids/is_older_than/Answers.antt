@@ -1,7 +1,7 @@
 use Rattle.std.proofs.Common.{length}
 use Rattle.tx_model.specs.Replies.{taken_by}
 use Rattle.report_law.specs.Steps.{IsTooOldFor}
-use Rattle.life_check.proofs.FrontsAtEvents.{too_old_whole}
+use Rattle.report_law.proofs.FrontsAtEvents.{too_old_whole}
 use Rattle.reply_lines.specs.At.{base_of, history_of, round_of}
 use Rattle.reply_lines.proofs.Spots.{few_events, fits, lift, places_at, snap_marks, within_of}
 use Rattle.reply_lines.proofs.by_ids.is_older_than.Goals as goal

@@ -1,4 +1,4 @@
-use Rattle.reply_lines.specs.Known.{told_by}
+use Rattle.event_rules.specs.SnapsTold.{told_by}
 use Rattle.reply_lines.specs.At.{round_of}
 use Rattle.reply_lines.proofs.by_ids.is_older_than.Given as goal
 

@@ -1,6 +1,6 @@
 use Rattle.std.proofs.Common.{length}
 use Rattle.report_law.specs.MultiLines.{IsNotGiven}
-use Rattle.life_check.proofs.Fronts.{ungiven_whole}
+use Rattle.report_law.proofs.Fronts.{ungiven_whole}
 use Rattle.reply_lines.specs.At.{base_of, history_of, round_of}
 use Rattle.reply_lines.proofs.Spots.{fits, lift, read_places, reading_within}
 use Rattle.reply_lines.proofs.by_ids.is_ungiven.Goals as goal

@@ -1,7 +1,7 @@
 use Rattle.std.proofs.Common.{length}
 use Rattle.tx_model.specs.Replies.{taken_by}
 use Rattle.report_law.specs.Steps.{IsSeen}
-use Rattle.life_check.proofs.FrontsAtEvents.{seen_whole}
+use Rattle.report_law.proofs.FrontsAtEvents.{seen_whole}
 use Rattle.reply_lines.specs.At.{base_of, history_of}
 use Rattle.reply_lines.proofs.Spots.{few_events, lift, places_at, snap_marks, within_of}
 use Rattle.reply_lines.proofs.by_ids.sees.Goals as goal

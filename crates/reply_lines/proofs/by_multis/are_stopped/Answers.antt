@@ -1,6 +1,6 @@
 use Rattle.std.proofs.Common.{length}
 use Rattle.report_law.specs.MultiLines.{IsMultiStop}
-use Rattle.life_check.proofs.FrontsOfMultis.{stop_all}
+use Rattle.report_law.proofs.FrontsOfMultis.{stop_all}
 use Rattle.reply_lines.specs.At.{base_of, multi_round_of, multis_of_life}
 use Rattle.reply_lines.proofs.Spots.{lift_multis, multi_fits, multis_here, multis_reading_within}
 use Rattle.reply_lines.proofs.by_multis.are_stopped.Goals as goal

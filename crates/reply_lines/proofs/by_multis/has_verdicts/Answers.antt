@@ -11,7 +11,7 @@ use Rattle.multi_verdicts.specs.declared.taken.Taken.{Taken}
 use Rattle.report_law.specs.MultiLines.{AreVerdicts}
 use Rattle.reply_lines.specs.At.{base_of, history_of, multis_of_life, round_of}
 use Rattle.reply_lines.proofs.Spots.{asked, few_multis, fits, its_multis_within, lift_both, multi_places_here, within_of}
-use Rattle.life_check.proofs.FrontsOfMultis.{verdicts_whole}
+use Rattle.report_law.proofs.FrontsOfMultis.{verdicts_whole}
 use Rattle.reply_lines.proofs.by_multis.has_verdicts.Goals as goal
 
 pub index-requires : goal.index-requires

@@ -2,7 +2,7 @@ use Rattle.std.proofs.Common.{◌↔◌, ◌≤◌, List, length, subst, sym, ar
 use Rattle.held_rules.specs.declared.limits.LimitAt.{LimitAt}
 use Rattle.std.specs.Prelude.{IsTrue}
 use Rattle.report_law.specs.MultiLines.{IsHeldBack}
-use Rattle.life_check.proofs.FrontsOfMultis.{held_all}
+use Rattle.report_law.proofs.FrontsOfMultis.{held_all}
 use Rattle.held_rules.specs.Limits.{AreHeldLimits}
 use Rattle.reply_lines.specs.declared.known.Known.{Known}
 use Rattle.reply_lines.specs.At.{base_of, multi_round_of, multis_of_life}

@@ -1,6 +1,6 @@
 use Rattle.std.proofs.Common.{length}
 use Rattle.report_law.specs.MultiLines.{IsMultiTooOld}
-use Rattle.life_check.proofs.FrontsOfMultis.{multi_old_all}
+use Rattle.report_law.proofs.FrontsOfMultis.{multi_old_all}
 use Rattle.reply_lines.specs.At.{base_of, multi_round_of, multis_of_life}
 use Rattle.reply_lines.proofs.Spots.{lift_multis, multi_fits, multis_reading_within, read_multis}
 use Rattle.reply_lines.proofs.by_multis.is_multi_too_old.Goals as goal

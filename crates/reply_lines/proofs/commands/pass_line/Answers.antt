@@ -3,7 +3,7 @@ use Rattle.std.specs.Prelude.{nat_lt}
 use Rattle.tx_events.specs.declared.event.Event.{Event}
 use Rattle.tx_events.specs.declared.multi.MultiEvent.{MultiEvent}
 use Rattle.tx_events.specs.Events.{given}
-use Rattle.life_check.specs.Sessions.{AreBehind}
+use Rattle.standing_rules.specs.Sessions.{AreBehind}
 use Rattle.reply_lines.specs.At.{lived_at}
 use Rattle.reply_lines.proofs.Askings.{few_sessions}
 use Rattle.reply_lines.proofs.commands.pass_line.Goals as goal

@@ -1,6 +1,6 @@
 use Rattle.std.proofs.Common.{◌↔◌, ◌∙◌, refl, subst, sym, ap}
 use Rattle.tx_events.specs.declared.event.By.{By}
-use Rattle.reply_lines.specs.Known.{told_by}
+use Rattle.event_rules.specs.SnapsTold.{told_by}
 use Rattle.reply_lines.proofs.Replying.{flipped, told}
 use Rattle.std.specs.Prelude.{IsTrue}
 use Rattle.tx_model.specs.Stance.{Stance}

@@ -7,7 +7,7 @@ use Rattle.tx_events.specs.Running.{open_ids}
 use Rattle.history_check.specs.Replays.{Replayed}
 use Rattle.own_places.specs.Owned.{own_of}
 use Rattle.report_law.specs.Answers.{own_before}
-use Rattle.life_check.proofs.Fronts.{taken}
+use Rattle.report_law.proofs.Fronts.{taken}
 use Rattle.open_counts.specs.Opens.{AreOpenCounts}
 use Rattle.reply_lines.specs.declared.known.Known.{Known}
 use Rattle.reply_lines.proofs.Askings.{its_list}

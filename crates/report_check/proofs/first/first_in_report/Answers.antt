@@ -1,10 +1,10 @@
-use Rattle.std.proofs.Common.{◌≡◌, ◌+◌, ℕ, List, [], Option, Some, subst, ap, sym, ◌∙◌}
+use Rattle.std.proofs.Common.{◌≡◌, ◌+◌, ℕ, List, [], Option, Some, subst, sym}
 use Rattle.std.specs.List.{AllByRecursion}
 use Rattle.tx_model.specs.declared.report.LifeReport.{LifeReport}
 use Rattle.report_law.specs.ReportLines.{IsUnlawful, lives_lines}
-use Rattle.life_check.specs.Numbered.{IsNumbered}
-use Rattle.life_check.specs.Walk.{IsFound}
-use Rattle.life_check.proofs.Sections.{report_broken}
+use Rattle.life_tables.specs.Numbered.{IsNumbered}
+use Rattle.report_check.specs.Walk.{IsFound}
+use Rattle.report_check.proofs.Sections.{report_broken}
 use Rattle.report_check.proofs.Numbering.{lives_numbered}
 use Rattle.report_check.proofs.first.first_in_report.Goals as goal
 

@@ -1,9 +1,8 @@
-use Rattle.std.proofs.Common.{◌≡◌, ◌<◌, ℕ, List, length, ap, ◌∙◌, refl, arith}
-use Rattle.tx_events.specs.declared.event.Event.{Event}
+use Rattle.std.proofs.Common.{◌≡◌, ◌<◌, length, ap, ◌∙◌, refl, arith}
 use Rattle.tx_model.specs.declared.report.Life.{Life}
 use Rattle.report_law.specs.Events.{IsLawfulEvent}
 use Rattle.report_law.specs.ReportLines.{event}
-use Rattle.life_check.proofs.Sections.{placed_broken, placed_next}
+use Rattle.report_check.proofs.Sections.{placed_broken, placed_next}
 use Rattle.report_check.proofs.Judging.{all_placed, legal_so_far, never_true, there}
 use Rattle.report_check.proofs.histories.walk_events.Goals as goal
 

@@ -1,11 +1,11 @@
-use Rattle.std.proofs.Common.{◌≡◌, ◌<◌, ◌+◌, ◌++◌, ◌∷◌, [], ℕ, List, length, set, take, ap, subst, sym, ◌∙◌, refl, arith}
+use Rattle.std.proofs.Common.{◌≡◌, ◌<◌, ℕ, List, length, set, take, ap, subst, sym, ◌∙◌, refl, arith}
 use Rattle.tx_events.specs.declared.multi.MultiEvent.{MultiEvent}
 use Rattle.tx_events.specs.Multis.{multi_by}
 use Rattle.tx_model.specs.declared.report.Life.{Life}
 use Rattle.legal_fronts.proofs.Fronting.{one_more}
 use Rattle.report_law.specs.Events.{IsLawfulMulti}
 use Rattle.report_law.specs.ReportLines.{multi}
-use Rattle.life_check.proofs.Sections.{placed_broken, placed_next}
+use Rattle.report_check.proofs.Sections.{placed_broken, placed_next}
 use Rattle.report_check.specs.Walked.{AreLatest}
 use Rattle.report_check.proofs.Judging.{all_placed, all_there, item_is, latest_push, multis_so_far, never_true, there}
 use Rattle.report_check.proofs.histories.walk_multis.Goals as goal

@@ -36,9 +36,10 @@ use Rattle.own_events.proofs.LineSteps.{bys_are}
 use Rattle.own_places.specs.declared.own.Own.{Own}
 use Rattle.own_places.specs.Owned.{AreAllOwn}
 use Rattle.report_law.specs.Steps.{gave_multi, lines_of}
-use Rattle.reply_lines.specs.Known.{told_by}
-use Rattle.report_check.specs.Known.{LifeAt, is_multi_reply, judged_life}
-use Rattle.report_check.proofs.Lining.{few_from, few_front, few_map, known_at, lines_order, oks_are, take_self}
+use Rattle.event_rules.specs.SnapsTold.{told_by}
+use Rattle.life_tables.specs.Lives.{LifeAt, is_multi_reply, judged_life}
+use Rattle.life_tables.proofs.Lining.{few_from, few_front, few_map, lines_order, oks_are, take_self}
+use Rattle.report_check.proofs.Knowing.{known_at}
 use Rattle.report_check.proofs.known.known_of.Goals as goal
 
 abbrev life_at : LifeAt → LifeReport → LifeAt

@@ -1,7 +1,7 @@
 use Rattle.std.proofs.Common.{length, take}
 use Rattle.report_law.specs.Steps.{gave_multi, lines_of}
-use Rattle.reply_lines.specs.Known.{told_by}
-use Rattle.report_check.specs.Known.{judged_life}
+use Rattle.event_rules.specs.SnapsTold.{told_by}
+use Rattle.life_tables.specs.Lives.{judged_life}
 use Rattle.report_check.proofs.known.known_of.Given as goal
 
 abbrev pub ghost-front_of : goal.ghost-front_of

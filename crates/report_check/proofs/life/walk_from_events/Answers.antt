@@ -1,4 +1,4 @@
-use Rattle.std.proofs.Common.{◌≡◌, [], ◌∷◌, ◌++◌, List, Option, ap, length, refl, subst, sym, ◌∙◌}
+use Rattle.std.proofs.Common.{◌∷◌, List, Option, ap, length, subst, sym, ◌∙◌}
 use Rattle.std.specs.Global.{Vec}
 use Rattle.tx_events.specs.declared.event.Event.{Event}
 use Rattle.event_rules.specs.Told.{AreToldEvents}

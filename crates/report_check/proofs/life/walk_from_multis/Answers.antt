@@ -1,4 +1,4 @@
-use Rattle.std.proofs.Common.{◌≡◌, [], ◌∷◌, ◌++◌, List, refl}
+use Rattle.std.proofs.Common.{◌∷◌, List}
 use Rattle.report_law.specs.ReportLines.{ReportLine, multi, placed, plain}
 use Rattle.report_check.specs.Walked.{log_lines}
 use Rattle.report_check.proofs.Sectioned.{broken_before, joined, lawful_part, whole_multis}

@@ -1,6 +1,5 @@
-use Rattle.std.proofs.Common.{◌≡◌, ◌<◌, ◌↔◌, ◌++◌, ◌∷◌, [], ℕ, List, length, ap, refl, subst, sym, ◌∙◌}
-use Rattle.std.specs.Prelude.{IfOk}
-use Rattle.std.specs.List.{AllByRecursion, Contains}
+use Rattle.std.proofs.Common.{◌≡◌, ◌<◌, ◌↔◌, List, ap, subst, sym, ◌∙◌}
+use Rattle.std.specs.List.{Contains}
 use Rattle.tx_events.specs.declared.event.Event.{Event}
 use Rattle.tx_events.specs.declared.multi.Member.{Member}
 use Rattle.tx_events.specs.declared.multi.MultiEvent.{MultiEvent}
@@ -11,15 +10,11 @@ use Rattle.tx_events.specs.Multis.{multi_by}
 use Rattle.tx_model.specs.declared.report.LifeReport.{LifeReport}
 use Rattle.multi_places.specs.declared.start.Start.{Start}
 use Rattle.multi_places.specs.Starts.{FitsBase, start_of}
-use Rattle.life_check.specs.Numbered.{IsNumbered}
+use Rattle.life_tables.specs.Numbered.{IsNumbered}
 use Rattle.report_law.specs.Begun.{Begun}
-use Rattle.report_law.specs.ReportLines.{ReportLine, start, steps_lines}
-use Rattle.report_law.specs.Steps.{Judged}
-use Rattle.report_check.specs.Known.{judged_life}
-use Rattle.report_check.specs.Walked.{IsWalked, behind_steps}
 use Rattle.report_check.proofs.Handing.{kept_is}
 use Rattle.report_check.proofs.Leaving.{start_counters}
-use Rattle.report_check.proofs.Sectioned.{few_of, joined, life_whole}
+use Rattle.report_check.proofs.Sectioned.{few_of, life_whole}
 use Rattle.report_check.proofs.life.walk_life.Goals as goal
 
 pub known_of-requires : goal.known_of-requires

@@ -1,4 +1,4 @@
-use Rattle.report_check.specs.Known.{judged_life}
+use Rattle.life_tables.specs.Lives.{judged_life}
 use Rattle.report_check.proofs.life.walk_life.Given as goal
 
 abbrev pub ghost-known_of : goal.ghost-known_of

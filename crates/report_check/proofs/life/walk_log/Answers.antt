@@ -1,4 +1,4 @@
-use Rattle.std.proofs.Common.{◌≡◌, [], ◌∷◌, ◌++◌, refl, subst}
+use Rattle.std.proofs.Common.{[], ◌∷◌, ◌++◌, refl, subst}
 use Rattle.tx_model.specs.declared.report.Life.{Life}
 use Rattle.report_law.specs.Records.{IsLawfulLog}
 use Rattle.report_law.specs.ReportLines.{log, logged, placed, plain}

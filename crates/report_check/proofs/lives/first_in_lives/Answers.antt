@@ -1,9 +1,9 @@
-use Rattle.std.proofs.Common.{◌≡◌, ◌+◌, ◌<◌, ℕ, List, Some, length, take, subst, arith}
+use Rattle.std.proofs.Common.{◌≡◌, ℕ, List, Some, take, subst}
 use Rattle.std.specs.List.{slice_get}
 use Rattle.tx_model.specs.declared.report.LifeReport.{LifeReport}
 use Rattle.report_law.specs.Begun.{begun_from}
 use Rattle.report_law.specs.ReportLines.{life_lines}
-use Rattle.life_check.proofs.Sections.{lives_next}
+use Rattle.report_check.proofs.Sections.{lives_next}
 use Rattle.report_check.specs.Keeping.{IsLeft}
 use Rattle.report_check.specs.Walked.{IfLawful, IsWalked}
 use Rattle.report_check.specs.declared.walked.Walked.{Walked}

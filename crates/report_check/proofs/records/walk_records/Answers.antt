@@ -2,8 +2,8 @@ use Rattle.std.proofs.Common.{◌≡◌, ℕ, List, Option, Some, IfSome, IfNone
 use Rattle.std.specs.List.{slice_get}
 use Rattle.tx_events.specs.declared.record.Rec.{Rec}
 use Rattle.tx_model.specs.declared.report.Life.{Life}
-use Rattle.life_check.proofs.Sections.{placed_broken}
-use Rattle.life_check.proofs.Walks.{placed_length}
+use Rattle.report_check.proofs.Sections.{placed_broken}
+use Rattle.report_check.proofs.Walks.{placed_length}
 use Rattle.multi_gens.proofs.GenPlaces.{bound_at}
 use Rattle.record_lines.specs.Judging.{IsFirstUnlawful}
 use Rattle.report_law.specs.Records.{IsLawfulRecord}

@@ -1,10 +1,8 @@
-use Rattle.std.proofs.Common.{◌≡◌, ◌<◌, ◌+◌, ◌++◌, ◌∷◌, [], ℕ, List, Some, true, false, length, ap, subst, sym, ◌∙◌, refl, arith}
+use Rattle.std.proofs.Common.{◌≡◌, ◌<◌, ◌++◌, ◌∷◌, [], Some, length, ap, subst, sym, arith}
 use Rattle.std.specs.List.{slice_get}
-use Rattle.std.specs.Prelude.{IsTrue}
 use Rattle.tx_model.specs.declared.report.Line.{Line}
 use Rattle.report_law.specs.Steps.{IsLawfulCommand}
-use Rattle.life_check.specs.Sessions.{AreBehind, IsBehind, with_line}
-use Rattle.life_check.specs.declared.sessions.Session.{Session}
+use Rattle.standing_rules.specs.Sessions.{AreBehind}
 use Rattle.reply_lines.specs.At.{StandsThere, before_at, earlier_at, lines_at, lived_at, rounds_at}
 use Rattle.report_check.specs.Passing.{IsPassed}
 use Rattle.report_check.proofs.Judging.{never_both, never_true, same_line, true_both}

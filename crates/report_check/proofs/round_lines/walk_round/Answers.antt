@@ -1,12 +1,12 @@
-use Rattle.std.proofs.Common.{◌≡◌, ◌<◌, ◌≤◌, ◌+◌, ◌++◌, ◌∷◌, [], ℕ, List, Some, true, false, length, take, ap, subst, sym, ◌∙◌, refl, arith, append_assoc}
-use Rattle.std.specs.List.{AllByRecursion, slice_get}
+use Rattle.std.proofs.Common.{◌≡◌, ◌≤◌, ◌+◌, ◌++◌, ◌∷◌, [], ℕ, List, length, take, ap, subst, sym, ◌∙◌, refl, arith, append_assoc}
+use Rattle.std.specs.List.{AllByRecursion}
 use Rattle.tx_model.specs.declared.report.Line.{Line}
 use Rattle.tx_model.specs.Rounds.{lines_in}
 use Rattle.legal_fronts.proofs.Fronting.{all_taken, one_more}
 use Rattle.report_law.specs.ReportLines.{IsLawfulAt, command_lines}
 use Rattle.report_law.specs.Steps.{IsLawfulCommand, lines_of}
-use Rattle.life_check.proofs.Sections.{commands_broken, commands_next}
-use Rattle.life_check.proofs.Walks.{commands_length}
+use Rattle.report_check.proofs.Sections.{commands_broken, commands_next}
+use Rattle.report_check.proofs.Walks.{commands_length}
 use Rattle.report_check.specs.Passing.{IsPassed, lines_before}
 use Rattle.report_check.proofs.Judging.{never_true, there}
 use Rattle.report_check.proofs.Rounding.{round_is, round_within, rounds_are}

@@ -1,4 +1,4 @@
-use Rattle.std.proofs.Common.{◌≡◌, ℕ, length, ◌∙◌, arith}
+use Rattle.std.proofs.Common.{◌≡◌, length, ◌∙◌, arith}
 use Rattle.report_check.proofs.StepByStep.{none_are}
 use Rattle.report_check.proofs.steps.here_of.Goals as goal
 

@@ -1,9 +1,8 @@
-use Rattle.std.proofs.Common.{◌≡◌, ap, sym, subst, List}
-use Rattle.life_check.specs.Sessions.{AreBehind}
-use Rattle.life_check.specs.declared.sessions.Session.{Session}
-use Rattle.checkpoint_rules.specs.Behind.{Walked}
-use Rattle.report_check.specs.Midst.{lived_behind}
-use Rattle.report_check.specs.Noting.{walked_of}
+use Rattle.std.proofs.Common.{sym, subst, List}
+use Rattle.standing_rules.specs.Sessions.{AreBehind}
+use Rattle.standing_rules.specs.declared.sessions.Session.{Session}
+use Rattle.checkpoint_rules.specs.Midst.{lived_behind}
+use Rattle.checkpoint_rules.specs.Noting.{walked_of}
 use Rattle.report_check.specs.Stepping.{noting_at, steps_before}
 use Rattle.report_check.proofs.StepByStep.{few_before, fronts_are, point_is, reached_is}
 use Rattle.report_check.proofs.steps.is_lawful_there.Goals as goal

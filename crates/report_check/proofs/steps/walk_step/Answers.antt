@@ -1,14 +1,11 @@
-use Rattle.std.proofs.Common.{◌≡◌, ◌+◌, List, Some, take, ◌∙◌, refl, sym}
+use Rattle.std.proofs.Common.{◌≡◌, ◌+◌, Some, take}
 use Rattle.std.specs.List.{flat_map, slice_get}
-use Rattle.tx_model.specs.declared.report.Step.{Step}
 use Rattle.tx_model.specs.Rounds.{lines_in}
-use Rattle.report_check.specs.Noting.{AreNoted}
+use Rattle.checkpoint_rules.specs.Noting.{AreNoted}
 use Rattle.report_check.specs.Passing.{IsPassed}
 use Rattle.report_check.specs.Stepping.{IsSoFar, noting_of}
 use Rattle.report_check.specs.declared.steps.SoFar.{SoFar}
-use Rattle.report_check.proofs.Judging.{item_is}
 use Rattle.report_check.proofs.Rounding.{line_there}
-use Rattle.report_check.proofs.Judging.{same_line}
 use Rattle.report_check.proofs.StepByStep.{both_if, noted_next}
 use Rattle.report_check.proofs.steps.walk_step.Goals as goal
 

@@ -1,8 +1,7 @@
-use Rattle.std.proofs.Common.{◌≡◌, ◌<◌, ◌+◌, ℕ, List, [], Some, length, take, ap, subst, sym, ◌∙◌, refl, arith}
-use Rattle.std.specs.List.{slice_get}
+use Rattle.std.proofs.Common.{◌≡◌, ◌<◌, ◌+◌, ℕ, length, take, ap, subst, sym, ◌∙◌, refl, arith}
 use Rattle.tx_model.specs.declared.report.Step.{Step}
 use Rattle.report_law.specs.ReportLines.{step_lines}
-use Rattle.life_check.proofs.Sections.{steps_next}
+use Rattle.report_check.proofs.Sections.{steps_next}
 use Rattle.report_check.specs.Stepping.{IsSoFar, step_or}
 use Rattle.report_check.specs.Walked.{IfLawful, IsWalked}
 use Rattle.report_check.specs.declared.walked.Walked.{Walked}

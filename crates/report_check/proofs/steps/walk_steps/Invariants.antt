@@ -1,4 +1,4 @@
-use Rattle.std.proofs.Common.{◌≡◌, [], length, get_or, take}
+use Rattle.std.proofs.Common.{◌≡◌, [], length, take}
 use Rattle.std.specs.List.{AllByRecursion}
 use Rattle.report_law.specs.ReportLines.{IsLawfulAt, steps_lines}
 use Rattle.report_check.specs.Stepping.{IsSoFar, step_or}

@@ -1,33 +1,28 @@
 use Rattle.std.proofs.Common.{◌≡◌, ℕ, ◌<◌, ◌≤◌, List, Some, length, map, take, sym, ap, subst, ◌∙◌, ◌==◌}
 use Rattle.std.specs.Prelude.{slice_index}
-use Rattle.std.specs.List.{All, count_by, filter_map, slice_get}
+use Rattle.std.specs.List.{count_by, slice_get}
 use Rattle.tx_events.specs.declared.multi.MultiEvent.{MultiEvent}
 use Rattle.tx_events.specs.Multis.{multi_by}
 use Rattle.tx_model.specs.declared.report.Life.{Life}
 use Rattle.tx_model.specs.Replies.{RoundSpan}
 use Rattle.multi_told.specs.Reached.{IsReach}
-use Rattle.multi_told.specs.Shapes.{ArePlacesOf}
-use Rattle.multi_told.proofs.Pinning.{stands_at}
-use Rattle.own_events.specs.Lined.{Numbered, lines_from, places_of}
-use Rattle.own_events.proofs.Copying.{copied_whole}
-use Rattle.event_rules.specs.Lined.{multis_in}
+use Rattle.place_columns.specs.OwnPlaces.{ArePlacesOf}
+use Rattle.tx_events.proofs.MultiPlaces.{stands_at}
+use Rattle.own_events.specs.Lined.{Numbered, lines_from, numbered, places_of}
 use Rattle.event_rules.proofs.Standing.{in_order}
 use Rattle.report_law.specs.Places.{multis_of}
-use Rattle.report_check.proofs.ToldAt.{its_places_are, number_within, places_within, rank_is}
+use Rattle.report_check.proofs.ToldAt.{its_places_are, number_within, rank_is}
 use Rattle.report_check.proofs.told_multis.is_told_of.Goals as goal
 
-pub copied_multis-requires-clause-within : goal.copied_multis-requires-clause-within
-copied_multis-requires-clause-within g c =
+pub multis_at-requires : goal.multis_at-requires
+multis_at-requires g c =
     let j = g.of.judged in
     let known = c.requires.1.0 in
     let items : c.items-multis.result.now ≡ j.life.multis = c.items-multis.ensures ∙ ap (λ (l : Life). l.multis) c.requires.0.life in
-    subst (λ (n : Numbered). All (λ p. p < length c.items-multis.result.now) (places_of c.args.number n.numbers)) (sym known.multis)
-    (subst (λ (h : List MultiEvent). All (λ p. p < length h) (places_of c.args.number (multis_in j).numbers)) (sym items) (places_within j known.order c.args.number))
-
-pub copied_multis-requires-clause-line : goal.copied_multis-requires-clause-line
-copied_multis-requires-clause-line g c =
-    let known = c.requires.1.0 in
-    subst (λ (n : Numbered). c.args.number ≤ length n.steps) (sym known.multis) (number_within g.of.judged known.order c.args.number c.args.line.now.by c.requires.1.1.1.1.0)
+    record {
+      numbers = (lines_from 0 j.steps, known.multis ∙ ap (λ (h : List MultiEvent). numbered (lines_from 0 j.steps) (map multi_by h)) (sym items));
+      within = subst (λ (n : Numbered). c.args.number ≤ length n.steps) (sym known.multis) (number_within j known.order c.args.number c.args.line.now.by c.requires.1.1.1.1.0);
+    }
 
 pub places-requires : goal.places-requires
 places-requires g c =
@@ -43,10 +38,9 @@ is_told_multi-requires g c =
     let line = c.requires.1.1.1.1.0 in
     let items : c.items-multis.result.now ≡ j.life.multis = c.items-multis.ensures ∙ ap (λ (l : Life). l.multis) c.requires.0.life in
     let reach : IsReach j.begun.counters j.life.events g.of.round c.reach_of-reach.result = subst (λ (r : RoundSpan). IsReach j.begun.counters j.life.events r c.reach_of-reach.result) (sym c.requires.1.1.0) c.reach_of-reach.ensures in
+    let numbers : c.args.known.now.multis ≡ numbered (lines_from 0 j.steps) (map multi_by c.items-multis.result.now) = known.multis ∙ ap (λ (h : List MultiEvent). numbered (lines_from 0 j.steps) (map multi_by h)) (sym items) in
     let own : c.as_slice.result.now ≡ multis_of by j.life.multis =
-    c.as_slice.ensures.value ∙ c.in_ok-own.ensures
-    ∙ ap (λ (h : List MultiEvent). filter_map (slice_get h) (places_of number c.args.known.now.multis.numbers)) items
-    ∙ copied_whole multi_by (lines_from 0 j.steps) number by j.life.multis c.args.known.now.multis known.multis (in_order j known.order) line in
+    c.as_slice.ensures.value ∙ c.in_ok-own.ensures (lines_from 0 j.steps) by numbers (in_order j known.order) line ∙ ap (multis_of by) items in
     let places : ArePlacesOf by (map multi_by j.life.multis) c.places.result.now =
     subst (λ (ps : List ℕ). ArePlacesOf by (map multi_by j.life.multis) ps) (sym (c.places.ensures ∙ ap (λ (n : Numbered). places_of number n.numbers) known.multis)) (its_places_are j known.order number by line) in
     (reach, (known.counts, (items, (own, places))))

@@ -1,5 +1,5 @@
 use Rattle.std.proofs.Common.{◌≡◌, ◌≤◌, ◌<◌, ◌-◌, ℕ, length, slice_index}
-use Rattle.store_pages.specs.Pages.{xact_page}
+use Rattle.tx_events.specs.Pages.{xact_page}
 use Rattle.slru_bank.proofs.plan.run_end.Given as goal
 
 abbrev pub invariant-loop-past : goal.invariant-loop-past

@@ -1,5 +1,5 @@
 use Rattle.std.proofs.Common.{◌≡◌, ℕ, ap, ◌∙◌, arith, ◌%◌}
-use Rattle.store_pages.specs.Pages.{xact_page, xact_place}
+use Rattle.tx_events.specs.Pages.{xact_page, xact_place}
 use Rattle.slru_bank.specs.Calls.{pages_of}
 use Rattle.slru_bank.specs.States.{state_number, times_4}
 use Rattle.slru_bank.proofs.OneState.{sets_state_by}

@@ -1,5 +1,5 @@
 use Rattle.std.proofs.Common.{ap, ◌∙◌}
-use Rattle.snap_core.specs.Sights.{sight_by, top_sight_by}
+use Rattle.tx_events.specs.Sights.{sight_by, top_sight_by}
 use Rattle.tx_core.proofs.Seeing.{rule_is, sight_then}
 use Rattle.tx_core.proofs.verdict.answer.Goals as goal
 

@@ -1,6 +1,6 @@
 use Rattle.std.proofs.Common.{◌≡◌, ◌+◌, ◌-◌, ◌%◌, ◌^◌, arith}
 use Rattle.std.proofs.lemmas.Bool.Decides.{nat_tests}
-use Rattle.multi_told.proofs.Nearness.{means_is}
+use Rattle.tx_events.proofs.Nearness.{means_is}
 use Rattle.multi_told.proofs.reach.Reach.means.Goals as goal
 
 pub returns : goal.returns

@@ -1,0 +1,258 @@
+//! What is known of a life, made piece by piece.
+ghost use Rattle.std.specs.Prelude.{◌≡◌, ℕ, ◌-◌, ◌<◌, ◌≤◌, ◌↔◌, IsTrue, Bool, IfOk, List, length, map, take, drop, get_or, false};
+ghost use Rattle.std.specs.Global.{Vec};
+ghost use Rattle.std.specs.BTreeSet.{contains};
+ghost use Rattle.std.specs.List.{All, list_any};
+ghost use Rattle.std.specs.Ordering.{nat_cmp};
+ghost use Rattle.tx_events.specs.Base.{IsBase};
+ghost use Rattle.tx_events.specs.declared.event.By.{By};
+ghost use Rattle.tx_events.specs.declared.event.Event.{Event};
+ghost use Rattle.tx_events.specs.declared.multi.MultiEvent.{MultiEvent};
+ghost use Rattle.tx_events.specs.Events.{by_of};
+ghost use Rattle.tx_events.specs.Multis.{multi_by};
+ghost use Rattle.tx_model.specs.declared.report.Line.{Line};
+ghost use Rattle.life_tables.specs.Numbered.{IsNumbered};
+ghost use Rattle.life_law.specs.DidCommit.{IsRecorded};
+ghost use Rattle.life_marks.specs.SnapMarks.{AreSnapMarks};
+ghost use Rattle.given_counts.specs.Counted.{AreCounts};
+ghost use Rattle.legal_fronts.specs.Fronts.{IsFront, IsMultiFront};
+ghost use Rattle.multi_gens.specs.Gens.{is_ok_gen};
+ghost use Rattle.multi_places.specs.Starts.{FitsBase};
+ghost use Rattle.multi_verdicts.specs.Snapped.{AreTakenByLines, LifeEvents};
+ghost use Rattle.open_counts.specs.Opens.{AreOpenCounts};
+ghost use Rattle.own_events.specs.Lined.{AreInOrder, bys_of, lines_from, numbered};
+ghost use Rattle.own_places.specs.declared.own.Own.{Own};
+ghost use Rattle.own_places.specs.Owned.{AreAllOwn, AreInTurn};
+ghost use Rattle.reply_rules.specs.Ends.{IsLogEnd};
+ghost use Rattle.reply_rules.specs.Logs.{AreLogs};
+ghost use Rattle.report_law.specs.Steps.{Judged, gave_multi, lines_of};
+ghost use Rattle.event_rules.specs.SnapsTold.{told_by, told_lists};
+ghost use Rattle.life_tables.specs.Lives.{LifeAt, RisesFrom, judged_life};
+
+use crate::committed::add_all_committed;
+use given_counts::{GivenCounts, given_counts};
+use history_places::HistoryPlaces;
+use legal_fronts::{HistoryFront, history_front, multi_front};
+use life_marks::SnapMark;
+use multi_gens::late_multis;
+use multi_places::{MultiPlaces, Start};
+use multi_verdicts::{Taken, taken_by_lines};
+use open_counts::open_counts;
+use own_events::{LineTable, OwnEvents, Owned, bys_of};
+use own_places::{Own, own_places};
+use reply_rules::{
+    LogEnd, Logs, are_log_faults, commit_tops, is_any_stray, recorded_multis, room_of, truncations,
+};
+use std::alloc::Global;
+use std::collections::BTreeSet;
+use tx_events::{Memory, MultiEvent, Rec, SnapData};
+use tx_model::{Life, LifeReport};
+
+/// How many sessions a report has at most.
+const SESSIONS: u32 = 64;
+
+/// The life's lines by their commands.
+pub fn table_of(alloc: Global, report: &LifeReport) -> Result<LineTable, Memory>
+    requires { IsNumbered report.now }
+    ensures { IfOk result (λ table. table ≡ lines_from 0 report.now.steps) }
+{
+    LineTable::new(alloc, SESSIONS, report.steps.items())
+}
+
+/// The events of each line.
+pub fn owned<E: Owned>(alloc: Global, table: &LineTable, events: &[E]) -> Result<OwnEvents, Memory>
+    ensures { IfOk result (λ own. own ≡ numbered table.now (map E.by events.now)) }
+{
+    let bys = bys_of(alloc, events)?;
+    OwnEvents::new(alloc, table, bys.as_slice())
+}
+
+/// The next id and the next multixact at each place.
+pub fn counts_in(alloc: Global, life: &Life) -> Result<GivenCounts, Memory>
+    requires { IsBase life.now.base }
+    ensures { IfOk result (λ counts. AreCounts life.now.base life.now.events life.now.multis counts) }
+{
+    given_counts(alloc, &life.base, life.events.items(), life.multis.items())
+}
+
+/// The legal front of the history, with its snapshots. `lists` are what the lines' replies tell.
+pub fn front_of(
+    alloc: Global,
+    report: &LifeReport,
+    own: &OwnEvents,
+    lists: &[Option<SnapData>],
+) -> Result<HistoryFront, Memory>
+    ghost at: { LifeAt }
+    requires report { report.now ≡ at.report }
+    requires base { IsBase report.now.life.base }
+    requires few { All (λ e. (by_of e).session < 64) report.now.life.events }
+    requires own { own.now ≡ numbered (lines_from 0 report.now.steps) (map by_of report.now.life.events) }
+    requires lists { lists.now ≡ map (λ (l : Line). told_lists l.reply) (lines_of (judged_life at)) }
+    ensures front { IfOk result (λ f. IsFront report.now.life.base report.now.life.events f.places) }
+    ensures snaps { IfOk result (λ f. AreSnapMarks report.now.life.base.next f.places.events (told_by (judged_life at)) f.snaps.items) }
+{
+    history_front(
+        alloc,
+        report.life.base.same(),
+        SESSIONS,
+        report.life.events.items(),
+        own,
+        lists,
+    )
+}
+
+/// Each session's events.
+pub fn turns_of<E: Owned>(alloc: Global, events: &[E]) -> Result<Vec<Vec<Own>>, Memory>
+    requires { All (λ e. (E.by e).session < 64) events.now }
+    ensures { IfOk result (λ turns. AreAllOwn (map E.by events.now) 64 turns.items) }
+{
+    let bys = bys_of(alloc, events)?;
+    own_places(alloc, SESSIONS, bys.as_slice())
+}
+
+/// How many ids its session has open behind each event of the front.
+pub fn opened_of(alloc: Global, life: &Life, places: &HistoryPlaces) -> Result<Vec<u64>, Memory>
+    requires base { places.now.base ≡ life.now.base }
+    requires few { All (λ e. (by_of e).session < 64) places.now.events }
+    ensures { IfOk result (λ counts. AreOpenCounts places.now.events counts.items) }
+{
+    open_counts(alloc, life.base.same(), SESSIONS, places.replay().events())
+}
+
+/// The snapshots of each line's command.
+pub fn taken_of(
+    alloc: Global,
+    table: &LineTable,
+    own: &OwnEvents,
+    snaps: &[Option<SnapMark>],
+) -> Result<Vec<Vec<Taken>>, Memory>
+    ghost life: { LifeEvents }
+    requires own { own.now ≡ numbered table.now (map by_of life.all) }
+    requires order { AreInOrder (bys_of table.now) }
+    requires front { life.events ≡ take (length life.events) life.all }
+    requires marks { AreSnapMarks life.first life.events life.told snaps.now }
+    ensures { IfOk result (λ lists. AreTakenByLines life.first life.events (bys_of table.now) lists.items) }
+{
+    taken_by_lines(alloc, table, own, snaps)
+}
+
+/// The same once more.
+pub fn copied(alloc: Global, starts: &[Start]) -> Result<Vec<Start>, Memory>
+    ensures { IfOk result (λ copies. copies.items ≡ starts.now) }
+{
+    let mut copies = Vec::with_capacity(alloc, starts.len())?;
+    for start in starts {
+        copies.push(*start)?;
+    }
+    Ok(copies)
+}
+
+/// The legal front of the multixact events.
+pub fn multi_front_of(alloc: Global, life: &Life, starts: Vec<Start>) -> Result<MultiPlaces, Memory>
+    requires base { IsBase life.now.base }
+    requires starts { FitsBase life.now.base starts.items }
+    ensures { IfOk result (λ p. IsMultiFront life.now.base starts.items life.now.multis p) }
+{
+    multi_front(alloc, life.base.same(), starts, life.multis.items())
+}
+
+/// Whether none of the session's events is of an earlier command than one before it.
+fn rises(own: &[Own]) -> bool
+    ensures { IsTrue result → RisesFrom 0 own.now }
+{
+    let mut last = 0;
+    for o in own {
+        if o.command < last {
+            return false;
+        }
+        last = o.command;
+    }
+    true
+}
+
+/// Whether events come in the order of their sessions' commands, by each session's events.
+pub fn are_in_turn(turns: &[Vec<Own>]) -> bool
+    ensures { (bys : List By) → All (λ b. b.session < 64) bys → AreAllOwn bys 64 turns.now → IsTrue result → AreInTurn bys }
+{
+    for own in turns {
+        if !rises(own.as_slice()) {
+            return false;
+        }
+    }
+    true
+}
+
+/// Of each event, by its line, whether that one's reply gives a multixact.
+pub fn oks_of(
+    alloc: Global,
+    own: &OwnEvents,
+    count: u64,
+    gave: &[bool],
+) -> Result<Vec<bool>, Memory>
+    requires { length own.now.numbers ≡ count }
+    ensures { IfOk result (λ oks. oks.items ≡ map (λ n. get_or gave.now n false) own.now.numbers) }
+{
+    let mut oks = Vec::with_capacity(alloc, count as usize)?;
+    for place in 0..count {
+        oks.push(
+            gave.get(own.number_at(place) as usize)
+                .copied()
+                .unwrap_or(false),
+        )?;
+    }
+    Ok(oks)
+}
+
+/// The multixacts that are given behind the front to commands that were answered `ok`.
+pub fn late_of(
+    alloc: Global,
+    multis: &[MultiEvent],
+    places: &MultiPlaces,
+    oks: &[bool],
+) -> Result<BTreeSet<u64>, Memory>
+    ghost ok: { By → Bool }
+    requires front { length places.now.events ≤ length multis.now }
+    requires oks { oks.now ≡ map (λ (e : MultiEvent). ok (multi_by e)) multis.now }
+    ensures { IfOk result (λ late. (x : ℕ) → contains nat_cmp late x ≡ list_any (is_ok_gen ok x) (drop (length places.now.events) multis.now)) }
+{
+    let from = places.events().len();
+    late_multis(alloc, &multis[from..], &oks[from..])
+}
+
+/// All ids of the commit records, by their numbers.
+pub fn recorded_in(alloc: Global, recs: &[Rec]) -> Result<BTreeSet<u64>, Memory>
+    ensures { IfOk result (λ ids. (x : ℕ) → IsTrue (contains nat_cmp ids x) ↔ IsRecorded recs.now x) }
+{
+    let mut ids = BTreeSet::new(alloc);
+    add_all_committed(&mut ids, recs)?;
+    Ok(ids)
+}
+
+/// What the life's log holds.
+pub fn logs_of(alloc: Global, life: &Life) -> Result<Logs, Memory>
+    ensures { IfOk result (λ logs. (j : Judged) → j.life ≡ life.now → AreLogs j logs) }
+{
+    let recs = life.recs.items();
+    let flushed = life
+        .flushed
+        .saturating_sub(life.from)
+        .min(recs.len() as u64);
+    let first = &recs[..flushed as usize];
+    Ok(Logs {
+        commits: commit_tops(alloc, first)?,
+        truncations: truncations(first),
+        multis: recorded_multis(alloc, recs)?,
+        stray: is_any_stray(alloc, recs, life.multis.items())?,
+    })
+}
+
+/// What refusals go by that the life's log brings.
+pub fn log_end_of(report: &LifeReport) -> LogEnd
+    ensures { (j : Judged) → j.life ≡ report.now.life → j.steps ≡ report.now.steps → IsLogEnd j result }
+{
+    LogEnd {
+        room: room_of(&report.life),
+        flushed: report.life.flushed,
+        failed: are_log_faults(report.steps.items()),
+    }
+}

@@ -1,4 +1,0 @@
-use Rattle.report_check.proofs.asked.named_of.Given as goal
-
-abbrev pub ghost-left_of : goal.ghost-left_of
-ghost-left_of g a = g.at

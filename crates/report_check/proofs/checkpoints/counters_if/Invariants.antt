@@ -1,4 +1,0 @@
-use Rattle.report_check.proofs.checkpoints.counters_if.Given as goal
-
-abbrev pub ghost-counters_there : goal.ghost-counters_there
-ghost-counters_there g a = g.at

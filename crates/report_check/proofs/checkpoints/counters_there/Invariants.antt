@@ -1,4 +1,0 @@
-use Rattle.report_check.proofs.checkpoints.counters_there.Given as goal
-
-abbrev pub ghost-counters_at : goal.ghost-counters_at
-ghost-counters_at g a = g.at.multis

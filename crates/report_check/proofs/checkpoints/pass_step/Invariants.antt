@@ -1,4 +1,0 @@
-use Rattle.report_check.proofs.checkpoints.pass_step.Given as goal
-
-abbrev pub ghost-note_reached : goal.ghost-note_reached
-ghost-note_reached g a = g.at

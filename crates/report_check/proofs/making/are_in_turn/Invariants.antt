@@ -1,8 +1,0 @@
-use Rattle.std.proofs.Common.{ℕ, ◌<◌, get_or}
-use Rattle.std.specs.Global.{Vec}
-use Rattle.own_places.specs.declared.own.Own.{Own}
-use Rattle.report_check.specs.Known.{RisesFrom}
-use Rattle.report_check.proofs.making.are_in_turn.Given as goal
-
-abbrev pub invariant-loop-own : goal.invariant-loop-own
-invariant-loop-own l = (s : ℕ) (d : Vec Own) → s < l.own-index → RisesFrom 0 (get_or l.turns s d).items

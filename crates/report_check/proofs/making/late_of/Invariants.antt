@@ -1,4 +1,0 @@
-use Rattle.report_check.proofs.making.late_of.Given as goal
-
-abbrev pub ghost-late_multis : goal.ghost-late_multis
-ghost-late_multis g a = g.ok

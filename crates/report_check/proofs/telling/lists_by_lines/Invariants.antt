@@ -1,9 +1,0 @@
-use Rattle.std.proofs.Common.{◌≡◌, map, take}
-use Rattle.std.specs.List.{flat_map}
-use Rattle.tx_model.specs.declared.report.Line.{Line}
-use Rattle.tx_model.specs.Rounds.{lines_in}
-use Rattle.reply_lines.specs.Known.{told_lists}
-use Rattle.report_check.proofs.telling.lists_by_lines.Given as goal
-
-abbrev pub invariant-loop-step : goal.invariant-loop-step
-invariant-loop-step l = l.lists.items ≡ map (λ (x : Line). told_lists x.reply) (flat_map lines_in (take l.step-index l.steps))

@@ -11,7 +11,10 @@ use crate::pins::{PinCounts, PinKey, add_pin, drop_pin, has_pin, least_pinned};
 use crate::places::{first_member, place_of};
 use std::alloc::Global;
 use std::marker::Model;
-use tx_events::{By, Copied, Counters, FullMulti, MemberList, MultiEvent, MultiId, Refusal, check_multi, make_one_room, make_room, member_stop, near_multi};
+use tx_events::{
+    By, Copied, Counters, FullMulti, MemberList, MultiEvent, MultiId, Refusal, check_multi,
+    make_one_room, make_room, member_stop, near_multi,
+};
 
 /// The generator of multixacts, and their history so far. A contract sees the base of the life and the events.
 #[derive(Drop)]

@@ -1,6 +1,6 @@
 // What snapshots say, from rows worked out by hand.
-use tx_events::{FullXid, IdList, Sight, SnapData, sight_of, sight_of_top};
 use std::process::Abort;
+use tx_events::{FullXid, IdList, Sight, SnapData, sight_of, sight_of_top};
 
 fn id<R: Abort>(rt: &R, number: u64) -> FullXid {
     FullXid::new(number).expect(rt, "an id")

@@ -2,10 +2,10 @@
 use Rattle.std.specs.Prelude.{◌≡◌, ℕ, ◌<◌, ◌≤◌, ◌^◌, ◌⊎◌, Bool, true, false, List, [], ◌∷◌, ◌++◌, Option, Some, None, length}
 use Rattle.std.specs.List.{All, count_by, filter_map}
 use Rattle.tx_model.specs.declared.command.Command.{Command}
+use Rattle.tx_model.specs.declared.command.Command.TheVariants as commands
 use Rattle.tx_model.specs.declared.report.DumpOf.{DumpOf}
 use Rattle.tx_model.specs.declared.report.DumpOf.TheVariants as dumps
 use Rattle.tx_events.specs.Base.{IsBase}
-use Rattle.life_law.specs.Commands.{makes_level}
 pub use Rattle.life_law.specs.Commands.{has_command}
 use Rattle.session_lang.specs.declared.script.Item.{Item}
 use Rattle.session_lang.specs.declared.script.Item.TheVariants as items
@@ -19,13 +19,20 @@ turn_in _ = None
 abbrev pub turns_in : List Item → List (ℕ × Command)
 turns_in script = filter_map turn_in script
 
--- how many of its commands make a level
-abbrev pub levels_in : List Item → ℕ
-levels_in script = count_by (λ (t : ℕ × Command). makes_level t.1) (turns_in script)
+-- whether a command may take a new number: it makes a level, which may be given an id, or a multixact
+abbrev pub takes_number : Command → Bool
+takes_number commands.Begin = true
+takes_number commands.Save = true
+takes_number (commands.Multi members) = true
+takes_number command = false
+
+-- how many of its commands do
+abbrev pub takers_in : List Item → ℕ
+takers_in script = count_by (λ (t : ℕ × Command). takes_number t.1) (turns_in script)
 
 -- few enough for a life
-abbrev pub HasFewLevels : List Item → Type 0
-HasFewLevels script = levels_in script < 2900000
+abbrev pub HasFewTakers : List Item → Type 0
+HasFewTakers script = takers_in script < 2900000
 
 abbrev pub is_command : Item → Bool
 is_command (items.Run session command) = true
@@ -41,7 +48,8 @@ abbrev pub has_dump : DumpOf → Bool
 has_dump dumps.Log = true
 has_dump (dumps.Xact page) = true
 has_dump (dumps.Subtrans page) = true
-has_dump _ = false
+has_dump (dumps.Offsets page) = true
+has_dump (dumps.Members page) = true
 
 -- a dump that it shows, with numbers in their ranges
 abbrev pub MayShow : DumpOf → ℕ → ℕ → Type 0

@@ -17,7 +17,7 @@ use Rattle.script_gen.specs.Choices.{drawn_from}
 use Rattle.script_gen.specs.Generated.{generated, items_from, session_names}
 use Rattle.script_gen.specs.Laws.{GeneratedScriptsAreSound, GeneratedScriptsRun, GeneratedTextsAreRead, generated_text}
 use Rattle.script_gen.proofs.Bounds.{few_items}
-use Rattle.script_gen.proofs.Levels.{all_places, few_levels, items_run}
+use Rattle.script_gen.proofs.Levels.{all_places, few_takers, items_run}
 use Rattle.script_gen.proofs.Ranges.{IsDrawn, each_item}
 use Rattle.script_gen.proofs.RoundSizes.{rounds_short}
 use Rattle.script_gen.proofs.Sessions.{names_count, sessions_numbered}
@@ -100,7 +100,7 @@ scripts_run seed size l =
       runnable = record { base = base_is; items = all_may_stand (length (session_names size)) (items_from 0 (drawn_from 0 size seed)) all; sessions = omega arith; few = omega arith };
       items = all;
       banks = refl;
-      few = few_levels seed size l;
+      few = few_takers seed size l;
     }
 
 pub texts_are_read : GeneratedTextsAreRead

@@ -16,7 +16,7 @@ use Rattle.tx_model.specs.Rounds.{AreSteps, is_round, lines_in}
 use Rattle.life_law.specs.LawfulLife.{IsLawfulLife}
 use Rattle.session_lang.specs.declared.script.Item.{Item}
 use Rattle.session_lang.specs.Rounds.{asked_of}
-use Rattle.run_law.specs.Turns.{HasFewLevels, MayRun}
+use Rattle.run_law.specs.Turns.{HasFewTakers, MayRun}
 use Rattle.script_rounds.specs.declared.keeper.LineKeeper as keepers
 use Rattle.tx_core.specs.declared.entry.Entry.{Entry}
 use Rattle.tx_core.specs.declared.entry.Start.{Start}
@@ -34,7 +34,7 @@ use Rattle.session_run.specs.GoesOn.{GoesOn}
 pub record IsTakenPart (sessions : ℕ) (its : List Item) : Type 0 where
   pub items : All (MayRun sessions) its
   pub few : length its ≤ 2 ^ 24
-  pub levels : HasFewLevels its
+  pub takers : HasFewTakers its
 
 module _ {K : Type 0} (k : keepers.Ghosts K) where
   -- what is kept with these steps more

@@ -10,7 +10,7 @@ pub use Rattle.life_law.specs.Commands.{has_command}
 use Rattle.session_lang.specs.declared.script.Item.{Item}
 use Rattle.session_lang.specs.declared.script.Item.TheVariants as items
 use Rattle.session_lang.specs.declared.script.Script.{Script}
-use Rattle.session_lang.specs.Plain.{IsDump}
+use Rattle.session_lang.specs.Plain.{IsDump, IsInRange}
 
 abbrev pub turn_in : Item → Option (ℕ × Command)
 turn_in (items.Run session command) = Some (session, command)
@@ -61,9 +61,13 @@ has_item (items.Run session command) = has_command command
 has_item (items.Dump what at size) = has_dump what
 has_item _ = true
 
+-- a command that it has, with names and numbers in their ranges
+abbrev pub MayAsk : Command → Type 0
+MayAsk command = (has_command command ≡ true) × IsInRange command
+
 -- a life with so many sessions can run the item
 abbrev pub MayRun : ℕ → Item → Type 0
-MayRun sessions (items.Run session command) = (has_command command ≡ true) × (session < sessions)
+MayRun sessions (items.Run session command) = MayAsk command × (session < sessions)
 MayRun sessions items.Round = Unit {0}
 MayRun sessions items.Checkpoint = Unit {0}
 MayRun sessions (items.Dump what at size) = MayShow what at size

@@ -3,11 +3,13 @@ use Rattle.std.proofs.Common.{◌≡◌, ℕ, ◌+◌, ◌<◌, ◌≤◌, min, 
 use Rattle.std.specs.List.{All, AllByRecursion, count_by, flat_map, sum_by}
 use Rattle.std.proofs.lemmas.List.Elements.{All-cons, All-nil, filter_map-append}
 use Rattle.std.proofs.lemmas.List.Sums.{sum_by-append, sum_by-cons}
+use Rattle.tx_events.specs.Names.{is_name}
 use Rattle.tx_model.specs.declared.command.Command.{Command}
 use Rattle.tx_model.specs.declared.command.Command.TheVariants as commands
 use Rattle.session_lang.specs.declared.script.Item.{Item}
 use Rattle.session_lang.specs.declared.script.Item.TheVariants as items
 use Rattle.life_law.specs.Commands.{has_command}
+use Rattle.session_lang.specs.Plain.{IsInRange}
 use Rattle.run_law.specs.Turns.{MayRun, takers_in, takes_number, turn_in, turns_in}
 use Rattle.script_gen.specs.Choices.{Choices, choices, drawn_from}
 use Rattle.script_gen.specs.Generated.{end_command, is_round_first, items_from, look_commands, run_by, savepoint_commands, session_names, session_of, transaction, transaction_items}
@@ -108,8 +110,21 @@ drawn_runs (commands.DropSnap name) d = refl
 drawn_runs (commands.See name x) d = refl
 drawn_runs c d = absurd d
 
+pub drawn_in_range : (c : Command) → IsDrawn c → IsInRange c
+drawn_in_range commands.Begin d = tt
+drawn_in_range commands.Save d = tt
+drawn_in_range commands.Write d = tt
+drawn_in_range commands.Release d = tt
+drawn_in_range commands.Undo d = tt
+drawn_in_range commands.Commit d = tt
+drawn_in_range commands.Abort d = tt
+drawn_in_range (commands.Snap name) d = ap is_name d
+drawn_in_range (commands.DropSnap name) d = ap is_name d
+drawn_in_range (commands.See name x) d = (ap is_name d.0, let m = d.2 in omega arith)
+drawn_in_range c d = absurd d
+
 pub items_run : (seed size : ℕ) → size ≤ 100000 → All (MayRun (length (session_names size))) (items_from 0 (drawn_from 0 size seed))
 items_run seed size few =
     let n = names_count size in
     all_places (MayRun (length (session_names size))) (items_from 0 (drawn_from 0 size seed))
-    (each_item (MayRun (length (session_names size))) size few tt (λ i c l d. (drawn_runs c d, let low : session_of i < min size 4 = omega arith in omega arith)) 0 size seed (omega arith))
+    (each_item (MayRun (length (session_names size))) size few tt (λ i c l d. ((drawn_runs c d, drawn_in_range c d), let low : session_of i < min size 4 = omega arith in omega arith)) 0 size seed (omega arith))

@@ -3,7 +3,7 @@ ghost use Rattle.std.specs.Prelude.{◌≡◌, Bool, IsTrue, true};
 ghost use Rattle.tx_model.specs.declared.reply.Reply.TheVariants as replies;
 ghost use Rattle.engine_parts.specs.Answers.{reply_of};
 ghost use Rattle.engine_parts.specs.Calls.{MayRun, Ran, next_command};
-ghost use Rattle.run_law.specs.Turns.{has_command};
+ghost use Rattle.run_law.specs.Turns.{MayAsk};
 ghost use Rattle.life_law.specs.Replies.{is_told_verdict};
 ghost use Rattle.xact_writes.specs.Writes.{reply_to};
 ghost use Rattle.multi_makes.specs.Makes.{given_reply};
@@ -120,7 +120,7 @@ pub fn run_command<R: Passing, L: LogDisk, P: PageDisk>(
     alloc: Global,
     command: &Command,
 ) -> Reply
-    requires has { has_command command.now ≡ true }
+    requires ask { MayAsk command.now }
     requires may { MayRun hall.now banks caller.old }
     ensures ran { Ran hall.now (next_command caller.old) command.now result caller.old caller.new }
     ensures verdict { (verdict : Bool) → result ≡ replies.Seen verdict → IsTrue (is_told_verdict command.now) }

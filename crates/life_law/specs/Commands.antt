@@ -1,4 +1,4 @@
--- The commands that the run has, and those that make a level.
+-- The commands that the run has, and those that make a level or a multixact.
 use Rattle.std.specs.Prelude.{Bool, true, false}
 use Rattle.tx_model.specs.declared.command.Command.{Command}
 use Rattle.tx_model.specs.declared.command.Command.TheVariants as commands
@@ -18,10 +18,18 @@ has_command (commands.See name x) = true
 has_command (commands.Status x) = true
 has_command (commands.Did x) = true
 has_command (commands.Freeze oldest) = true
-has_command _ = false
+has_command commands.Trim = true
+has_command (commands.Multi members) = true
+has_command (commands.SeeMulti name multi) = true
+has_command (commands.MultiFreeze multi) = true
 
 -- whether a command makes a level, which may be given an id
 abbrev pub makes_level : Command → Bool
 makes_level commands.Begin = true
 makes_level commands.Save = true
 makes_level command = false
+
+-- whether it makes a multixact
+abbrev pub makes_multi : Command → Bool
+makes_multi (commands.Multi members) = true
+makes_multi command = false

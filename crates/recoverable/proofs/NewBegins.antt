@@ -27,6 +27,8 @@ in_order start none = record {
   behind = λ m n x y ms ns c. absurd (none_in start.recorded _ none c);
   last = λ m x ms c. absurd (none_in start.recorded _ none c);
   stored = λ m x ms c. absurd (none_in start.recorded _ none c);
+  apart = λ m n x y ms ns c. absurd (none_in start.recorded _ none c);
+  once = λ m x y ms ns c. absurd (none_in start.recorded _ none c);
 }
 
 pub new_begins : NewBegins

@@ -51,11 +51,15 @@ pub record AreInOrder (c : Counters) (recorded : List Rec) : Type 0 where
   pub once : (m x y : ℕ) (ms ns : List Member) → Contains recorded (records.Multi m x ms) → Contains recorded (records.Multi m y ns) → c.oldest_multi ≤ m → (x ≡ y) × (ms ≡ ns)
   pub fit : (m x : ℕ) (ms : List Member) → Contains recorded (records.Multi m x ms) → c.oldest_multi ≤ m → AreMembers ms × ((id : ℕ) → Contains (ids_of ms) id → IsFullId id)
 
+-- each multixact that a base names lies below its counters
+abbrev pub AreBelowNext : LifeBase → Type 0
+AreBelowNext base = (multi offset : ℕ) (members : List Member) → Contains base.recorded (records.Multi multi offset members)
+    → (multi < base.counters.multi) × (offset + length members ≤ base.counters.offset)
+
 -- what a life may start from: its counters are a base, no id or multixact that it names is past them, no id is a special
 -- one, and the recorded multixacts lie in order
 pub record IsLifeBase (base : LifeBase) : Type 0 where
   pub counters : IsBase base.counters
   pub committed : (x : ℕ) → Contains base.committed x → (3 ≤ x) × (x < base.counters.next)
-  pub multis : (multi offset : ℕ) (members : List Member) → Contains base.recorded (records.Multi multi offset members)
-      → (multi < base.counters.multi) × (offset + length members ≤ base.counters.offset)
+  pub multis : AreBelowNext base
   pub in_order : AreInOrder base.counters base.recorded

@@ -347,4 +347,5 @@ list_fits start lists log k told full is f =
           (subst (λ (t : List Rec). EachPlace t (Came start lists)) (sym (take-append-drop j (life_recs lists))) (came start lists k is.counters)) in
           subst IsLifeBase (sym (base_from start lists log n f (omega arith))) (life_base_after start lists k told full is (take j (life_recs lists)) each);
       whole = λ n first. whole_in start lists log n k f first;
+      below = f.below;
     }

@@ -295,7 +295,7 @@ module _ (start : Start) (lists : List (List Entry)) (k : EngineInvariant start 
           (λ (q : (m < m) × (x + length ms ≤ y)). let z = q.0 in absurd (omega arith))
           (λ r. ⊎_elim
           (λ (q : (m < m) × (y + length ns ≤ x)). let z = q.0 in absurd (omega arith))
-          (λ (q : (m ≡ m) × (x ≡ y) × (ms ≡ ns)). q.2)
+          (λ (q : (m ≡ m) × (x ≡ y) × (ms ≡ ns)). (q.1, q.2))
           r)
           (order.apart gen.0 other.0 m m x y ms ns gen.1 other.1))
           (known m y ns d))

@@ -143,6 +143,8 @@ none_recorded c b none = record {
       behind = λ m n x y ms ns k. absurd (no_record k);
       last = λ m x ms k. absurd (no_record k);
       stored = λ m x ms k. absurd (no_record k);
+      apart = λ m n x y ms ns k. absurd (no_record k);
+      once = λ m x y ms ns k. absurd (no_record k);
     };
     recorded = λ multi offset k members member among. absurd (no_record among);
     gap = λ multi offset members k. absurd (no_record k);

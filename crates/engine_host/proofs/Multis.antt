@@ -11,6 +11,7 @@ use Rattle.store_pages.specs.Layouts.{member_page_of, member_place_of, mode_plac
 use Rattle.tx_events.specs.Ids.{id_before, low_half}
 use Rattle.tx_events.specs.declared.record.Rec.{Rec}
 use Rattle.tx_events.proofs.Membership.{contains_has}
+use Rattle.log_bases.specs.LifeBase.{AreInOrder}
 use Rattle.tx_core.specs.CleanMultis.{CleanMembers, CleanOffsets}
 use Rattle.tx_core.specs.StoredBytes.{HasZeroTails, StoredBytes, slot_place_of}
 use Rattle.tx_core.specs.declared.entry.Entry.{Entry}
@@ -31,7 +32,7 @@ small_member n = omega arith
 -- a clean start doesn't go by the counts of faults
 module _ (c : Cluster) (b : Beginning) (counts : List ℕ) where
   offsets_any : {shown : ℕ → Option StoredBytes} → CleanOffsets (life_from c b []) shown → CleanOffsets (life_from c b counts) shown
-  offsets_any k = record { before = k.before; recorded = k.recorded; other = k.other; clean = k.clean }
+  offsets_any k = record { before = k.before; in_order = k.in_order; recorded = k.recorded; other = k.other; clean = k.clean }
 
   members_any : {shown : ℕ → Option StoredBytes} → CleanMembers (life_from c b []) shown → CleanMembers (life_from c b counts) shown
   members_any k = record { before = k.before; in_order = k.in_order; recorded = k.recorded; gap = k.gap; clean = k.clean; behind = k.behind }
@@ -131,19 +132,14 @@ pub none_recorded : (c : Cluster) (b : Beginning) → b.recorded ≡ [] → HasN
 none_recorded c b none = record {
   offsets = record {
     before = λ multi offset members k. absurd (no_record k);
+    in_order = in_order;
     recorded = λ multi offset members k. absurd (no_record k);
     other = λ multi full from to other. refl;
     clean = λ x from to. refl;
   };
   members = record {
     before = λ multi offset members k. absurd (no_record k);
-    in_order = record {
-      within = λ m x ms k. absurd (no_record k);
-      order = λ m n x y ms ns k. absurd (no_record k);
-      behind = λ m n x y ms ns k. absurd (no_record k);
-      last = λ m x ms k. absurd (no_record k);
-      stored = λ m x ms k. absurd (no_record k);
-    };
+    in_order = in_order;
     recorded = λ multi offset k members member among. absurd (no_record among);
     gap = λ multi offset members k. absurd (no_record k);
     clean = λ x i from to low. refl;
@@ -153,3 +149,15 @@ none_recorded c b none = record {
   where
     no_record : {rec : Rec} → Contains b.recorded rec → ⊥
     no_record {rec} k = contains_has [] rec (subst (λ (t : List Rec). Contains t rec) none k)
+
+    in_order : AreInOrder (life_from c b []).base (life_from c b []).recorded
+    in_order = record {
+      within = λ m x ms k. absurd (no_record k);
+      order = λ m n x y ms ns k. absurd (no_record k);
+      behind = λ m n x y ms ns k. absurd (no_record k);
+      last = λ m x ms k. absurd (no_record k);
+      stored = λ m x ms k. absurd (no_record k);
+      apart = λ m n x y ms ns k. absurd (no_record k);
+      once = λ m x y ms ns k. absurd (no_record k);
+      fit = λ m x ms k. absurd (no_record k);
+    }

@@ -6,11 +6,31 @@ use Rattle.tx_model.specs.declared.command.Command.TheVariants as commands
 use Rattle.tx_model.specs.declared.report.DumpOf.{DumpOf}
 use Rattle.tx_model.specs.declared.report.DumpOf.TheVariants as dumps
 use Rattle.tx_events.specs.Base.{IsBase}
-pub use Rattle.life_law.specs.Commands.{has_command}
 use Rattle.session_lang.specs.declared.script.Item.{Item}
 use Rattle.session_lang.specs.declared.script.Item.TheVariants as items
 use Rattle.session_lang.specs.declared.script.Script.{Script}
 use Rattle.session_lang.specs.Plain.{IsDump, IsInRange}
+
+-- the commands that the run has
+abbrev pub has_command : Command → Bool
+has_command commands.Begin = true
+has_command commands.Save = true
+has_command commands.Write = true
+has_command commands.Release = true
+has_command commands.Undo = true
+has_command commands.Commit = true
+has_command commands.Abort = true
+has_command commands.Horizon = true
+has_command (commands.Snap name) = true
+has_command (commands.DropSnap name) = true
+has_command (commands.See name x) = true
+has_command (commands.Status x) = true
+has_command (commands.Did x) = true
+has_command (commands.Freeze oldest) = true
+has_command commands.Trim = true
+has_command (commands.Multi members) = true
+has_command (commands.SeeMulti name multi) = true
+has_command (commands.MultiFreeze multi) = true
 
 abbrev pub turn_in : Item → Option (ℕ × Command)
 turn_in (items.Run session command) = Some (session, command)

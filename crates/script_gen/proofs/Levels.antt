@@ -8,9 +8,8 @@ use Rattle.tx_model.specs.declared.command.Command.{Command}
 use Rattle.tx_model.specs.declared.command.Command.TheVariants as commands
 use Rattle.session_lang.specs.declared.script.Item.{Item}
 use Rattle.session_lang.specs.declared.script.Item.TheVariants as items
-use Rattle.life_law.specs.Commands.{has_command}
 use Rattle.session_lang.specs.Plain.{IsInRange}
-use Rattle.run_law.specs.Turns.{MayRun, takers_in, takes_number, turn_in, turns_in}
+use Rattle.run_law.specs.Turns.{MayRun, has_command, takers_in, takes_number, turn_in, turns_in}
 use Rattle.script_gen.specs.Choices.{Choices, choices, drawn_from}
 use Rattle.script_gen.specs.Generated.{end_command, is_round_first, items_from, look_commands, run_by, savepoint_commands, session_names, session_of, transaction, transaction_items}
 use Rattle.script_gen.proofs.Bounds.{all_few, few_savepoints, most_savepoints}

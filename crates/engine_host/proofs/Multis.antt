@@ -8,7 +8,9 @@ use Rattle.slru_bank.specs.Calls.{IsDurable, cutoff_of, last_page, pages_of}
 use Rattle.slru_bank.specs.declared.bank.SlruBank.{SlruBank}
 use Rattle.store_pages.specs.declared.page_rule.PageRule as rules
 use Rattle.store_pages.specs.Layouts.{member_page_of, member_place_of, mode_place_of, multi_before, number_in, word_page_of, word_place_of}
+use Rattle.tx_events.specs.Base.{IsBase}
 use Rattle.tx_events.specs.Ids.{id_before, low_half}
+use Rattle.tx_events.specs.Limits.{stop_limit}
 use Rattle.tx_events.specs.declared.record.Rec.{Rec}
 use Rattle.tx_events.proofs.Membership.{contains_has}
 use Rattle.log_bases.specs.LifeBase.{AreInOrder}
@@ -55,15 +57,29 @@ module _ {I V R : Type 0} (k : Rack I V R) (Asked : ℕ → Type 0) (Clean : (�
 
 -- ---- pg_subtrans
 
-pub subtrans_begins : (c : Cluster) (b : Beginning) (bank faults last cutoff : ℕ) (tells : Bool) (bytes : ℕ → List ℕ) (led : List Entry → Type 0) (counts : List ℕ) → bank < c.banks
+before_upto : (n : ℕ) → id_before n ≤ n
+before_upto n = grind arith
+
+before_near : (n : ℕ) → n ≤ id_before n + 4
+before_near n = grind arith
+
+stop_tight : (oldest : ℕ) → stop_limit oldest + 2999990 ≤ oldest + 2 ^ 31
+stop_tight oldest = grind arith
+
+pub subtrans_begins : (c : Cluster) (b : Beginning) (bank faults last cutoff : ℕ) (tells : Bool) (bytes : ℕ → List ℕ) (led : List Entry → Type 0) (counts : List ℕ) → IsBase c.base → bank < c.banks
     → get_or counts (subtrans_lock bank) 0 ≤ faults → last ≡ subtrans_page (low_half c.base.next) → cutoff ≡ subtrans_page (low_half (id_before c.base.next))
     → (IsTrue tells → ShowNothing bytes) → (IsTrue tells → led [])
     → SubtransStands (life_from c b counts) bank tells faults last cutoff bytes led []
-subtrans_begins c b bank faults last cutoff tells bytes led counts inside count last_is cutoff_is zeros begun = record {
+subtrans_begins c b bank faults last cutoff tells bytes led counts base inside count last_is cutoff_is zeros begun = record {
   inside = inside;
   count = count;
   last_is = λ near. last_is ∙ low_page c.base.next;
   cutoff_is = (subtrans_page (id_before c.base.next), cutoff_is ∙ low_page (id_before c.base.next), omega arith, inl refl);
+  near = (
+    subtrans_page (id_before c.base.next),
+    cutoff_is ∙ low_page (id_before c.base.next),
+    (let old = base.oldest in let near = before_near c.base.next in omega arith, let next = base.next in let stop = stop_tight c.base.oldest in let upto = before_upto c.base.next in omega arith),
+  );
   shown = λ told near. record {
     each = λ x used here kept. ap (λ page. number_in page (word_place_of x)) (zeros told (word_page_of x) (small_word x)) ∙ zero_number (word_place_of x);
   };

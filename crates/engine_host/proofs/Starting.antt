@@ -152,6 +152,7 @@ xact_begins c b bank faults last cutoff tells bytes left led counts inside count
   count = count;
   last_is = λ near. last_is ∙ low_page c.base.next;
   cutoff_is = (xact_page c.base.oldest, cutoff_is ∙ low_page c.base.oldest, omega arith, inl refl);
+  near = (xact_page c.base.oldest, cutoff_is ∙ low_page c.base.oldest, (omega arith, omega arith));
   shown = λ told near. let s = shows told in (
     s.shown,
     clean_any c b counts s.shown s.clean,

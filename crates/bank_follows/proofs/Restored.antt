@@ -103,6 +103,7 @@ module _ (start : Start) (log : KeptLog) (from : ℕ) (left : Left) (some : 1 �
 
   offsets_clean : CleanOffsets start (shown_on start.banks left).offsets
   offsets_clean = record {
+    told = on.told;
     before = λ multi offset members among. (is_base.multis multi offset members among).0;
     in_order = is_base.in_order;
     recorded = λ multi offset members among old i lt.

@@ -32,7 +32,7 @@ add_banks-requires g c =
       parents = λ bank disk at q small. refl;
       offsets = λ bank disk at q small. refl;
       members = λ bank disk at q small. refl;
-      none = none_recorded c.args.cluster nothing_before refl;
+      none = none_recorded c.args.cluster nothing_before refl refl;
       durable = λ kept. absurd cc;
     } in
     search (rules, cluster, volumes, count, disks, room, stand, shown)

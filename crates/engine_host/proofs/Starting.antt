@@ -55,12 +55,13 @@ none_more n = omega arith
 
 -- what was given doesn't go by the counts of faults
 gives_any : (c : Cluster) (b : Beginning) (counts : List ℕ) (number : ℕ) (past : List Rec) → GivesStart (life_from c b []) number past → GivesStart (life_from c b counts) number past
-gives_any c b counts number past g = record { base = g.base; gives = g.gives; place = g.place; some = g.some; whole = g.whole }
+gives_any c b counts number past g = record { base = g.base; below = g.below; gives = g.gives; place = g.place; some = g.some; whole = g.whole }
 
 -- the first checkpoint gives the begin of a new cluster's life
 pub first_gives : (c : Cluster) → GivesStart (life_of c []) 0 (records.Checkpoint 0 c.base ∷ [])
 first_gives c = record {
   base = none;
+  below = λ multi offset members k. absurd (contains_has [] (records.Multi multi offset members) k);
   gives = λ i. record { counters = raised 0 c.base i; committed = []; recorded = [] };
   place = refl;
   some = omega arith;

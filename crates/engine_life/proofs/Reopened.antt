@@ -182,6 +182,7 @@ module _ {L P : Type 0} (l : logs.Ghosts L) (p : disks.Ghosts P) where
         let all : recs_below later (log_end later) ≡ later.recs = ap (λ j. take j later.recs) count ∙ take-length later.recs in
         record {
           base = later.base;
+          below = list.below;
           gives = sym (ap (base_after later.base) all) ∙ settled.kept (log_end later) list.upto (omega arith);
           place = sym end;
           some = omega (arith, end, within);

@@ -7,7 +7,7 @@ use Rattle.tx_events.specs.declared.event.By.{By}
 use Rattle.tx_events.specs.declared.record.Counters.{Counters}
 use Rattle.tx_events.specs.declared.record.Rec.{Rec}
 use Rattle.tx_events.specs.declared.record.Rec.TheVariants as records
-use Rattle.log_bases.specs.LifeBase.{LifeBase, base_after}
+use Rattle.log_bases.specs.LifeBase.{AreBelowNext, LifeBase, base_after}
 use Rattle.multi_store.specs.Generator.{Generator}
 use Rattle.proc_table.specs.Table.{Table}
 use Rattle.wal_core.specs.Kept.{KeepsRecords}
@@ -49,6 +49,7 @@ pub record IsDownAt (start : Start) (es : List Entry) (flushed : ℕ) : Type 0 w
 -- the life begins with, and each checkpoint among them has the counters that they give behind it.
 pub record GivesStart (start : Start) (number : ℕ) (past : List Rec) : Type 0 where
   pub base : LifeBase
+  pub below : AreBelowNext base
   pub gives : base_after base past ≡ record { counters = start.base; committed = start.committed; recorded = start.recorded }
   pub place : start.from ≡ number + length past
   pub some : 1 ≤ length past

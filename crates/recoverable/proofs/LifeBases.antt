@@ -259,6 +259,38 @@ module _ (start : Start) (lists : List (List Entry)) (k : EngineInvariant start 
           let b = (below m x ms c).1 in omega arith;
       stored = λ m x ms c le. let low = from_oldest in
           ⊎_elim (λ old. is.in_order.stored m x ms old (omega arith)) (λ gen. chain.stored gen.0 m x ms gen.1) (known m x ms c);
+      apart = λ m n x y ms ns c d le up. let low = from_oldest in ⊎_elim
+          (λ old. ⊎_elim
+          (λ older. is.in_order.apart m n x y ms ns old older (omega arith) up)
+          (λ gen. let w = (is.multis m x ms old).1 in let g = (order.given gen.0 n y ns gen.1).0 in omega arith)
+          (known n y ns d))
+          (λ gen. let g1 = (chain.given gen.0 m x ms gen.1).1 in ⊎_elim
+          (λ old. let w0 = (is.multis n y ns old).0 in absurd (omega arith))
+          (λ other. ⊎_elim
+          (λ (q : (m < n) × (x + length ms ≤ y)). q.1)
+          (λ r. ⊎_elim
+          (λ (q : (n < m) × (y + length ns ≤ x)). let z = q.0 in absurd (omega arith))
+          (λ (q : (m ≡ n) × (x ≡ y) × (ms ≡ ns)). let z = q.0 in absurd (omega arith))
+          r)
+          (order.apart gen.0 other.0 m n x y ms ns gen.1 other.1))
+          (known n y ns d))
+          (known m x ms c);
+      once = λ m x y ms ns c d le. let low = from_oldest in ⊎_elim
+          (λ old. ⊎_elim
+          (λ older. is.in_order.once m x y ms ns old older (omega arith))
+          (λ gen. let w0 = (is.multis m x ms old).0 in let g1 = (chain.given gen.0 m y ns gen.1).1 in absurd (omega arith))
+          (known m y ns d))
+          (λ gen. let g1 = (chain.given gen.0 m x ms gen.1).1 in ⊎_elim
+          (λ old. let w0 = (is.multis m y ns old).0 in absurd (omega arith))
+          (λ other. ⊎_elim
+          (λ (q : (m < m) × (x + length ms ≤ y)). let z = q.0 in absurd (omega arith))
+          (λ r. ⊎_elim
+          (λ (q : (m < m) × (y + length ns ≤ x)). let z = q.0 in absurd (omega arith))
+          (λ (q : (m ≡ m) × (x ≡ y) × (ms ≡ ns)). q.2)
+          r)
+          (order.apart gen.0 other.0 m m x y ms ns gen.1 other.1))
+          (known m y ns d))
+          (known m x ms c);
     }
 
     normal : (x : ℕ) → Has (committed_in recs) x → 3 ≤ x
@@ -298,4 +330,5 @@ list_fits start lists log k told full is f =
           (subst (λ (t : List Rec). EachPlace t (Came start lists)) (sym (take-append-drop j (life_recs lists))) (came start lists k is.counters)) in
           subst IsLifeBase (sym (base_from start lists log n f (omega arith))) (life_base_after start lists k told full is (take j (life_recs lists)) each);
       whole = λ n first. whole_in start lists log n k f first;
+      below = f.below;
     }

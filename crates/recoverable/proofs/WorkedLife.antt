@@ -64,6 +64,8 @@ in_order = record {
       absurd (omega arith);
   last = λ m x ms c le next. let e = long m x ms c in let e1 = e.1 in let e2 = e.2 in omega arith;
   stored = λ m x ms c le. let e1 = (long m x ms c).1 in omega arith;
+  apart = λ m n x y ms ns c d le up. let e0 = (long m x ms c).0 in let f0 = (long n y ns d).0 in absurd (omega arith);
+  once = λ m x y ms ns c d le. (sym (only m x ms c).1 ∙ (only m y ns d).1, sym (only m x ms c).2 ∙ (only m y ns d).2);
 }
 
 -- from a base whose committed ids are below the next one

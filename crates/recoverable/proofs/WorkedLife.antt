@@ -93,6 +93,7 @@ list = record {
       (λ (e : k ≡ 5). subst (λ n. IsLifeBase (base_at log n)) (sym e) (life_base (3 ∷ 4 ∷ []) below_two))
       (either k from upto);
   whole = λ n first. whole n;
+  below = λ multi offset members among. absurd (contains_has [] (records.Multi multi offset members) among);
 }
   where
     whole : (n : ℕ) → IsWholeAt log n

@@ -178,6 +178,7 @@ module _ (c : Cluster) (b : Beginning) (none : b.recorded ≡ []) where
     stored = λ m x ms k. absurd (no_record k);
     apart = λ m n x y ms ns k. absurd (no_record k);
     once = λ m x y ms ns k. absurd (no_record k);
+    fit = λ m x ms k. absurd (no_record k);
   }
 
   pub zeros_show_offsets : (bank : ℕ) → ShowOffsets c b bank (λ q. zero_page)

@@ -29,6 +29,7 @@ in_order start none = record {
   stored = λ m x ms c. absurd (none_in start.recorded _ none c);
   apart = λ m n x y ms ns c. absurd (none_in start.recorded _ none c);
   once = λ m x y ms ns c. absurd (none_in start.recorded _ none c);
+  fit = λ m x ms c. absurd (none_in start.recorded _ none c);
 }
 
 pub new_begins : NewBegins

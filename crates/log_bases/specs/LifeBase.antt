@@ -56,11 +56,6 @@ abbrev pub AreBelowNext : LifeBase → Type 0
 AreBelowNext base = (multi offset : ℕ) (members : List Member) → Contains base.recorded (records.Multi multi offset members)
     → (multi < base.counters.multi) × (offset + length members ≤ base.counters.offset)
 
--- each multixact that a base names lies below its counters
-abbrev pub AreBelowNext : LifeBase → Type 0
-AreBelowNext base = (multi offset : ℕ) (members : List Member) → Contains base.recorded (records.Multi multi offset members)
-    → (multi < base.counters.multi) × (offset + length members ≤ base.counters.offset)
-
 -- what a life may start from: its counters are a base, no id or multixact that it names is past them, no id is a special
 -- one, and the recorded multixacts lie in order
 pub record IsLifeBase (base : LifeBase) : Type 0 where

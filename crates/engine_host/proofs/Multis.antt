@@ -33,7 +33,7 @@ small_member n = omega arith
 -- a clean start doesn't go by the counts of faults
 module _ (c : Cluster) (b : Beginning) (counts : List ℕ) where
   offsets_any : {shown : ℕ → Option StoredBytes} → CleanOffsets (life_from c b []) shown → CleanOffsets (life_from c b counts) shown
-  offsets_any k = record { before = k.before; in_order = k.in_order; recorded = k.recorded; other = k.other; clean = k.clean }
+  offsets_any k = record { told = k.told; before = k.before; in_order = k.in_order; recorded = k.recorded; other = k.other; clean = k.clean }
 
   members_any : {shown : ℕ → Option StoredBytes} → CleanMembers (life_from c b []) shown → CleanMembers (life_from c b counts) shown
   members_any k = record { before = k.before; in_order = k.in_order; recorded = k.recorded; gap = k.gap; clean = k.clean; behind = k.behind }
@@ -181,10 +181,11 @@ module _ (c : Cluster) (b : Beginning) (none : b.recorded ≡ []) where
     fit = λ m x ms k. absurd (no_record k);
   }
 
-  pub zeros_show_offsets : (bank : ℕ) → ShowOffsets c b bank (λ q. zero_page)
-  zeros_show_offsets bank = record {
+  pub zeros_show_offsets : (bank : ℕ) → IsTrue b.told → ShowOffsets c b bank (λ q. zero_page)
+  zeros_show_offsets bank told = record {
     shown = λ x. None;
     clean = record {
+      told = told;
       before = λ multi offset members k. absurd (no_record k);
       in_order = in_order;
       recorded = λ multi offset members k. absurd (no_record k);

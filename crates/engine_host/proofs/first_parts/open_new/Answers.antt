@@ -30,7 +30,7 @@ add_banks-requires g c =
     let shown : IsTrue p.tells → MayBeginOver p c.args.cluster nothing_before true 0 (banks_of c.args.volumes) = λ told. record {
       states = λ bank disk at. zeros_show c.args.cluster nothing_before (0 + bank) c.requires.cluster.base refl;
       parents = λ bank disk at q small. refl;
-      offsets = λ bank disk at. zeros_show_offsets c.args.cluster nothing_before refl (0 + bank);
+      offsets = λ bank disk at. zeros_show_offsets c.args.cluster nothing_before refl (0 + bank) refl;
       members = λ bank disk at. zeros_show_members c.args.cluster nothing_before refl (0 + bank);
       durable = λ kept. absurd cc;
     } in

@@ -53,6 +53,7 @@ new_begins start told full base committed recorded = record {
     clean = λ x low high. refl;
   };
   offsets = record {
+    told = told;
     before = λ m x ms c. absurd (none_in start.recorded _ recorded c);
     in_order = in_order start recorded;
     recorded = λ m x ms c. absurd (none_in start.recorded _ recorded c);

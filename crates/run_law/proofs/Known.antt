@@ -10,7 +10,6 @@ use Rattle.std.specs.Option.{is_some}
 use Rattle.std.specs.Str.{bytes_eq}
 use Rattle.tx_events.specs.Names.{is_name}
 use Rattle.tx_model.specs.declared.command.Command.{Command}
-use Rattle.life_law.specs.Commands.{takes_number}
 use Rattle.script_lines.specs.declared.directive.Directive.{Directive}
 use Rattle.script_lines.specs.declared.directive.Directive.TheVariants as directives
 use Rattle.script_lines.specs.declared.header.Header.{Header}
@@ -28,7 +27,7 @@ use Rattle.session_lang.specs.declared.script.Item.TheVariants as items
 use Rattle.session_lang.specs.declared.script.Script.{Script}
 use Rattle.session_lang.specs.Lines.{lines_of}
 use Rattle.session_lang.specs.Script.{at_line, body_line, command_line, end_header, header_line, header_words, is_dot, is_full, is_header_line, is_passed, item_of, names_with, no_front, place_of, read_line, read_lines, read_script, script_of, with_directive, with_turn, words_line}
-use Rattle.run_law.specs.Turns.{takers_in, turn_in, turns_in}
+use Rattle.run_law.specs.Turns.{takers_in, takes_number, turn_in, turns_in}
 use Rattle.run_law.proofs.Commands.{HasRoom, command_room}
 use Rattle.run_law.proofs.Sizes.{lines_size, size_of, words_size}
 use Rattle.run_law.proofs.Steps.{behind, either_holds, no_fault, not_false, of_ok, then_holds, went}

@@ -7,7 +7,6 @@ use Rattle.tx_model.specs.declared.report.How.{How}
 use Rattle.tx_model.specs.declared.report.LifeReport.{LifeReport}
 use Rattle.tx_model.specs.declared.report.Report.{Report}
 use Rattle.tx_model.specs.Rounds.{BeginsLog}
-use Rattle.life_law.specs.Commands.{takes_number}
 use Rattle.life_law.specs.LawfulLife.{IsLawfulLife}
 use Rattle.session_lang.specs.declared.script.Item.{Item}
 use Rattle.session_lang.specs.declared.script.Item.TheVariants as items
@@ -15,7 +14,7 @@ use Rattle.session_lang.specs.declared.script.Script.{Script}
 use Rattle.session_lang.specs.Rounds.{asked_of, crash_in}
 use Rattle.run_law.specs.Lives.{AreLivesOf, BeginRun, IsFirstPart, LifePart, parts_from, parts_of}
 use Rattle.run_law.specs.Tool.{IsReportOf}
-use Rattle.run_law.specs.Turns.{HasFewTakers, MayRun, MayStand, takers_in, turn_in, turns_in}
+use Rattle.run_law.specs.Turns.{HasFewTakers, MayRun, MayStand, takers_in, takes_number, turn_in, turns_in}
 use Rattle.run_law.proofs.PartSums.{count_join}
 
 abbrev pub no_crash : List Item → Type 0

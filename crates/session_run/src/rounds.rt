@@ -1,8 +1,7 @@
 //! Runs the rounds of a script over one lock table, and what it asks for between them, and keeps them as they are done.
-ghost use Rattle.std.specs.Prelude.{◌≡◌, ◌+◌, ◌^◌, ◌<◌, ◌≤◌, ◌∷◌, ℕ, List, [], IfOk, OnOk, length, true};
+ghost use Rattle.std.specs.Prelude.{◌≡◌, ◌+◌, ◌^◌, ◌<◌, ◌≤◌, ◌∷◌, ℕ, List, [], IfOk, IsTrue, OnOk, length, true};
 ghost use Rattle.std.specs.List.{All};
-ghost use Rattle.hall.specs.Calls.{view};
-ghost use Rattle.tx_core.specs.MultiEntries.{multi_history};
+ghost use Rattle.hall.specs.Calls.{start_of};
 ghost use Rattle.engine_host.specs.Hosts.{HasSeenNothing, HoldsAllBut, IsHost, IsNewSession, IsParked};
 ghost use Rattle.tx_model.specs.Asked as asked;
 ghost use Rattle.tx_model.specs.Asked.{rounds_in};
@@ -46,6 +45,7 @@ fn run_numbered<K: LineKeeper + Send + Drop, L: LogDisk + Send + Sync, P: PageDi
     gate: &(impl Gate + Sync),
 ) -> Result<(), Memory>
     requires home { AreHome hall.now host.old sessions.old }
+    requires told { IsTrue (start_of hall.now).told → IsTrue P.tells }
     requires room { MayAdd (length round.now) sessions.old }
     requires items { All (MayRun (length sessions.old)) round.now }
     requires plan { IsBlank plan.old × (length plan.old.places.items ≡ length sessions.old) }
@@ -86,6 +86,7 @@ fn run_next<K: LineKeeper + Send + Drop, L: LogDisk + Send + Sync, P: PageDisk +
     gate: &(impl Gate + Sync),
 ) -> Result<u64, Memory>
     requires home { AreHome hall.now host.old sessions.old }
+    requires told { IsTrue (start_of hall.now).told → IsTrue P.tells }
     requires room { MayAdd (length round.now) sessions.old }
     requires items { All (MayRun (length sessions.old)) round.now }
     requires commands { All (λ item. is_command item ≡ true) round.now }
@@ -136,7 +137,7 @@ fn show_dump<R: Wait, K: LineKeeper, L: LogDisk, P: PageDisk>(
     kept.add_step(names, &step)
 }
 
-/// Makes a checkpoint, and keeps what it was answered. The sessions are all home, and no multixact was touched.
+/// Makes a checkpoint, and keeps what it was answered. The sessions are all home.
 fn make_checkpoint<R: Wait, K: LineKeeper, L: LogDisk, P: PageDisk>(
     rt: &R,
     hall: &Hall<EngineLaw<L, P>>,
@@ -146,7 +147,6 @@ fn make_checkpoint<R: Wait, K: LineKeeper, L: LogDisk, P: PageDisk>(
     kept: &mut K,
 ) -> Result<(), Memory>
     requires home { AreHome hall.now host.old sessions.now }
-    requires quiet { multi_history (view host.old.pass).seen ≡ [] }
     ensures home { AreHome hall.now host.new sessions.now }
     ensures cluster { host.new.cluster ≡ host.old.cluster }
     ensures ran { OnOk result (AnswersOn K.LineKeeper hall.now names.now (asked.checkpoint ∷ []) host.old host.new
@@ -171,7 +171,6 @@ fn answer_next<R: Wait, K: LineKeeper, L: LogDisk, P: PageDisk>(
 ) -> Result<(), Memory>
     requires home { AreHome hall.now host.old sessions.now }
     requires items { All (MayRun (length sessions.now)) script.now }
-    requires quiet { multi_history (view host.old.pass).seen ≡ [] }
     ensures home { AreHome hall.now host.new sessions.now }
     ensures cluster { host.new.cluster ≡ host.old.cluster }
     ensures ran { OnOk result (AnswersOn K.LineKeeper hall.now names.now (asked_at script.now place) host.old host.new
@@ -200,6 +199,7 @@ fn run_each<K: LineKeeper + Send + Drop, L: LogDisk + Send + Sync, P: PageDisk +
     gate: &(impl Gate + Sync),
 ) -> Result<(), Memory>
     requires begins { GoesOn hall.now host.old sessions.old [] }
+    requires told { IsTrue (start_of hall.now).told → IsTrue P.tells }
     requires unseen { HasSeenNothing host.old }
     requires items { All (MayRun (length sessions.old)) script }
     requires few { length script ≤ 2 ^ 24 }
@@ -240,6 +240,7 @@ pub fn run_rounds<K: LineKeeper + Send + Drop, L: LogDisk + Send + Sync, P: Page
 ) -> Result<(), Memory>
     requires host { IsHost hall.now host.old }
     requires all { HoldsAllBut host.old [] }
+    requires told { IsTrue (start_of hall.now).told → IsTrue P.tells }
     requires unseen { HasSeenNothing host.old }
     requires parked { (n : ℕ) (s : Session) → n < host.old.cluster.sessions → IsNewSession s → IsParked hall.now host.old n s }
     requires items { All (MayRun host.old.cluster.sessions) part }

@@ -25,13 +25,12 @@ use Rattle.session_run.specs.Records.{BankHolds, LogHolds}
 
 module _ {L P : Type 0} {l : logs.Ghosts L} {p : disks.Ghosts P} where
   -- The life began so over these volumes, at counts of faults that aren't below theirs. Where the volumes tell what they
-  -- hold, its base is one from which a life may start; what it takes as told they told.
+  -- hold, its base is one from which a life may start.
   pub record IsOpened (c : Cluster) (b : Beginning) (faults : List ℕ) (volumes : Volumes L P) (life : OpenLife L P l p) : Type 0 where
     pub banks : HasBanks c.banks volumes
     pub counted : AreCounted l p volumes.log (banks_of volumes) faults
     pub begun : IsBegun c (life_from c b faults) life
     pub right : IsTrue p.tells → BeganRight (life_from c b faults)
-    pub told : IsTrue b.told → IsTrue p.tells
 
   -- it is one of so many sessions
   pub record MayRunIn (sessions : ℕ) (life : OpenLife L P l p) : Type 0 where

@@ -1,7 +1,6 @@
 //! The commands of a session over the lock table.
 ghost use Rattle.std.specs.Prelude.{◌≡◌, Bool, IsTrue};
 ghost use Rattle.tx_model.specs.declared.reply.Reply.TheVariants as replies;
-ghost use Rattle.hall.specs.Calls.{start_of};
 ghost use Rattle.engine_parts.specs.Answers.{reply_of};
 ghost use Rattle.engine_parts.specs.Calls.{MayRun, Ran, next_command};
 ghost use Rattle.run_law.specs.Turns.{MayAsk};
@@ -122,7 +121,6 @@ pub fn run_command<R: Passing, L: LogDisk, P: PageDisk>(
     command: &Command,
 ) -> Reply
     requires ask { MayAsk command.now }
-    requires told { IsTrue (start_of hall.now).told → IsTrue P.tells }
     requires may { MayRun hall.now banks caller.old }
     ensures ran { Ran hall.now (next_command caller.old) command.now result caller.old caller.new }
     ensures verdict { (verdict : Bool) → result ≡ replies.Seen verdict → IsTrue (is_told_verdict command.now) }

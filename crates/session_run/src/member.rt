@@ -1,5 +1,5 @@
 //! A session in a round: it runs its commands, and keeps their lines as they are done.
-ghost use Rattle.std.specs.Prelude.{◌≡◌, ◌+◌, ◌^◌, ◌<◌, IsOk, IsTrue, false, length};
+ghost use Rattle.std.specs.Prelude.{◌≡◌, ◌+◌, ◌^◌, ◌<◌, IsOk, false, length};
 ghost use Rattle.std.specs.List.{All};
 ghost use Rattle.hall.specs.Calls.{start_of};
 ghost use Rattle.engine_parts.specs.Calls.{MayRun};
@@ -40,7 +40,6 @@ fn run_turn<R: Passing, K: LineKeeper, L: LogDisk, P: PageDisk>(
     command: &Command,
 ) -> Result<(), Memory>
     requires ask { MayAsk command.now }
-    requires told { IsTrue (start_of hall.now).told → IsTrue P.tells }
     requires may { MayRun hall.now banks member.old.caller }
     requires few { commands_of member.old.caller + 1 < 2 ^ 48 }
     ensures { RunsNext K.LineKeeper hall.now banks names.now command.now result member.old member.new }
@@ -63,7 +62,6 @@ fn run_places<R: Passing, K: LineKeeper, L: LogDisk, P: PageDisk>(
     round: &Items,
 ) -> Result<(), Memory>
     requires begins { Begins K.LineKeeper hall.now banks (length places.now) member.old }
-    requires told { IsTrue (start_of hall.now).told → IsTrue P.tells }
     requires items { All (runnable.MayRun (start_of hall.now).sessions) round.now }
     requires places { HasPlaces member.old.caller.number round.now round.now places.now }
     ensures { RunsRound K.LineKeeper hall.now banks names.now round.now (IsOk result) member.old member.new }
@@ -89,7 +87,6 @@ pub fn run_member<R: Wait, K: LineKeeper, L: LogDisk, P: PageDisk, G: Gate>(
     round: &Items,
     gate: &G,
 )
-    requires told { IsTrue (start_of hall.now).told → IsTrue P.tells }
     requires items { All (runnable.MayRun (start_of hall.now).sessions) round.now }
     requires may { MayGo K.LineKeeper hall.now banks round.now plan.now member.old }
     ensures { RunsRound K.LineKeeper hall.now banks names.now round.now (member.new.lost ≡ false) member.old member.new }

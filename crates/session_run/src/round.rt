@@ -1,5 +1,5 @@
 //! A round: its sessions are let in at the lock table, run on threads, and are taken back.
-ghost use Rattle.std.specs.Prelude.{◌≡◌, ℕ, List, ◌<◌, ◌≤◌, [], ◌++◌, All, IsTrue, OnOk, false, get_or, length, vec_capacity};
+ghost use Rattle.std.specs.Prelude.{◌≡◌, ℕ, List, ◌<◌, ◌≤◌, [], ◌++◌, All, OnOk, false, get_or, length, vec_capacity};
 ghost use Rattle.hall.specs.Calls.{start_of, view};
 ghost use Rattle.tx_model.specs.declared.report.Line.{Line};
 ghost use Rattle.engine_host.specs.Hosts.{HoldsAllBut, IsHost, IsParked};
@@ -97,7 +97,6 @@ fn run_beside<K: LineKeeper + Send, L: LogDisk + Send + Sync, P: PageDisk + Send
     gate: &(impl Gate + Sync),
 )
     requires threads { 0 < threads }
-    requires told { IsTrue (start_of hall.now).told → IsTrue P.tells }
     requires items { All (runnable.MayRun (start_of hall.now).sessions) round.now }
     requires may { All (MayGo K.LineKeeper hall.now banks round.now plan.now) members.old }
     ensures { AllRan K.LineKeeper hall.now banks names.now round.now members.old members.new }
@@ -124,7 +123,6 @@ fn run_members<K: LineKeeper + Send, L: LogDisk + Send + Sync, P: PageDisk + Sen
     gate: &(impl Gate + Sync),
 )
     requires threads { 0 < threads }
-    requires told { IsTrue (start_of hall.now).told → IsTrue P.tells }
     requires items { All (runnable.MayRun (start_of hall.now).sessions) round.now }
     requires may { All (MayGo K.LineKeeper hall.now banks round.now plan.now) members.old.items }
     ensures { AllRan K.LineKeeper hall.now banks names.now round.now members.old.items members.new.items }
@@ -230,7 +228,6 @@ pub fn run_round<K: LineKeeper + Send + Drop, L: LogDisk + Send + Sync, P: PageD
     requires parked { AreParked hall.now host.old sessions.old }
     requires count { length sessions.old ≡ host.old.cluster.sessions }
     requires room { MayAdd (length round.now) sessions.old }
-    requires told { IsTrue (start_of hall.now).told → IsTrue P.tells }
     requires items { All (runnable.MayRun (length sessions.old)) round.now }
     requires plan { IsPlanOf round.now round.now plan.now × (length plan.now.places.items ≡ length sessions.old) }
     ensures host { IsHost hall.now host.new }

@@ -1,7 +1,6 @@
 //! Runs the rounds of a script over one lock table, and what it asks for between them, and keeps them as they are done.
-ghost use Rattle.std.specs.Prelude.{◌≡◌, ◌+◌, ◌^◌, ◌<◌, ◌≤◌, ◌∷◌, ℕ, List, [], IfOk, IsTrue, OnOk, length, true};
+ghost use Rattle.std.specs.Prelude.{◌≡◌, ◌+◌, ◌^◌, ◌<◌, ◌≤◌, ◌∷◌, ℕ, List, [], IfOk, OnOk, length, true};
 ghost use Rattle.std.specs.List.{All};
-ghost use Rattle.hall.specs.Calls.{start_of};
 ghost use Rattle.engine_host.specs.Hosts.{HasSeenNothing, HoldsAllBut, IsHost, IsNewSession, IsParked};
 ghost use Rattle.tx_model.specs.Asked as asked;
 ghost use Rattle.tx_model.specs.Asked.{rounds_in};
@@ -45,12 +44,10 @@ fn run_numbered<K: LineKeeper + Send + Drop, L: LogDisk + Send + Sync, P: PageDi
     gate: &(impl Gate + Sync),
 ) -> Result<(), Memory>
     requires home { AreHome hall.now host.old sessions.old }
-    requires told { IsTrue (start_of hall.now).told → IsTrue P.tells }
     requires room { MayAdd (length round.now) sessions.old }
     requires items { All (MayRun (length sessions.old)) round.now }
     requires plan { IsBlank plan.old × (length plan.old.places.items ≡ length sessions.old) }
     requires few { rounds < 2 ^ 32 }
-    requires some { 1 ≤ length sessions.old }
     ensures home { AreHome hall.now host.new sessions.new }
     ensures cluster { host.new.cluster ≡ host.old.cluster }
     ensures count { length sessions.new ≡ length sessions.old }
@@ -86,7 +83,6 @@ fn run_next<K: LineKeeper + Send + Drop, L: LogDisk + Send + Sync, P: PageDisk +
     gate: &(impl Gate + Sync),
 ) -> Result<u64, Memory>
     requires home { AreHome hall.now host.old sessions.old }
-    requires told { IsTrue (start_of hall.now).told → IsTrue P.tells }
     requires room { MayAdd (length round.now) sessions.old }
     requires items { All (MayRun (length sessions.old)) round.now }
     requires commands { All (λ item. is_command item ≡ true) round.now }
@@ -199,7 +195,6 @@ fn run_each<K: LineKeeper + Send + Drop, L: LogDisk + Send + Sync, P: PageDisk +
     gate: &(impl Gate + Sync),
 ) -> Result<(), Memory>
     requires begins { GoesOn hall.now host.old sessions.old [] }
-    requires told { IsTrue (start_of hall.now).told → IsTrue P.tells }
     requires unseen { HasSeenNothing host.old }
     requires items { All (MayRun (length sessions.old)) script }
     requires few { length script ≤ 2 ^ 24 }
@@ -240,7 +235,6 @@ pub fn run_rounds<K: LineKeeper + Send + Drop, L: LogDisk + Send + Sync, P: Page
 ) -> Result<(), Memory>
     requires host { IsHost hall.now host.old }
     requires all { HoldsAllBut host.old [] }
-    requires told { IsTrue (start_of hall.now).told → IsTrue P.tells }
     requires unseen { HasSeenNothing host.old }
     requires parked { (n : ℕ) (s : Session) → n < host.old.cluster.sessions → IsNewSession s → IsParked hall.now host.old n s }
     requires items { All (MayRun host.old.cluster.sessions) part }

@@ -1,6 +1,5 @@
 -- The cutoffs of banks are those of the life.
-use Rattle.std.proofs.Common.{◌≡◌, ℕ, zero, suc, ◌%◌, ◌^◌, ◌<◌, List, [], ◌∷◌, Bool, Contains, IsTrue, inl, inr, map, ⊎_elim, refl, sym, ap, ◌∙◌, arith, take}
-use Rattle.disk_core.specs.declared.page_disk.PageDisk as disks
+use Rattle.std.proofs.Common.{◌≡◌, ℕ, Some, None, ◌%◌, ◌^◌, ◌<◌, List, [], ◌∷◌, Bool, Contains, IsTrue, inl, inr, map, ⊎_elim, refl, sym, ap, ◌∙◌, arith, take}
 use Rattle.notes.specs.Lists.{at}
 use Rattle.tx_events.specs.declared.event.By.{By}
 use Rattle.tx_events.specs.declared.record.Rec.{Rec}
@@ -11,15 +10,12 @@ use Rattle.tx_events.specs.Base.{IsBase}
 use Rattle.tx_events.specs.Horizon.{oldest_xmin}
 use Rattle.tx_events.specs.Ids.{id_before}
 use Rattle.tx_events.proofs.Membership.{Has, has_contains, place_has}
-use Rattle.store_pages.specs.declared.page_rule.PageRule as rules
 use Rattle.store_pages.specs.Layouts.{word_page_of, xact_cutoff, xact_page_of}
 use Rattle.tx_events.specs.Pages.{subtrans_page, xact_page}
 use Rattle.tx_model.specs.declared.report.DumpOf.TheVariants as dumps
 use Rattle.life_law.specs.Dumps.{IsSubtransCutoff, IsXactCutoff, MayDump}
-use Rattle.slru_bank.specs.declared.bank.SlruBank.{SlruBank}
 use Rattle.slru_bank.specs.declared.refusal.BankRefusal.{BankRefusal}
 use Rattle.slru_bank.specs.declared.refusal.BankRefusal.TheVariants as refused
-use Rattle.slru_bank.specs.Calls.{cutoff_of}
 use Rattle.tx_core.specs.declared.entry.Entry.{Entry}
 use Rattle.tx_core.specs.declared.entry.Start.{Start}
 use Rattle.tx_core.specs.CutsFollow.{IsTruncated}
@@ -27,12 +23,11 @@ use Rattle.tx_core.specs.EngineInvariant.{EngineInvariant}
 use Rattle.tx_core.specs.Entries.{history, records_of}
 use Rattle.tx_core.specs.Locks.{subtrans_lock, xact_lock}
 use Rattle.tx_core.proofs.Cutting.{cut_says}
-use Rattle.engine_parts.specs.Course.{HasCourse, Looked, Marked, Noted, PageMade, Synced, Went}
 use Rattle.engine_parts.specs.Stand.{IsCutoff, first_subtrans_page, first_xact_page}
 use Rattle.engine_host.proofs.Hosting.{xmin_first}
 use Rattle.bank_sections.specs.Sections.{IsSubtransCut, IsXactCut}
 use Rattle.session_promise.specs.Promise.{recs_of}
-use Rattle.engine_dumps.specs.Dumps.{IsCutTold, refusal_by}
+use Rattle.engine_dumps.specs.Dumps.{HasNoCut, IsCutTold, refusal_by}
 
 -- a page in full, as it is stored
 xact_stored : (oldest cutoff : ℕ) → cutoff ≡ xact_page oldest % 2 ^ 17 → cutoff ≡ xact_page_of oldest
@@ -83,33 +78,19 @@ pub subtrans_refused : (start : Start) (lists : List (List Entry)) (page size ba
 subtrans_refused start lists page size bank (refused.Cut cutoff) base k here low cut = let z = cut cutoff refl in (subtrans_told start lists (page % start.banks) cutoff base k z.0, z.1)
 subtrans_refused start lists page size bank refused.DiskFault base k here low cut = (low, here)
 
+-- where no entry cut the bank, its cutoff is the one with which the life began
+first_told : (start : Start) (lists : List (List Entry)) (bank cutoff : ℕ) → IsCutoff (first_xact_page start) (2 ^ 17) (at lists (xact_lock bank)) cutoff → HasNoCut (at lists (xact_lock bank)) → cutoff ≡ xact_cutoff start.base.oldest
+first_told start lists bank cutoff c none =
+    ⊎_elim
+    (λ (first : c.0 ≡ first_xact_page start). xact_stored start.base.oldest cutoff (c.1 ∙ ap (λ n. n % 2 ^ 17) first))
+    (λ z. absurd (let no : Some c.0 ≡ None = sym z.2 ∙ none z.0 z.1 in cc))
+    c.3
+
 pub xact_cut_told : (tells : Bool) (start : Start) (lists : List (List Entry)) (page : ℕ) (lock : Lock) (refusal : BankRefusal) → ((cutoff : ℕ) → refusal ≡ refused.Cut cutoff → IsXactCut start lists (page % start.banks) page cutoff)
-    → (IsTrue tells → (cutoff : ℕ) → refusal ≡ refused.Cut cutoff → cutoff ≡ xact_cutoff start.base.oldest) → IsCutTold tells start lists (dumps.Xact page) (refusal_by lock refusal)
-xact_cut_told tells start lists page lock (refused.Cut cutoff) cut first = (cut cutoff refl, λ told. first told cutoff refl)
-xact_cut_told tells start lists page lock refused.DiskFault cut first = tt
+    → IsCutTold tells start lists (dumps.Xact page) (refusal_by lock refusal)
+xact_cut_told tells start lists page lock (refused.Cut cutoff) cut = let z = cut cutoff refl in (z, λ none. first_told start lists (page % start.banks) cutoff z.0 none)
+xact_cut_told tells start lists page lock refused.DiskFault cut = tt
 
 pub subtrans_cut_told : (tells : Bool) (start : Start) (lists : List (List Entry)) (page : ℕ) (lock : Lock) (refusal : BankRefusal) → ((cutoff : ℕ) → refusal ≡ refused.Cut cutoff → IsSubtransCut start lists (page % start.banks) page cutoff) → IsCutTold tells start lists (dumps.Subtrans page) (refusal_by lock refusal)
 subtrans_cut_told tells start lists page lock (refused.Cut cutoff) cut = cut cutoff refl
 subtrans_cut_told tells start lists page lock refused.DiskFault cut = tt
-
--- ---- the course of a bank of pg_xact
-
-module _ {P O : Type 0} {g : disks.Ghosts P} {r : rules.Ghosts O} where
-  -- no step of it cuts the bank
-  first_cutoff : (start : Start) (bank steps : ℕ) (store : SlruBank P O g r) (es : List Entry) → Went start bank steps store es → cutoff_of store ≡ first_xact_page start % 2 ^ 17
-  first_cutoff start bank zero store es w = w.1.cutoff
-  first_cutoff start bank (suc n) store es w =
-      let before : cutoff_of w.0 ≡ first_xact_page start % 2 ^ 17 = first_cutoff start bank n w.0 w.1 w.2 in
-      ⊎_elim
-      (λ (k : Looked w.0 store w.1 es). k.cutoff ∙ before)
-      (⊎_elim
-      (λ (k : Noted w.0 store w.1 es). ap cutoff_of k.same ∙ before)
-      (⊎_elim
-      (λ (k : PageMade w.0 store w.1 es). k.cutoff ∙ before)
-      (⊎_elim
-      (λ (k : Marked start w.0 store w.1 es). k.cutoff ∙ before)
-      (λ (k : Synced w.0 store w.1 es). k.cutoff ∙ before))))
-      w.3
-
-  pub first_told : (start : Start) (bank cutoff : ℕ) (store : SlruBank P O g r) (es : List Entry) → cutoff ≡ cutoff_of store → HasCourse start bank store es → cutoff ≡ xact_cutoff start.base.oldest
-  first_told start bank cutoff store es is course = xact_stored start.base.oldest cutoff (is ∙ first_cutoff start bank course.0 store es course.1)

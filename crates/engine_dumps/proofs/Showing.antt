@@ -67,7 +67,7 @@ module _ {P O : Type 0} {g : disks.Ghosts P} {r : rules.Ghosts O} where
           λ x used on.
               let there = show.2.each x used (ap (λ z. z % start.banks) on ∙ sym here) (subst (λ z. is_cut Ids 32768 (cutoff_of store) z ≡ false) (sym on) uncut) in
               let all : (xact_pages start show.0 es).shows x ≡ state_read show.0 (marks es) x =
-              subst (λ (t : List Entry). (pages_after xact_store start.base.next show.0 t).shows x ≡ state_read show.0 (marks t) x) (take-length es) (pages_show start lists show.0 (xact_lock bank) (length es) x k show.1 used.2) in
+              subst (λ (t : List Entry). (pages_after xact_store start.base.next show.0 t).shows x ≡ state_read show.0 (marks t) x) (take-length es) (pages_show start lists show.0 (xact_lock bank) (length es) x k show.1 (let to = used.2 in omega arith)) in
               subst (λ z. state_in (pages_of store z) (xact_place_of x) ≡ number_of_state (state_read show.0 (marks (at lists (xact_lock_of start x))) x)) on
               (there ∙ (ap number_of_state all ∙ ap (λ z. number_of_state (state_read show.0 (marks (at lists z)) x)) (sym (xact_here start bank page x here on)))),
         );

@@ -39,8 +39,6 @@ pub fn dump_xact<R: Wait, L: LogDisk, P: PageDisk>(
         (page % (start_of hall.now).banks) page) }
     ensures cut { (cutoff : ℕ) → result ≡ Err (Cut cutoff) → IsXactCut (start_of hall.now) (view host.old.pass).seen
         (page % (start_of hall.now).banks) page cutoff }
-    ensures first { IsTrue P.tells → (cutoff : ℕ) → result ≡ Err (Cut cutoff)
-        → cutoff ≡ xact_cutoff (start_of hall.now).base.oldest }
     ensures fault { result ≡ Err DiskFault → HasFailed L.LogDisk P.PageDisk (start_of hall.now)
         (view host.old.pass).seen (xact_lock (page % (start_of hall.now).banks)) }
     ensures err { OnErr result (into.new ≡ into.old) }

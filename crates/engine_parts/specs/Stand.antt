@@ -160,14 +160,14 @@ abbrev pub HasPlace : Start → ℕ → Type 0
 HasPlace start x = IsFullId x × (start.base.oldest ≤ x) × (x < start.base.next + 2 ^ 30)
 
 -- A page up to which a bank may be cut: one less than half a ring, by two segments, past that of the oldest id with which
--- the life began. What a cutoff there cuts each later one cuts too.
+-- the life began. What a cutoff there cuts each later one cuts too. pg_subtrans may begin one page before.
 abbrev pub IsXactReach : Start → ℕ → Type 0
 IsXactReach start page =
     (xact_page start.base.oldest ≤ page) × (page + 64 ≤ xact_page start.base.oldest + 2 ^ 16)
 
 abbrev pub IsSubtransReach : Start → ℕ → Type 0
 IsSubtransReach start page =
-    (subtrans_page start.base.oldest ≤ page) × (page + 64 ≤ subtrans_page start.base.oldest + 2 ^ 20)
+    (subtrans_page start.base.oldest ≤ page + 1) × (page + 64 ≤ subtrans_page start.base.oldest + 2 ^ 20)
 
 -- the two bits of a state
 abbrev pub number_of_state : Option State → ℕ

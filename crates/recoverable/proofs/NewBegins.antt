@@ -53,6 +53,8 @@ new_begins start told full base committed recorded = record {
     clean = λ x low high. refl;
   };
   offsets = record {
+    told = told;
+    full = λ m x ms c. full;
     before = λ m x ms c. absurd (none_in start.recorded _ recorded c);
     in_order = in_order start recorded;
     recorded = λ m x ms c. absurd (none_in start.recorded _ recorded c);

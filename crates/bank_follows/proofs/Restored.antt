@@ -33,7 +33,7 @@ commit_code (suc zero) lt e = inl refl
 commit_code (suc (suc zero)) lt e = absurd (⊎_elim (λ (q : Some states.Aborted ≡ Some states.Committed). absurd cc) (λ (q : Some states.Aborted ≡ Some states.SubCommitted). absurd cc) e)
 commit_code (suc (suc (suc n))) lt e = inr (omega arith)
 
-module _ (start : Start) (log : KeptLog) (from : ℕ) (left : Left) (told : IsTrue start.told) (full_multi : IsFullMulti start.base.multi) (some : 1 ≤ start.banks) (list : ListFits log) (settled : EndsSettled log from (life_base start)) (r : Restored start.banks log from start.base left) where
+module _ (start : Start) (log : KeptLog) (from : ℕ) (left : Left) (told : IsTrue start.told) (full : IsFullMulti start.base.multi) (some : 1 ≤ start.banks) (list : ListFits log) (settled : EndsSettled log from (life_base start)) (r : Restored start.banks log from start.base left) where
   -- the log is on disk to its end, and gives the life's base there
   flushed_is : log.flushed ≡ from + 1
   flushed_is = let upto = list.upto in let end = settled.end in let past = settled.flushed in omega arith
@@ -105,7 +105,7 @@ module _ (start : Start) (log : KeptLog) (from : ℕ) (left : Left) (told : IsTr
   offsets_clean : CleanOffsets start (shown_on start.banks left).offsets
   offsets_clean = record {
     told = told;
-    full = λ multi offset members among. full_multi;
+    full = λ multi offset members among. full;
     before = λ multi offset members among. (is_base.multis multi offset members among).0;
     in_order = is_base.in_order;
     recorded = λ multi offset members among old i lt.

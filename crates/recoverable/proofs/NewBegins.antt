@@ -29,6 +29,7 @@ in_order start none = record {
   stored = λ m x ms c. absurd (none_in start.recorded _ none c);
   apart = λ m n x y ms ns c. absurd (none_in start.recorded _ none c);
   once = λ m x y ms ns c. absurd (none_in start.recorded _ none c);
+  fit = λ m x ms c. absurd (none_in start.recorded _ none c);
 }
 
 pub new_begins : NewBegins
@@ -52,6 +53,7 @@ new_begins start told full base committed recorded = record {
     clean = λ x low high. refl;
   };
   offsets = record {
+    told = told;
     before = λ m x ms c. absurd (none_in start.recorded _ recorded c);
     in_order = in_order start recorded;
     recorded = λ m x ms c. absurd (none_in start.recorded _ recorded c);

@@ -37,7 +37,10 @@ use Rattle.tx_model.specs.Rounds.{lines_in}
 use Rattle.tx_model.specs.Stance.{Stance, lacking, snap_of, top_level}
 use Rattle.life_law.specs.DidCommit.{IsRecorded, special_did}
 use Rattle.life_law.specs.Pending.{pending}
-use Rattle.life_law.specs.Refused.{by_standing, first_of, refused_by}
+use Rattle.life_law.specs.Refused.{by_standing, refused_by}
+pub use Rattle.life_law.specs.Refused.{by_members, is_by_members, is_updater_pair, refused_by_members}
+pub use Rattle.life_law.specs.LawfulMultis.{is_ok_trim}
+pub use Rattle.life_law.specs.MultiStanding.{gave_multi}
 use Rattle.report_law.specs.Answers.{AreLogFaults, HasNoRoom, can_append, can_ask, can_flush, can_lack_memory, goes_by_places, longest_record}
 use Rattle.report_law.specs.Begun.{Begun}
 use Rattle.report_law.specs.MultiLines.{AreVerdicts, HasMultiEvents, IsHeldBack, IsMemberStop, IsMultiBackward, IsMultiFuture, IsMultiStop, IsMultiTooOld, IsMultiWarned, IsNotGiven, IsNotYet, IsOldMember, IsPinnedOrNext, MayCarry, of_records}
@@ -148,23 +151,8 @@ abbrev pub is_truncation : Rec → Bool
 is_truncation (records.Truncate oldest multi offset) = true
 is_truncation rec = false
 
-abbrev pub is_ok_trim : Line → Bool
-is_ok_trim l = trimmed l.command l.reply
-  where
-    trimmed : Command → Reply → Bool
-    trimmed commands.Trim replies.Done = true
-    trimmed command reply = false
-
 abbrev pub flushed_recs : Life → List Rec
 flushed_recs life = take (life.flushed - life.from) life.recs
-
--- whether the command was answered `ok` with a multixact
-abbrev pub gave_multi : List Line → By → Bool
-gave_multi lines by = list_any (λ l. same_by l.by by && is_multi l.reply) lines
-  where
-    is_multi : Reply → Bool
-    is_multi (replies.Multi multi offset warn) = true
-    is_multi reply = false
 
 -- ---- a command's reply
 
@@ -222,30 +210,6 @@ IsLawfulByHistory j before round multi_round by s (commands.MultiFreeze multi) (
 IsLawfulByHistory j before round multi_round by s (commands.MultiFreeze multi) (replies.Refused (refusals.NotYet next)) =
     IsNotYet j.begun.counters j.begun.recorded j.life.multis multi_round (gave_multi (lines_of j)) by next
 IsLawfulByHistory j before round multi_round by s command reply = MayReply j.begun.counters j.begun.committed j.life.events round by s command reply
-
-abbrev pub is_updater_pair : Pair → Bool
-is_updater_pair p = is_update p.mode
-  where
-    is_update : Mode → Bool
-    is_update modes.NoKeyUpd = true
-    is_update modes.Upd = true
-    is_update mode = false
-
--- the refusal that the members of a multixact bring by themselves
-abbrev pub refused_by_members : Command → Option Refusal
-refused_by_members (commands.Multi pairs) =
-    first_of (then_some (length pairs == 0 || nat_lt 64 (length pairs)) refusals.MemberCount
-    ∷ then_some (nat_lt 1 (count_by is_updater_pair pairs)) refusals.TwoUpdaters ∷ [])
-refused_by_members command = None
-
-abbrev pub is_by_members : Refusal → Bool
-is_by_members refusals.MemberCount = true
-is_by_members refusals.TwoUpdaters = true
-is_by_members refusal = false
-
-abbrev pub by_members : Reply → Option Refusal
-by_members (replies.Refused refusal) = then_some (is_by_members refusal) refusal
-by_members reply = None
 
 -- Want of memory may come before any other refusal.
 abbrev pub unless_memory : Reply → Option Refusal → Option Refusal

@@ -2,15 +2,33 @@
 use Rattle.std.specs.Prelude.{◌≡◌, ℕ, ◌<◌, ◌≤◌, ◌^◌, ◌⊎◌, Bool, true, false, List, [], ◌∷◌, ◌++◌, Option, Some, None, length}
 use Rattle.std.specs.List.{All, count_by, filter_map}
 use Rattle.tx_model.specs.declared.command.Command.{Command}
+use Rattle.tx_model.specs.declared.command.Command.TheVariants as commands
 use Rattle.tx_model.specs.declared.report.DumpOf.{DumpOf}
 use Rattle.tx_model.specs.declared.report.DumpOf.TheVariants as dumps
 use Rattle.tx_events.specs.Base.{IsBase}
 use Rattle.life_law.specs.Commands.{makes_level}
-pub use Rattle.life_law.specs.Commands.{has_command}
 use Rattle.session_lang.specs.declared.script.Item.{Item}
 use Rattle.session_lang.specs.declared.script.Item.TheVariants as items
 use Rattle.session_lang.specs.declared.script.Script.{Script}
 use Rattle.session_lang.specs.Plain.{IsDump}
+
+-- the commands that the run has
+abbrev pub has_command : Command → Bool
+has_command commands.Begin = true
+has_command commands.Save = true
+has_command commands.Write = true
+has_command commands.Release = true
+has_command commands.Undo = true
+has_command commands.Commit = true
+has_command commands.Abort = true
+has_command commands.Horizon = true
+has_command (commands.Snap name) = true
+has_command (commands.DropSnap name) = true
+has_command (commands.See name x) = true
+has_command (commands.Status x) = true
+has_command (commands.Did x) = true
+has_command (commands.Freeze oldest) = true
+has_command _ = false
 
 abbrev pub turn_in : Item → Option (ℕ × Command)
 turn_in (items.Run session command) = Some (session, command)

@@ -1,9 +1,8 @@
 //! The lines of a script that the run doesn't have yet.
 ghost use Rattle.std.specs.Prelude.{◌≡◌, ◌≤◌, IfOk, get_or, length};
 ghost use Rattle.std.specs.List.{prefix_len};
-ghost use Rattle.life_law.specs.Commands.{has_command};
 ghost use Rattle.session_lang.specs.declared.script.Item.TheVariants as variants;
-ghost use Rattle.run_law.specs.Turns.{has_dump, has_item};
+ghost use Rattle.run_law.specs.Turns.{has_command, has_dump, has_item};
 
 use session_lang::{Item, Items};
 use tx_model::{Command, DumpOf, Memory};

@@ -8,7 +8,7 @@ use Rattle.tx_model.specs.declared.command.Command.TheVariants as commands
 use Rattle.session_lang.specs.declared.script.Item.{Item}
 use Rattle.session_lang.specs.declared.script.Item.TheVariants as items
 use Rattle.life_law.specs.Commands.{makes_level}
-use Rattle.run_law.specs.Turns.{MayRun, levels_in, turn_in, turns_in}
+use Rattle.run_law.specs.Turns.{MayRun, has_command, levels_in, turn_in, turns_in}
 use Rattle.script_gen.specs.Choices.{Choices, choices, drawn_from}
 use Rattle.script_gen.specs.Generated.{end_command, is_round_first, items_from, look_commands, run_by, savepoint_commands, session_names, session_of, transaction, transaction_items}
 use Rattle.script_gen.proofs.Bounds.{all_few, few_savepoints, most_savepoints}

@@ -35,7 +35,7 @@ small_member n = omega arith
 -- a clean start doesn't go by the counts of faults
 module _ (c : Cluster) (b : Beginning) (counts : List ℕ) where
   offsets_any : {shown : ℕ → Option StoredBytes} → CleanOffsets (life_from c b []) shown → CleanOffsets (life_from c b counts) shown
-  offsets_any k = record { told = k.told; before = k.before; in_order = k.in_order; recorded = k.recorded; other = k.other; clean = k.clean }
+  offsets_any k = record { told = k.told; full = k.full; before = k.before; in_order = k.in_order; recorded = k.recorded; other = k.other; clean = k.clean }
 
   members_any : {shown : ℕ → Option StoredBytes} → CleanMembers (life_from c b []) shown → CleanMembers (life_from c b counts) shown
   members_any k = record { before = k.before; in_order = k.in_order; recorded = k.recorded; gap = k.gap; clean = k.clean; behind = k.behind }
@@ -202,6 +202,7 @@ module _ (c : Cluster) (b : Beginning) (none : b.recorded ≡ []) where
     shown = λ x. None;
     clean = record {
       told = told;
+      full = λ multi offset members k. absurd (no_record k);
       before = λ multi offset members k. absurd (no_record k);
       in_order = in_order;
       recorded = λ multi offset members k. absurd (no_record k);

@@ -56,6 +56,14 @@ word_of_bytes o n each =
     let b3 = each 3 (omega arith) in
     word_bytes o ∙ ((λ j. b0 j + 256 * (b1 j + 256 * (b2 j + 256 * b3 j))) ∙ sym (word_made n))
 
+pub word_zero : (o : Option StoredBytes) → ((i : ℕ) → i < 4 → byte_held o i ≡ 0) → word_held o ≡ 0
+word_zero o each =
+    let b0 = each 0 (omega arith) in
+    let b1 = each 1 (omega arith) in
+    let b2 = each 2 (omega arith) in
+    let b3 = each 3 (omega arith) in
+    word_bytes o ∙ (λ j. b0 j + 256 * (b1 j + 256 * (b2 j + 256 * b3 j)))
+
 -- what a value says of a multixact: where it is 0 no offset stands, and else one of this low half
 record Says (start : Start) (lists : List (List Entry)) (multi number : ℕ) : Type 0 where
   none : number ≡ 0 → HasNoOffset start lists multi
@@ -170,9 +178,11 @@ offsets_near start lists bank k few =
     subst (λ z. z ≤ offset_page (start.base.multi + 2 ^ 29)) (sym same) up
 
 module _ {P O : Type 0} {g : disks.Ghosts P} {r : rules.Ghosts O} where
-  -- the multixacts that the life began with lie in order
-  pub order_seen : (start : Start) (lists : List (List Entry)) (bank : ℕ) (store : SlruBank P O g r) → EngineInvariant start lists → IsOffsetsOf start bank store (at lists (offsets_lock bank)) → IsTrue g.tells → AreFewMultis lists → AreInOrder start.base start.recorded
-  order_seen start lists bank store k s told few = (s.stands.shown told (offsets_near start lists bank k few)).1.in_order
+  -- the multixacts that the life began with lie in order, and the pages told them
+  pub begun_seen : (start : Start) (lists : List (List Entry)) (bank : ℕ) (store : SlruBank P O g r) → EngineInvariant start lists → IsOffsetsOf start bank store (at lists (offsets_lock bank)) → IsTrue g.tells → AreFewMultis lists → IsTrue start.told × AreInOrder start.base start.recorded
+  begun_seen start lists bank store k s told few =
+      let clean = (s.stands.shown told (offsets_near start lists bank k few)).1 in
+      (clean.told, clean.in_order)
 
   pub offset_seen : (start : Start) (lists : List (List Entry)) (bank : ℕ) (store : SlruBank P O g r) (multi : ℕ) (found : Option ℕ) → IsBase start.base → EngineInvariant start lists → IsOffsetsOf start bank store (at lists (offsets_lock bank)) → offsets_lock_of start multi ≡ offsets_lock bank → IsTrue g.tells
       → found ≡ offset_of (number_in (pages_of store (word_page_of multi)) (word_place_of multi)) → oldest_multi start.base.oldest_multi (multi_history lists) ≤ multi → IsOffsetRead start lists multi found

@@ -171,9 +171,10 @@ pub fn read_offset<R: Passing, L: LogDisk, P: PageDisk>(
     ensures offset { IsTrue P.tells → oldest_multi (start_of hall.now).base.oldest_multi (multi_history
         (view caller.new.pass).seen) ≤ multi
         → IfOk result (IsOffsetRead (start_of hall.now) (view caller.new.pass).seen multi) }
-    // The multixacts that the life began with lie in order, so each begins at the only offset of the base with its low half.
-    ensures order { IsTrue P.tells → AreFewMultis (view caller.new.pass).seen
-        → OnOk result (AreInOrder (start_of hall.now).base (start_of hall.now).recorded) }
+    // The pages told what the life began with, whose multixacts lie in order: so each of them begins at the only offset of
+    // the base with its low half.
+    ensures begun { IsTrue P.tells → AreFewMultis (view caller.new.pass).seen → OnOk result
+        (IsTrue (start_of hall.now).told × AreInOrder (start_of hall.now).base (start_of hall.now).recorded) }
     ensures fault { result ≡ Err DiskFault → MetFault (view caller.new.pass).seen (offsets_lock bank)
         (by_at caller.old.number caller.old.session.levels.commands) }
     ensures uncut { AreFewMultis (view caller.new.pass).seen → oldest_multi (start_of hall.now).base.oldest_multi

@@ -54,6 +54,7 @@ new_begins start told full base committed recorded = record {
   };
   offsets = record {
     told = told;
+    full = λ m x ms c. full;
     before = λ m x ms c. absurd (none_in start.recorded _ recorded c);
     in_order = in_order start recorded;
     recorded = λ m x ms c. absurd (none_in start.recorded _ recorded c);

@@ -23,6 +23,7 @@ pub record IsNearOffset (start : Start) (offset : ℕ) : Type 0 where
 -- pages told that.
 pub record CleanOffsets (start : Start) (shown : ℕ → Option StoredBytes) : Type 0 where
   pub told : IsTrue start.told
+  pub full : (multi offset : ℕ) (members : List Member) → Contains start.recorded (records.Multi multi offset members) → IsFullMulti start.base.multi
   pub before : (multi offset : ℕ) (members : List Member) → Contains start.recorded (records.Multi multi offset members) → multi < start.base.multi
   pub in_order : AreInOrder start.base start.recorded
   pub recorded : (multi offset : ℕ) (members : List Member) → Contains start.recorded (records.Multi multi offset members) → start.base.oldest_multi ≤ multi → (i : ℕ) → i < 4 → byte_held (shown multi) i ≡ byte_of offset i

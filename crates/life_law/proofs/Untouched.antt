@@ -1,17 +1,17 @@
 -- The multixacts of a life that has none are lawful.
-use Rattle.std.proofs.Common.{◌≡◌, false, true, ◌++◌, Bool, ℕ, List, [], ◌∷◌, Contains, Some, IsTrue, refl, sym, subst, ◌∙◌, ⊎_elim, take, slice_get}
+use Rattle.std.proofs.Common.{◌≡◌, false, true, List, [], ◌∷◌, IsTrue, refl, sym, subst, ◌∙◌, ⊎_elim, take}
 use Rattle.std.proofs.lemmas.Bool.{false≢true}
 use Rattle.std.proofs.lemmas.List.Elements.{All-from_recursion}
 use Rattle.std.specs.List.{All, AllByRecursion, flat_map}
 use Rattle.tx_events.specs.declared.multi.MultiEvent.{MultiEvent}
-use Rattle.tx_events.specs.Multis.{AreLegalMultis, BaseOffset, InBase, MultiMayCome}
+use Rattle.tx_events.specs.Multis.{AreLegalMultis, InBase, MultiMayCome}
 use Rattle.tx_events.specs.Places.{EachPlace}
 use Rattle.tx_events.proofs.Membership.{Has, contains_has}
 use Rattle.tx_model.specs.declared.report.Line.{Line}
 use Rattle.tx_model.specs.declared.report.Step.{Step}
 use Rattle.tx_model.specs.Rounds.{lines_in}
 use Rattle.life_law.specs.Facts.{Facts}
-use Rattle.life_law.specs.LawfulMultis.{AreLawfulMultis, AreMultisInTurn, HasTruncation, MultiComesInTurn, is_ok_trim}
+use Rattle.life_law.specs.LawfulMultis.{AreLawfulMultis, AreMultisInTurn, MultiComesInTurn, is_ok_trim}
 use Rattle.life_law.specs.MultiLines.{of_records}
 use Rattle.life_law.specs.MultiPlaces.{has_multi_line}
 

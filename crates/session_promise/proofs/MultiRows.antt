@@ -33,8 +33,8 @@ use Rattle.life_law.specs.MultiPlaces.{IsPinAt, Recorded}
 use Rattle.life_law.specs.MultiReplies.{MayReplyMulti}
 use Rattle.std.proofs.lemmas.Bool.{cases_lt}
 use Rattle.std.proofs.lemmas.List.{take-append-le}
-use Rattle.multi_laws.specs.MultiGrowth.{IsLaterThan, Widens}
-use Rattle.multi_laws.proofs.Widening.{all_behind, front_item, front_of, multis_front, reads_before, reads_in, reads_multis}
+use Rattle.session_promise.specs.MultiGrowth.{IsLaterThan, Widens}
+use Rattle.session_promise.proofs.MultiWidening.{all_behind, front_item, front_of, multis_front, reads_before, reads_in, reads_multis}
 
 -- ---- by the multixacts' events
 

@@ -10,7 +10,7 @@ use Rattle.tx_events.specs.Multis.{multi_by}
 use Rattle.tx_events.proofs.ListSteps.{all_weaker, both_all}
 use Rattle.tx_model.specs.Replies.{RoundSpan}
 use Rattle.life_law.specs.MultiPlaces.{MayReadIn, MayReadMultis}
-use Rattle.multi_laws.specs.MultiGrowth.{IsLaterThan, Widens}
+use Rattle.session_promise.specs.MultiGrowth.{IsLaterThan, Widens}
 
 take_twice : {X : Type 0} (h : List X) (p n : ℕ) → p ≤ n → take p (take n h) ≡ take p h
 take_twice h zero n l = refl

@@ -28,8 +28,8 @@ use Rattle.engine_parts.specs.MultiAnswers.{WasNotYet, recorded_in}
 use Rattle.engine_parts.specs.Stand.{IsDownAt}
 use Rattle.engine_parts.proofs.Answering.{few_before}
 use Rattle.engine_parts.proofs.Leaving.{grows_then}
-use Rattle.multi_laws.specs.MultiGrowth.{MultiAnswersStay, Widens}
-use Rattle.multi_laws.proofs.MultiRows.{rows_stay}
+use Rattle.session_promise.specs.MultiGrowth.{MultiAnswersStay, Widens}
+use Rattle.session_promise.proofs.MultiRows.{rows_stay}
 
 fault_grows : (lists more : List (List Entry)) (lock : ℕ) (by : By) → Grows lists more → MetFault lists lock by → MetFault more lock by
 fault_grows lists more lock by g f = record {
@@ -75,6 +75,7 @@ not_yet_grows start begun lists more by multi g n = record {
   pinned = n.pinned;
   asked = n.asked;
   stands = n.stands;
+  from_asked = n.from_asked;
   below = n.below;
   unset = n.unset;
   unrecorded = n.unrecorded;

@@ -5,6 +5,6 @@ mod Reopened
 mod GoingOn
 mod LogEnds
 mod Fitting
-pub mod SetsInRoom
-pub mod MembersTails
-pub mod MultisFollowed
+mod SetsInRoom
+mod MembersTails
+mod MultisFollowed

@@ -14,12 +14,10 @@ HasOffset start lists multi offset =
     IsOffsetSet start lists multi offset
     ⊎ ((members : List Member) × Contains start.recorded (records.Multi multi offset members))
 
--- None was set, and one that is recorded is stored as none: its low half is 0. No life's base has one that begins there
--- (`stored` of `AreInOrder`).
+-- none was set, and the multixact isn't recorded from before the life
 pub record HasNoOffset (start : Start) (lists : List (List Entry)) (multi : ℕ) : Type 0 where
   pub unset : (offset : ℕ) → IsOffsetSet start lists multi offset → ⊥
-  pub unstored : (offset : ℕ) (members : List Member) → Contains start.recorded (records.Multi multi offset members)
-      → low_half offset ≡ 0
+  pub unrecorded : (offset : ℕ) (members : List Member) → Contains start.recorded (records.Multi multi offset members) → ⊥
 
 -- what was read of a multixact is the low half of the offset that stands; or none does
 abbrev pub IsOffsetFound : Start → List (List Entry) → ℕ → Option ℕ → Type 0

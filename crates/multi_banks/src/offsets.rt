@@ -1,6 +1,7 @@
 //! Pages of offsets are made, and offsets are set and read.
 ghost use Rattle.std.specs.Prelude.{◌≡◌, ℕ, ◌+◌, ◌*◌, ◌<◌, ◌≤◌, ◌∷◌, [], Err, IfOk, IsTrue, OnOk};
 ghost use Rattle.hall.specs.Calls.{view, IsOf, start_of};
+ghost use Rattle.log_bases.specs.LifeBase.{AreInOrder};
 ghost use Rattle.notes.specs.Lists.{at};
 ghost use Rattle.slru_bank.specs.declared.refusal.BankRefusal.TheVariants.{Cut, DiskFault};
 ghost use Rattle.store_pages.specs.Layouts.{word_page_of};
@@ -170,6 +171,10 @@ pub fn read_offset<R: Passing, L: LogDisk, P: PageDisk>(
     ensures offset { IsTrue P.tells → oldest_multi (start_of hall.now).base.oldest_multi (multi_history
         (view caller.new.pass).seen) ≤ multi
         → IfOk result (IsOffsetRead (start_of hall.now) (view caller.new.pass).seen multi) }
+    // The pages told what the life began with, whose multixacts lie in order: so each of them begins at the only offset of
+    // the base with its low half.
+    ensures begun { IsTrue P.tells → AreFewMultis (view caller.new.pass).seen → OnOk result
+        (IsTrue (start_of hall.now).told × AreInOrder (start_of hall.now).base (start_of hall.now).recorded) }
     ensures fault { result ≡ Err DiskFault → MetFault (view caller.new.pass).seen (offsets_lock bank)
         (by_at caller.old.number caller.old.session.levels.commands) }
     ensures uncut { AreFewMultis (view caller.new.pass).seen → oldest_multi (start_of hall.now).base.oldest_multi

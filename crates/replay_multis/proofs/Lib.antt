@@ -1,3 +1,4 @@
 mod Stepping
 mod Writing
 mod Naming
+mod Restoring

@@ -1,5 +1,5 @@
 -- Which bytes are named, by lists of records and of members.
-use Rattle.std.proofs.Common.{◌≡◌, ◌⊎◌, inl, inr, ⊎_elim, ℕ, zero, suc, ◌+◌, ◌%◌, ◌<◌, ◌≤◌, ◌^◌, List, [], ◌∷◌, ◌++◌, length, take, get_or, Option, Some, None, Contains, refl, sym, ap, subst, arith, ◌∙◌}
+use Rattle.std.proofs.Common.{◌≡◌, ◌⊎◌, true, inl, inr, ⊎_elim, ℕ, zero, suc, ◌+◌, ◌%◌, ◌<◌, ◌≤◌, ◌^◌, List, [], ◌∷◌, ◌++◌, length, take, get_or, Option, Some, None, Contains, refl, sym, ap, subst, arith, ◌∙◌}
 use Rattle.std.specs.List.{slice_get}
 use Rattle.std.proofs.lemmas.List.{take_more}
 use Rattle.tx_events.proofs.Membership.{Has, contains_has, has_cases, has_contains, has_left, has_right, has_take}
@@ -60,9 +60,13 @@ module _ {X : Type 0} where
 module _ (share : Share) (oldest : ℕ) where
   pub offsets_in : (xs ys : List Rec) → ((rec : Rec) → Has xs rec → Has ys rec) → (q i b : ℕ) → IsOffsetByte share oldest xs q i b → IsOffsetByte share oldest ys q i b
   offsets_in xs ys more q i b h = record {
-    multi = h.multi; offset = h.offset; members = h.members;
+    multi = h.multi;
+    offset = h.offset;
+    members = h.members;
     among = has_contains ys (records.Multi h.multi h.offset h.members) (more (records.Multi h.multi h.offset h.members) (contains_has xs (records.Multi h.multi h.offset h.members) h.among));
-    from = h.from; on = h.on; word = h.word;
+    from = h.from;
+    on = h.on;
+    word = h.word;
   }
 
   pub offsets_cases : (xs ys : List Rec) (q i b : ℕ) → IsOffsetByte share oldest (xs ++ ys) q i b → IsOffsetByte share oldest xs q i b ⊎ IsOffsetByte share oldest ys q i b
@@ -121,9 +125,12 @@ below_in next xs ys more below m x ms c = below m x ms (has_contains ys (records
 module _ (share : Share) (oldest low : ℕ) where
   pub members_in : (xs ys : List Rec) → ((rec : Rec) → Has xs rec → Has ys rec) → (q i b : ℕ) → IsMemberByte share oldest low xs q i b → IsMemberByte share oldest low ys q i b
   members_in xs ys more q i b h = record {
-    multi = h.multi; offset = h.offset; members = h.members;
+    multi = h.multi;
+    offset = h.offset;
+    members = h.members;
     among = has_contains ys (records.Multi h.multi h.offset h.members) (more (records.Multi h.multi h.offset h.members) (contains_has xs (records.Multi h.multi h.offset h.members) h.among));
-    from = h.from; run = h.run;
+    from = h.from;
+    run = h.run;
   }
 
   pub members_cases : (xs ys : List Rec) (q i b : ℕ) → IsMemberByte share oldest low (xs ++ ys) q i b → IsMemberByte share oldest low xs q i b ⊎ IsMemberByte share oldest low ys q i b

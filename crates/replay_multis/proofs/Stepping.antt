@@ -22,7 +22,7 @@ IsAmong A C = (q i b : ℕ) → A q i b → C q i b
 pub same_or_not : (a b : ℕ) → (a ≡ b) ⊎ ((a ≡ b) → ⊥)
 same_or_not a b = grind arith
 
-way : (i at : ℕ) → (i < at) ⊎ (at ≤ i)
+pub way : (i at : ℕ) → (i < at) ⊎ (at ≤ i)
 way i at = grind arith
 
 module _ (A C : MayStand) (wide : IsAmong A C) where
@@ -185,7 +185,7 @@ module _ {P O : Type 0} {g : disks.Ghosts P} {r : rules.Ghosts O} where
   same_named A C b0 b1 result wide back s = record { steps = steps_wider A C b0 b1 result wide s.steps; done = λ told. of result (s.done told) }
     where
       of : (result : Result (Unit {0}) BankRefusal) → OnOk result (HoldsNamed A (pages_of b1)) → OnOk result (HoldsNamed C (pages_of b1))
-      of (Ok u) done q i b lt c = wide q i _ (done q i b lt (back q i b c))
+      of (Ok u) done = λ q i b lt c. wide q i _ (done q i b lt (back q i b c))
       of (Err e) done = tt
 
   module _ (A B C : MayStand) (b0 b1 b2 : SlruBank P O g r) (a : IsAmong A C) (b : IsAmong B C) (first : RedoesBank A b0 b1 (Ok (tt {0}))) where
@@ -197,7 +197,7 @@ module _ {P O : Type 0} {g : disks.Ghosts P} {r : rules.Ghosts O} where
     }
       where
         of : (second : Result (Unit {0}) BankRefusal) → HoldsNamed A (pages_of b1) → Changes B (pages_of b1) (pages_of b2) → OnOk second (HoldsNamed B (pages_of b2)) → OnOk second (HoldsNamed C (pages_of b2))
-        of (Ok u) old changes new q i x lt c = ⊎_elim
+        of (Ok u) old changes new = λ q i x lt c. ⊎_elim
             (λ (h : A q i x). ⊎_elim
             (λ (e : slice_index (pages_of b2 q) i ≡ slice_index (pages_of b1 q) i). subst (C q i) (sym e) (a q i _ (old q i x lt h)))
             (λ (k : B q i (slice_index (pages_of b2 q) i)). b q i _ k)

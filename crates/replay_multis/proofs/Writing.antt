@@ -1,5 +1,5 @@
 -- Numbers and bytes that are put on a page.
-use Rattle.std.proofs.Common.{◌≡◌, ◌⊎◌, inl, inr, ⊎_elim, ℕ, ◌+◌, ◌-◌, ◌*◌, ◌/◌, ◌%◌, ◌<◌, ◌≤◌, ◌==◌, ◌^◌, Bool, true, false, cond, List, [], ◌∷◌, length, slice_index, Result, Ok, Err, OnOk, refl, sym, ap, subst, arith, ◌∙◌}
+use Rattle.std.proofs.Common.{◌≡◌, ◌⊎◌, inl, inr, ⊎_elim, ℕ, ◌+◌, ◌-◌, ◌*◌, ◌/◌, ◌%◌, ◌<◌, ◌≤◌, ◌==◌, ◌^◌, Bool, true, false, cond, List, [], ◌∷◌, length, slice_index, Result, Ok, Err, OnOk, OnErr, IsTrue, refl, sym, ap, subst, arith, ◌∙◌}
 use Rattle.std.proofs.lemmas.Bool.Decides.{nat_tests}
 use Rattle.tx_events.specs.Ids.{low_half}
 use Rattle.tx_events.specs.Modes.{mode_number}
@@ -9,8 +9,13 @@ use Rattle.slru_bank.specs.Bank.{PutsPage, StaysAPage, placed}
 use Rattle.slru_bank.specs.ByteRange.{PutsNumber, placed_before, placed_in, placed_past}
 use Rattle.tx_core.specs.StoredBytes.{byte_of, slot_bytes, slot_place_of}
 use Rattle.replay_multis.specs.Named.{IsSlotByte, IsWordByte}
-use Rattle.replay_multis.specs.Steps.{Changes, HoldsNamed, MayStand}
-use Rattle.replay_multis.proofs.Stepping.{same_or_not, way}
+use Rattle.disk_core.specs.declared.page_disk.PageDisk as disks
+use Rattle.store_pages.specs.declared.page_rule.PageRule as rules
+use Rattle.slru_bank.specs.Calls.{CallsBank, IsCut, SamePages, cutoff_of, pages_of}
+use Rattle.slru_bank.specs.declared.bank.SlruBank.{SlruBank}
+use Rattle.slru_bank.specs.declared.refusal.BankRefusal.{BankRefusal}
+use Rattle.replay_multis.specs.Steps.{Changes, HoldsNamed, MayStand, RedoesBank}
+use Rattle.replay_multis.proofs.Stepping.{same_named, same_or_not, steps_call, way}
 
 which : (i : ℕ) → i < 4 → (i ≡ 0) ⊎ ((i ≡ 1) ⊎ ((i ≡ 2) ⊎ (i ≡ 3)))
 which i lt = grind arith
@@ -39,7 +44,7 @@ range : (at i : ℕ) → ((k : ℕ) × (k < 4) × (i ≡ at + k)) ⊎ ((i < at) 
 range at i = ⊎_elim (λ (l : i < at). inr (inl l)) (λ (h : at ≤ i). ⊎_elim (λ (s : i < at + 4). inl (i - at, omega (arith, h, s), omega (arith, h))) (λ (p : at + 4 ≤ i). inr (inr p)) (way i (at + 4))) (way i at)
 
 -- the four bytes of a number at a place
-pub abbrev IsNumberByte : ℕ → ℕ → ℕ → MayStand
+abbrev pub IsNumberByte : ℕ → ℕ → ℕ → MayStand
 IsNumberByte page at number q i b = (k : ℕ) × (k < 4) × (q ≡ page) × (i ≡ at + k) × (b ≡ byte_of number k)
 
 module _ (page at number : ℕ) (m m1 : ℕ → List ℕ) (puts : PutsNumber page at (low_half number) m m1) where
@@ -56,10 +61,10 @@ module _ (page at number : ℕ) (m m1 : ℕ → List ℕ) (puts : PutsNumber pag
       (same_or_not q page)
 
   pub number_holds : HoldsNamed (IsNumberByte page at number) m1
-  number_holds q i b lt n = (n.0, n.1, n.2.0, n.2.1, ap (λ z. slice_index (m1 z) i) n.2.0 ∙ ap (λ z. slice_index (m1 page) z) n.2.1 ∙ here n.0 n.1)
+  number_holds q i b lt n = (n.0, n.1, n.2, n.3, ap (λ z. slice_index (m1 z) i) n.2 ∙ ap (λ z. slice_index (m1 page) z) n.3 ∙ here n.0 n.1)
 
 -- one byte at a place
-pub abbrev IsByteAt : ℕ → ℕ → ℕ → MayStand
+abbrev pub IsByteAt : ℕ → ℕ → ℕ → MayStand
 IsByteAt page at byte q i b = (q ≡ page) × (i ≡ at) × (b ≡ byte)
 
 module _ (page at byte : ℕ) (m m1 : ℕ → List ℕ) (inside : at < 8192) (pages : StaysAPage page m m1) (puts : PutsPage page (placed (m page) at (byte ∷ [])) m m1) where
@@ -92,7 +97,7 @@ module _ (page at byte : ℕ) (m m1 : ℕ → List ℕ) (inside : at < 8192) (pa
 -- ---- those of an offset, and of a slot
 
 pub word_bytes : (multi offset q i b : ℕ) → IsNumberByte (word_page_of multi) (word_place_of multi) offset q i b → IsWordByte multi offset q i b
-word_bytes multi offset q i b n = record { k = n.0; small = n.1; page = n.2.0; place = n.2.1; byte = n.2.2 }
+word_bytes multi offset q i b n = record { k = n.0; small = n.1; page = n.2; place = n.3; byte = n.4 }
 
 pub bytes_word : (multi offset q i b : ℕ) → IsWordByte multi offset q i b → IsNumberByte (word_page_of multi) (word_place_of multi) offset q i b
 bytes_word multi offset q i b w = (w.k, w.small, w.page, w.place, w.byte)
@@ -109,9 +114,9 @@ id_slot offset member q i b n =
     record {
       k = n.0;
       small = omega (arith, n.1);
-      page = n.2.0;
-      place = n.2.1 ∙ sym (ap (λ (z : Bool). cond z (mode_place_of offset) (member_place_of offset + n.0)) t);
-      byte = n.2.2 ∙ sym (ap (λ (z : Bool). cond z (mode_number member.mode) (byte_of member.id n.0)) t);
+      page = n.2;
+      place = n.3 ∙ sym (ap (λ (z : Bool). cond z (mode_place_of offset) (member_place_of offset + n.0)) t);
+      byte = n.4 ∙ sym (ap (λ (z : Bool). cond z (mode_number member.mode) (byte_of member.id n.0)) t);
     }
 
 pub mode_slot : (offset : ℕ) (member : Member) (q i b : ℕ) → IsByteAt (member_page_of offset) (mode_place_of offset) (mode_number member.mode) q i b → IsSlotByte offset member q i b
@@ -124,3 +129,49 @@ slot_parts offset member q i b s = ⊎_elim
     inr (s.k, lt, s.page, s.place ∙ ap (λ (z : Bool). cond z (mode_place_of offset) (member_place_of offset + s.k)) t, s.byte ∙ ap (λ (z : Bool). cond z (mode_number member.mode) (byte_of member.id s.k)) t))
     (λ (e : s.k ≡ 4). inl (s.page, s.place ∙ ap (slot_place_of offset) e, s.byte ∙ ap (slot_bytes member) e))
     (is_mode s.k s.small)
+
+-- ---- on a bank
+
+module _ {P O : Type 0} {g : disks.Ghosts P} {r : rules.Ghosts O} where
+  -- a number is put at a place of a page
+  pub number_redone : (page at number : ℕ) (b0 b1 : SlruBank P O g r) (result : Result (Unit {0}) BankRefusal) → (IsCut page b0 → ⊥)
+      → (IsTrue g.tells → OnOk result (PutsNumber page at (low_half number) (pages_of b0) (pages_of b1))) → (IsTrue g.tells → OnErr result (SamePages b0 b1)) → CallsBank page b0 b1 result
+      → RedoesBank (IsNumberByte page at number) b0 b1 result
+  number_redone page at number b0 b1 result kept puts same calls = record {
+    steps = steps_call (IsNumberByte page at number) page b0 b1 result kept (λ told. changed result (puts told)) same calls;
+    done = λ told. held result (puts told);
+  }
+    where
+      changed : (result : Result (Unit {0}) BankRefusal) → OnOk result (PutsNumber page at (low_half number) (pages_of b0) (pages_of b1)) → OnOk result (Changes (IsNumberByte page at number) (pages_of b0) (pages_of b1))
+      changed (Ok u) p = number_changes page at number (pages_of b0) (pages_of b1) p
+      changed (Err e) p = tt
+
+      held : (result : Result (Unit {0}) BankRefusal) → OnOk result (PutsNumber page at (low_half number) (pages_of b0) (pages_of b1)) → OnOk result (HoldsNamed (IsNumberByte page at number) (pages_of b1))
+      held (Ok u) p = number_holds page at number (pages_of b0) (pages_of b1) p
+      held (Err e) p = tt
+
+  -- and a byte
+  pub byte_redone : (page at byte : ℕ) (b0 b1 : SlruBank P O g r) (result : Result (Unit {0}) BankRefusal) → at < 8192 → (IsCut page b0 → ⊥)
+      → (IsTrue g.tells → OnOk result (PutsPage page (placed (pages_of b0 page) at (byte ∷ [])) (pages_of b0) (pages_of b1))) → (IsTrue g.tells → OnOk result (StaysAPage page (pages_of b0) (pages_of b1)))
+      → (IsTrue g.tells → OnErr result (SamePages b0 b1)) → CallsBank page b0 b1 result → RedoesBank (IsByteAt page at byte) b0 b1 result
+  byte_redone page at byte b0 b1 result inside kept puts pages same calls = record {
+    steps = steps_call (IsByteAt page at byte) page b0 b1 result kept (λ told. changed result (puts told) (pages told)) same calls;
+    done = λ told. held result (puts told) (pages told);
+  }
+    where
+      changed : (result : Result (Unit {0}) BankRefusal) → OnOk result (PutsPage page (placed (pages_of b0 page) at (byte ∷ [])) (pages_of b0) (pages_of b1)) → OnOk result (StaysAPage page (pages_of b0) (pages_of b1))
+          → OnOk result (Changes (IsByteAt page at byte) (pages_of b0) (pages_of b1))
+      changed (Ok u) p s = byte_changes page at byte (pages_of b0) (pages_of b1) inside s p
+      changed (Err e) p s = tt
+
+      held : (result : Result (Unit {0}) BankRefusal) → OnOk result (PutsPage page (placed (pages_of b0 page) at (byte ∷ [])) (pages_of b0) (pages_of b1)) → OnOk result (StaysAPage page (pages_of b0) (pages_of b1))
+          → OnOk result (HoldsNamed (IsByteAt page at byte) (pages_of b1))
+      held (Ok u) p s = byte_holds page at byte (pages_of b0) (pages_of b1) inside s p
+      held (Err e) p s = tt
+
+  -- a page that isn't cut isn't behind a call that keeps the cutoff
+  pub still_kept : (page : ℕ) (b0 b1 : SlruBank P O g r) → cutoff_of b1 ≡ cutoff_of b0 → (IsCut page b0 → ⊥) → IsCut page b1 → ⊥
+  still_kept page b0 b1 same kept cut = kept (subst (λ z. IsTrue (Rattle.tx_events.specs.PageOrder.is_cut r.shape r.per_page z page)) same cut)
+
+  pub word_redone : (multi offset : ℕ) (b0 b1 : SlruBank P O g r) (result : Result (Unit {0}) BankRefusal) → RedoesBank (IsNumberByte (word_page_of multi) (word_place_of multi) offset) b0 b1 result → RedoesBank (IsWordByte multi offset) b0 b1 result
+  word_redone multi offset b0 b1 result s = same_named (IsNumberByte (word_page_of multi) (word_place_of multi) offset) (IsWordByte multi offset) b0 b1 result (word_bytes multi offset) (bytes_word multi offset) s

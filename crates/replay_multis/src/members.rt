@@ -1,5 +1,5 @@
 // The volume of a bank of members shows what a log gives.
-ghost use Rattle.std.specs.Prelude.{◌≡◌, ◌+◌, ◌≤◌, ◌^◌, Err, IsTrue, OnOk};
+ghost use Rattle.std.specs.Prelude.{◌≡◌, ◌+◌, ◌<◌, ◌≤◌, ◌^◌, Err, IsTrue, OnOk};
 ghost use Rattle.disk_core.specs.Faults.{HasRisen};
 ghost use Rattle.slru_bank.specs.Calls.{TrimsBank, cutoff_of, pages_of};
 ghost use Rattle.slru_bank.specs.Crash.{CrashLeaves};
@@ -44,6 +44,7 @@ fn restore_bank<P: PageDisk>(
     requires share { 1 ≤ share.now.banks }
     requires below { AreMembersBelow span.now.next recs.now }
     requires window { span.now.next + 2 ^ 15 ≤ span.now.oldest_offset + 2 ^ 31 }
+    requires small { span.now.next < 2 ^ 63 }
     requires kept { cutoff_of bank.old ≡ member_page_of span.now.oldest_offset }
     ensures { RestoresBank (IsMemberByte share.now span.now.oldest span.now.oldest_offset recs.now) (IsPastOffset span.now.from) (IsPastOffset span.now.next) bank.old bank.new result }
 {
@@ -66,6 +67,7 @@ pub fn restore_members<P: PageDisk + Drop>(
     requires share { 1 ≤ share.now.banks }
     requires below { AreMembersBelow span.now.next recs.now }
     requires window { span.now.next + 2 ^ 15 ≤ span.now.oldest_offset + 2 ^ 31 }
+    requires small { span.now.next < 2 ^ 63 }
     ensures shows { IsTrue P.tells → OnOk result.1 (RestoresAll (IsMemberByte share.now span.now.oldest span.now.oldest_offset recs.now) (IsPastOffset span.now.from) (IsPastOffset span.now.next)
         (bytes_on P.PageDisk disk) (bytes_on P.PageDisk result.0)) }
     ensures durable { IsTrue P.tells → OnOk result.1 (HasBytesOnDisk P.PageDisk result.0) }

@@ -70,7 +70,7 @@ fn redo_run<P: PageDisk>(
 ) -> Result<(), BankRefusal>
     requires share { 1 ≤ share.now.banks }
     requires near { offset + length members.now + 2 ^ 15 ≤ low + 2 ^ 31 }
-    requires small { offset + length members.now < 2 ^ 64 }
+    requires small { offset + length members.now < 2 ^ 63 }
     requires kept { cutoff_of bank.old ≡ member_page_of low }
     ensures { RedoesBank (IsRunByte share.now low offset members.now) bank.old bank.new result }
 {
@@ -92,6 +92,7 @@ fn redo_members_of<P: PageDisk>(
     requires share { 1 ≤ share.now.banks }
     requires below { AreMembersBelow span.now.next (rec.now ∷ []) }
     requires window { span.now.next + 2 ^ 15 ≤ span.now.oldest_offset + 2 ^ 31 }
+    requires small { span.now.next < 2 ^ 63 }
     requires kept { cutoff_of bank.old ≡ member_page_of span.now.oldest_offset }
     ensures { RedoesBank (IsMemberByte share.now span.now.oldest span.now.oldest_offset (rec.now ∷ [])) bank.old bank.new result }
 {
@@ -120,6 +121,7 @@ pub(crate) fn redo_members<P: PageDisk>(
     requires share { 1 ≤ share.now.banks }
     requires below { AreMembersBelow span.now.next recs.now }
     requires window { span.now.next + 2 ^ 15 ≤ span.now.oldest_offset + 2 ^ 31 }
+    requires small { span.now.next < 2 ^ 63 }
     requires kept { cutoff_of bank.old ≡ member_page_of span.now.oldest_offset }
     ensures { RedoesBank (IsMemberByte share.now span.now.oldest span.now.oldest_offset recs.now) bank.old bank.new result }
 {

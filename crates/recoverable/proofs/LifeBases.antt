@@ -111,7 +111,7 @@ module _ (start : Start) (lists : List (List Entry)) (k : EngineInvariant start 
       record {
         from = w0;
         announced = λ multi offset a le.
-            (announced_old start lists k is.counters m x ms is.in_order (λ by n y raised before. raises_told start lists by n y k told raised before) old from below multi offset a le).1;
+            (announced_old start lists k is.counters m x ms is.in_order (λ rec among by n y raised before. raises_told start lists by n y k told rec among raised before) old from below multi offset a le).1;
         places = λ multi offset p le.
             let whole : AreLegalMultis start.base (InBase start.base) (take p.0 (multi_history lists) ++ drop p.0 (multi_history lists)) = subst (AreLegalMultis start.base (InBase start.base)) (sym (take-append-drop p.0 (multi_history lists))) legal in
             let c = chained start.base full (take p.0 (multi_history lists)) (each_place_start (MultiMayCome start.base (InBase start.base)) (take p.0 (multi_history lists)) (drop p.0 (multi_history lists)) whole) in

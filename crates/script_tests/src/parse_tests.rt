@@ -1,5 +1,5 @@
 // Scripts with their faults, from the rows of the format.
-use crate::{Item, Kind, ParseRefusal, line_of, parse};
+use session_lang::{Item, Kind, ParseRefusal, line_of, parse};
 use std::alloc::Global;
 use std::test::Fail;
 use tx_model::{Command, DumpOf, How, Mode, Name};

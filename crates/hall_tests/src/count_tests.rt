@@ -1,7 +1,7 @@
-//! What no clause says: that calls succeed, and in which order.
+//! Two counters behind locks: that calls succeed, and in which order.
 ghost use Rattle.std.specs.Prelude.{◌≡◌};
 
-use crate::{add, both, catch_up, count, counters, tell};
+use hall_counts::{add, both, catch_up, count, counters, tell};
 use std::test::Fail;
 
 #[test]

@@ -1,6 +1,7 @@
+// A value of which a fact holds is found, and is the one of which it holds.
 ghost use Rattle.std.specs.Prelude.{◌≡◌, ◌+◌};
 
-use crate::{Fact, found};
+use noted_facts::{Fact, found};
 use notes::Note;
 
 struct HalfOf;

@@ -24,7 +24,8 @@ use Rattle.engine_host.specs.declared.host.Host.{Host}
 use Rattle.session_promise.specs.Causes.{failed_volume}
 use Rattle.session_promise.specs.Promise.{recs_of}
 use Rattle.bank_sections.specs.Sections.{IsSubtransCut, IsXactCut}
-use Rattle.engine_dumps.specs.Shown.{AreLogBytes, HasFailed, ShowsSubtrans, ShowsXact}
+use Rattle.multi_banks.specs.Sections.{IsMemberCut, IsOffsetCut}
+use Rattle.engine_dumps.specs.Shown.{AreLogBytes, HasFailed, ShowsMembers, ShowsOffsets, ShowsSubtrans, ShowsXact}
 
 -- the answer where a bank refused
 abbrev pub refusal_by : Lock → BankRefusal → Reply
@@ -48,7 +49,8 @@ module _ {L P : Type 0} (l : logs.Ghosts L) (p : disks.Ghosts P) (start : Start)
   AreShown dumps.Log from size bytes = IsTrue l.tells → AreLogBytes start (list_at lists log_lock) from size bytes
   AreShown (dumps.Xact page) from size bytes = IsTrue p.tells → ShowsXact start lists page from size bytes
   AreShown (dumps.Subtrans page) from size bytes = IsTrue p.tells → ShowsSubtrans start lists page from size bytes
-  AreShown what from size bytes = Unit {0}
+  AreShown (dumps.Offsets page) from size bytes = IsTrue p.tells → ShowsOffsets start lists page from size bytes
+  AreShown (dumps.Members page) from size bytes = IsTrue p.tells → ShowsMembers start lists page from size bytes
 
   -- so the bytes of the answer, where it has some
   abbrev pub ShowsBytes : DumpOf → ℕ → ℕ → Reply → Type 0
@@ -67,4 +69,8 @@ IsCutTold tells start lists (dumps.Xact page) (replies.Cut cutoff) =
     × (HasNoCut (list_at lists (xact_lock (page % start.banks))) → cutoff ≡ xact_cutoff start.base.oldest)
 IsCutTold tells start lists (dumps.Subtrans page) (replies.Cut cutoff) =
     IsSubtransCut start lists (page % start.banks) page cutoff
+IsCutTold tells start lists (dumps.Offsets page) (replies.Cut cutoff) =
+    IsOffsetCut start lists (page % start.banks) page cutoff
+IsCutTold tells start lists (dumps.Members page) (replies.Cut cutoff) =
+    IsMemberCut start lists (page % start.banks) page cutoff
 IsCutTold tells start lists what reply = Unit {0}

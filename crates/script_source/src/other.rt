@@ -24,8 +24,11 @@ fn has_command(command: &Command) -> bool
         | Command::See { .. }
         | Command::Status { .. }
         | Command::Did { .. }
-        | Command::Freeze { .. } => true,
-        _ => false,
+        | Command::Freeze { .. }
+        | Command::Trim
+        | Command::Multi { .. }
+        | Command::SeeMulti { .. }
+        | Command::MultiFreeze { .. } => true,
     }
 }
 
@@ -33,8 +36,11 @@ fn has_dump(what: &DumpOf) -> bool
     ensures { result ≡ has_dump what.now }
 {
     match what {
-        DumpOf::Log | DumpOf::Xact { .. } | DumpOf::Subtrans { .. } => true,
-        _ => false,
+        DumpOf::Log
+        | DumpOf::Xact { .. }
+        | DumpOf::Subtrans { .. }
+        | DumpOf::Offsets { .. }
+        | DumpOf::Members { .. } => true,
     }
 }
 

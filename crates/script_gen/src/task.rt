@@ -1,9 +1,9 @@
 //! What the words of the command line ask for.
 ghost use Rattle.std.specs.Prelude.{◌≡◌, ◌↔◌, IfNone, IfSome, IsTrue, codes, map, string_bytes};
 ghost use Rattle.run_law.specs.Tool.{IsRun};
-ghost use Rattle.session_run.specs.Tool.{IsAccepted, IsTask};
+ghost use Rattle.script_gen.specs.Tasks.{IsAccepted, IsTask};
 
-use script_gen::{Asked, gen_words};
+use crate::words::{Asked, gen_words};
 
 /// What is asked for.
 #[derive(Clone, Copy)]

@@ -1,8 +1,8 @@
 use Rattle.std.proofs.Common.{map, sym, ◌∙◌}
 use Rattle.std.specs.Prelude.{string_bytes}
 use Rattle.std.proofs.lemmas.Bool.{false≢true}
-use Rattle.session_run.proofs.Endings.{none_asked}
-use Rattle.session_run.proofs.task.task_of.Goals as goal
+use Rattle.script_gen.proofs.GenWords.{none_asked}
+use Rattle.script_gen.proofs.task.task_of.Goals as goal
 
 pub returns-in-None-clause-only : goal.returns-in-None-clause-only
 returns-in-None-clause-only c =

@@ -2,7 +2,7 @@ use Rattle.std.proofs.Common.{Err, Ok, arith, length, rules, subst, ◌≡◌}
 use Rattle.tx_events.specs.declared.refusal.Lock.TheVariants as locks
 use Rattle.replay_core.specs.Banks.{ChangesAt, Restoring, members_become, members_leave}
 use Rattle.replay_core.proofs.BankRows.{all_restored, restore_failed, restoring}
-use Rattle.replay_core.proofs.Pages.{same_members}
+use Rattle.replay_core.proofs.StoreRows.{same_members}
 use Rattle.replay_core.proofs.Rows.{progress_more}
 use Rattle.replay_core.proofs.banks.restore_all_members.Goals as goal
 

@@ -4,7 +4,7 @@ use Rattle.replay_multis.specs.declared.offsets.OffsetSpan.{OffsetSpan}
 use Rattle.replay_multis.specs.declared.redo_members.MemberSpan.{MemberSpan}
 use Rattle.replay_multis.specs.Named.{AreMembersBelow, AreMultisNear}
 use Rattle.replay_core.specs.Banks.{RestoresBanks, members_become, members_leave, offsets_become, offsets_leave}
-use Rattle.replay_core.proofs.Pages.{members_failed, offsets_failed, states_failed, with_parents}
+use Rattle.replay_core.proofs.StoreRows.{members_failed, offsets_failed, states_failed, with_parents}
 use Rattle.replay_core.proofs.pages.restore_pages.Goals as goal
 
 pub returns-in_err-restore_all_states : goal.returns-in_err-restore_all_states

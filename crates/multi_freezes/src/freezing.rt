@@ -85,7 +85,7 @@ fn raise_read<R: Passing, L: LogDisk, P: PageDisk>(
         → IsTrue P.tells }
     ensures raises { RaisesRead P.tells hall.now banks held.now caller.old caller.new result }
 {
-    let base = read_base(rt, hall, caller, banks);
+    let base = read_base(rt, hall, caller);
     match raise_multi(rt, hall, caller, &base, held, low) {
         Ok(Raising::Raised { .. }) => Ok(()),
         Ok(Raising::Many) => {

@@ -40,7 +40,7 @@ IsOffsetsFault lists by _ = ⊥
 -- What was read of the offset of a multixact, where the pages tell, in a life of few: what stands. And the multixacts that
 -- the life began with lie in order.
 pub record IsStartRead (tells : Bool) (start : Start) (lists : List (List Entry)) (multi : ℕ) (found : Option ℕ) : Type 0 where
-  pub found : IsTrue tells → AreFewMultis lists → IsOffsetFound start lists multi found
+  pub stands : IsTrue tells → AreFewMultis lists → IsOffsetFound start lists multi found
   pub told : IsTrue tells → AreFewMultis lists → IsTrue start.told × AreInOrder start.base start.recorded
 
 -- The session pins the multixact, and this was answered to the pin.

@@ -8,7 +8,7 @@ ghost use Rattle.tx_events.specs.declared.record.Rec.{Rec};
 ghost use Rattle.tx_events.specs.declared.record.Rec.TheVariants as records;
 ghost use Rattle.tx_model.specs.declared.command.Command.TheVariants as commands;
 ghost use Rattle.tx_model.specs.declared.reply.Reply.TheVariants as replies;
-ghost use Rattle.store_pages.specs.Layouts.{offset_page};
+ghost use Rattle.tx_events.specs.Pages.{offset_page};
 ghost use Rattle.tx_core.specs.MultiEntries.{AreFewMultis, multi_history};
 ghost use Rattle.engine_parts.specs.Adding.{MayFault};
 ghost use Rattle.engine_parts.specs.Answers.{reply_of};
@@ -56,6 +56,7 @@ fn read_start<R: Passing, L: LogDisk, P: PageDisk>(
         (by_at caller.old.number caller.old.session.levels.commands)) }
 {
     let bank = offsets_bank(multi, banks);
+    let _multi = multi.number();
     match read_offset(rt, hall, caller, bank, multi) {
         Ok(found) => Ok(found),
         Err(BankRefusal::DiskFault) => Err(Refusal::DiskFault {
@@ -86,6 +87,8 @@ fn raise_read<R: Passing, L: LogDisk, P: PageDisk>(
     ensures raises { RaisesRead P.tells hall.now banks held.now caller.old caller.new result }
 {
     let base = read_base(rt, hall, caller);
+    let _first = base.multi.number();
+    let _multi = held.multi.number();
     match raise_multi(rt, hall, caller, &base, held, low) {
         Ok(Raising::Raised { .. }) => Ok(()),
         Ok(Raising::Many) => {
@@ -157,12 +160,15 @@ pub fn multi_freeze<R: Passing, L: LogDisk, P: PageDisk>(
         → (members : List Member) × Contains (start_of hall.now).recorded (records.Multi multi offset members)) }
 {
     count(caller);
-    match start_freeze(rt, hall, caller, multi) {
-        Ok(Freezing::Raised { .. }) => Ok(()),
-        Ok(Freezing::Pinned(held)) => match freeze_pinned(rt, hall, caller, banks, &held) {
+    let freezing = match start_freeze(rt, hall, caller, multi) {
+        Ok(freezing) => freezing,
+        Err(refusal) => return Err(refusal),
+    };
+    match freezing {
+        Freezing::Raised { offset: _offset } => Ok(()),
+        Freezing::Pinned(held) => match freeze_pinned(rt, hall, caller, banks, &held) {
             Ok(()) => Ok(()),
             Err(refusal) => Err(refusal),
         },
-        Err(refusal) => Err(refusal),
     }
 }

@@ -40,7 +40,7 @@ module _ (start : Start) (right : BeganRight start) (none : start.recorded ≡ [
   clean_offsets : CleanOffsets start nothing
   clean_offsets =
       let k = (new_begins bare right.told right.full right.base.counters refl none).offsets in
-      record { before = k.before; recorded = k.recorded; other = k.other; clean = k.clean }
+      record { before = k.before; in_order = k.in_order; recorded = k.recorded; other = k.other; clean = k.clean }
 
   clean_members : CleanMembers start nothing
   clean_members =

@@ -104,6 +104,7 @@ module _ (start : Start) (log : KeptLog) (from : ℕ) (left : Left) (some : 1 �
   offsets_clean : CleanOffsets start (shown_on start.banks left).offsets
   offsets_clean = record {
     before = λ multi offset members among. (is_base.multis multi offset members among).0;
+    in_order = is_base.in_order;
     recorded = λ multi offset members among old i lt.
         let oldest = oldest_multi_is in
         let bank : ℕ = word_page_of multi % start.banks in

@@ -31,7 +31,7 @@ small_member n = omega arith
 -- a clean start doesn't go by the counts of faults
 module _ (c : Cluster) (b : Beginning) (counts : List ℕ) where
   offsets_any : {shown : ℕ → Option StoredBytes} → CleanOffsets (life_from c b []) shown → CleanOffsets (life_from c b counts) shown
-  offsets_any k = record { before = k.before; recorded = k.recorded; other = k.other; clean = k.clean }
+  offsets_any k = record { before = k.before; in_order = k.in_order; recorded = k.recorded; other = k.other; clean = k.clean }
 
   members_any : {shown : ℕ → Option StoredBytes} → CleanMembers (life_from c b []) shown → CleanMembers (life_from c b counts) shown
   members_any k = record { before = k.before; in_order = k.in_order; recorded = k.recorded; gap = k.gap; clean = k.clean; behind = k.behind }

@@ -51,6 +51,7 @@ new_begins start told full base committed recorded = record {
   };
   offsets = record {
     before = λ m x ms c. absurd (none_in start.recorded _ recorded c);
+    in_order = in_order start recorded;
     recorded = λ m x ms c. absurd (none_in start.recorded _ recorded c);
     other = λ m full old below never. refl;
     clean = λ x low high. refl;

@@ -1,3 +1,4 @@
 pub mod Going
 pub mod Faulting
+pub mod Slicing
 pub mod Setting

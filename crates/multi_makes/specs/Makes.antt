@@ -1,7 +1,6 @@
 -- What a `multi` makes, and why it doesn't.
-use Rattle.std.specs.Prelude.{◌≡◌, ◌⊎◌, ◌↔◌, ℕ, ◌≤◌, ◌++◌, IsTrue, List, [], ◌∷◌, Result, Ok, Err, length}
+use Rattle.std.specs.Prelude.{◌≡◌, ◌≢◌, ◌⊎◌, ℕ, ◌++◌, List, [], ◌∷◌, None, Result, Ok, Err, length}
 use Rattle.notes.specs.Lists.{Grows}
-use Rattle.tx_events.specs.declared.event.By.{By}
 use Rattle.tx_events.specs.declared.multi.Member.{Member}
 use Rattle.tx_events.specs.declared.multi.MultiEvent.{MultiEvent}
 use Rattle.tx_events.specs.declared.refusal.Refusal.{Refusal}
@@ -50,13 +49,13 @@ pub record IsGivenIn (start : Start) (n : ℕ) (s : Session) (members : List Mem
   pub split : multi_history more ≡ before ++ (taken_event n s members g ∷ rest)
   pub taken : IsTaken start.base before members g
 
--- one was given that is made whole, or none was, or one that isn't made whole
-abbrev pub MakesOf : Start → ℕ → Session → List Member → List (List Entry) → List (List Entry) → Result MultiGiven Refusal → Type 0
-MakesOf start n s members lists more (Ok g) =
-    IsGivenIn start n s members g lists more × IsMultiDone start more n g.multi g.offset members
-MakesOf start n s members lists more (Err r) =
-    (WentMulti n [] lists more × IsNotTaken start.base (multi_history more) (length members) r)
-    ⊎ ((g : MultiGiven) × IsGivenIn start n s members g lists more × StopsMaking start more (by_at n s.levels.commands) r)
+-- one was given that is made whole, or none was, or one that the session still makes
+abbrev pub MakesOf : Start → ℕ → Session → Session → List Member → List (List Entry) → List (List Entry) → Result MultiGiven Refusal → Type 0
+MakesOf start n s s' members lists more (Ok g) =
+    (s'.making ≡ None) × IsGivenIn start n s members g lists more × IsMultiDone start more n g.multi g.offset members
+MakesOf start n s s' members lists more (Err r) =
+    ((s'.making ≡ None) × WentMulti n [] lists more × IsNotTaken start.base (multi_history more) (length members) r)
+    ⊎ ((s'.making ≢ None) × (g : MultiGiven) × IsGivenIn start n s members g lists more × StopsMaking start more (by_at n s.levels.commands) r)
 
 -- why none was given: the members, the limits, or memory
 abbrev pub IsNoneGiven : Start → List (List Entry) → List Pair → Refusal → Type 0
@@ -78,18 +77,24 @@ pub record IsMadeNew (start : Start) (n : ℕ) (s : Session) (pairs : List Pair)
   pub event : IsGivenIn start n s members g lists more
   pub done : IsMultiDone start more n g.multi g.offset members
 
--- a new one is made whole, or none was given, or one was that isn't made whole
-abbrev pub MakesNew : Start → ℕ → Session → List Pair → List (List Entry) → List (List Entry) → Result MultiGiven Refusal → Type 0
-MakesNew start n s pairs lists more (Ok g) = IsMadeNew start n s pairs lists more g
-MakesNew start n s pairs lists more (Err r) =
-    (WentMulti n [] lists more × IsNoneGiven start more pairs r) ⊎ IsStopped start n s pairs lists more r
+-- A new one is made whole. Or none was given. Or one was that the session still makes.
+abbrev pub MakesNew : Start → ℕ → Session → Session → List Pair → List (List Entry) → List (List Entry) → Result MultiGiven Refusal → Type 0
+MakesNew start n s s' pairs lists more (Ok g) = (s'.making ≡ None) × IsMadeNew start n s pairs lists more g
+MakesNew start n s s' pairs lists more (Err r) =
+    ((s'.making ≡ None) × WentMulti n [] lists more × IsNoneGiven start more pairs r)
+    ⊎ ((s'.making ≢ None) × IsStopped start n s pairs lists more r)
 
--- or what it made before isn't
-abbrev pub MakesNext : Start → ℕ → Session → List Pair → List (List Entry) → List (List Entry) → Result MultiGiven Refusal → Type 0
-MakesNext start n s pairs lists more (Ok g) = IsMadeNew start n s pairs lists more g
-MakesNext start n s pairs lists more (Err r) =
-    (WentMulti n [] lists more × (IsNoneGiven start more pairs r ⊎ StopsMaking start more (by_at n s.levels.commands) r))
-    ⊎ IsStopped start n s pairs lists more r
+-- the one that the session made before isn't made whole
+pub record IsHeldUp (start : Start) (n : ℕ) (s s' : Session) (lists more : List (List Entry)) (r : Refusal) : Type 0 where
+  pub went : WentMulti n [] lists more
+  pub old : s.making ≢ None
+  pub new : s'.making ≢ None
+  pub stops : StopsMaking start more (by_at n s.levels.commands) r
+
+-- that comes before
+abbrev pub MakesNext : Start → ℕ → Session → Session → List Pair → List (List Entry) → List (List Entry) → Result MultiGiven Refusal → Type 0
+MakesNext start n s s' pairs lists more (Ok g) = MakesNew start n s s' pairs lists more (Ok g)
+MakesNext start n s s' pairs lists more (Err r) = IsHeldUp start n s s' lists more r ⊎ MakesNew start n s s' pairs lists more (Err r)
 
 module _ {L P : Type 0} {l : logs.Ghosts L} {p : disks.Ghosts P} where
   -- the session stands as before, but for what it makes

@@ -1,5 +1,5 @@
 -- The multixact that a session makes: how far it has come, and why it stops.
-use Rattle.std.specs.Prelude.{◌≡◌, Bool, false, ℕ, ◌+◌, List, Option, None, Some, IfSome, Result, Ok, Err, slice_get}
+use Rattle.std.specs.Prelude.{◌≡◌, ◌≢◌, Bool, false, ℕ, ◌+◌, List, Option, None, Some, IfSome, Result, Ok, Err, slice_get}
 use Rattle.notes.specs.Lists.{at}
 use Rattle.tx_events.specs.declared.event.By.{By}
 use Rattle.tx_events.specs.declared.multi.Member.{Member}
@@ -64,5 +64,8 @@ StopsMaking start lists by r = IsMultiFault lists by r
 
 -- The session makes none any more, and what it made is done. Or it still makes one, and stands otherwise as before.
 abbrev pub Finishes : Start → ℕ → Session → Session → List (List Entry) → Result (Unit {0}) Refusal → Type 0
-Finishes start n s s' more (Ok x) = (s' ≡ record s { making = None }) × IfSome s.making (λ m. IsMultiDone start more n m.multi m.offset m.members)
-Finishes start n s s' more (Err r) = (s' ≡ record s { making = s'.making }) × StopsMaking start more (by_at n s.levels.commands) r
+Finishes start n s s' more (Ok x) =
+    (s' ≡ record s { making = None }) × IfSome s.making (λ m. IsMultiDone start more n m.multi m.offset m.members)
+Finishes start n s s' more (Err r) =
+    (s' ≡ record s { making = s'.making }) × (s.making ≢ None) × (s'.making ≢ None)
+    × StopsMaking start more (by_at n s.levels.commands) r

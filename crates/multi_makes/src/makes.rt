@@ -44,8 +44,8 @@ fn make_of<R: Passing, L: LogDisk, P: PageDisk>(
     ensures step { MayStep hall.now banks caller.new }
     ensures adds { Adds (by_at caller.old.number caller.old.session.levels.commands)
         (MayAdd IsOfMulti ⊥ (IsToldBy result)) (view caller.old.pass).seen (view caller.new.pass).seen }
-    ensures makes { MakesOf (start_of hall.now) caller.old.number caller.old.session members
-        (view caller.old.pass).seen (view caller.new.pass).seen result }
+    ensures makes { MakesOf (start_of hall.now) caller.old.number caller.old.session caller.new.session
+        members (view caller.old.pass).seen (view caller.new.pass).seen result }
     ensures left { LeavesMaking caller.old caller.new }
 {
     match take_multi(rt, hall, caller, members) {
@@ -72,8 +72,8 @@ fn make_new<R: Passing, L: LogDisk, P: PageDisk>(
     ensures step { MayStep hall.now banks caller.new }
     ensures adds { Adds (by_at caller.old.number caller.old.session.levels.commands)
         (MayAdd IsOfMulti ⊥ (IsToldBy result)) (view caller.old.pass).seen (view caller.new.pass).seen }
-    ensures makes { MakesNew (start_of hall.now) caller.old.number caller.old.session pairs.now
-        (view caller.old.pass).seen (view caller.new.pass).seen result }
+    ensures makes { MakesNew (start_of hall.now) caller.old.number caller.old.session caller.new.session
+        pairs.now (view caller.old.pass).seen (view caller.new.pass).seen result }
     ensures left { LeavesMaking caller.old caller.new }
 {
     let found = read_horizons(rt, hall, caller);
@@ -97,8 +97,8 @@ fn make_next<R: Passing, L: LogDisk, P: PageDisk>(
     ensures step { MayStep hall.now banks caller.new }
     ensures adds { Adds (by_at caller.old.number caller.old.session.levels.commands)
         (MayAdd IsOfMulti ⊥ (IsToldBy result)) (view caller.old.pass).seen (view caller.new.pass).seen }
-    ensures makes { MakesNext (start_of hall.now) caller.old.number caller.old.session pairs.now
-        (view caller.old.pass).seen (view caller.new.pass).seen result }
+    ensures makes { MakesNext (start_of hall.now) caller.old.number caller.old.session caller.new.session
+        pairs.now (view caller.old.pass).seen (view caller.new.pass).seen result }
     ensures left { LeavesMaking caller.old caller.new }
 {
     match finish(rt, hall, caller, banks) {

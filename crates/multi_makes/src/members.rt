@@ -37,7 +37,10 @@ fn run_on_page(offset: u64, count: usize) -> usize
 {
     let page = member_page_in_full(offset);
     let mut run = 1;
-    while run < count && member_page_in_full(offset + run as u64) == page {
+    while run < count {
+        if member_page_in_full(offset + run as u64) != page {
+            return run;
+        }
         run += 1;
     }
     run

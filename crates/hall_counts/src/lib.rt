@@ -64,8 +64,8 @@ pub fn add<R: Wait>(rt: &R, hall: &Hall<Tally>, pass: &mut Pass<Tally>) -> u64
     count(hall, pass, value)
 }
 
-// The critical section of counter 0, and its release.
-fn count(hall: &Hall<Tally>, pass: &mut Pass<Tally>, value: u64) -> u64
+/// The critical section of counter 0, and its release: `value` is what the entry answered. Returns what `add` does.
+pub fn count(hall: &Hall<Tally>, pass: &mut Pass<Tally>, value: u64) -> u64
     requires own { IsOf hall.now pass.old }
     requires inside { (view pass.old).stage ≡ Inside pass.old.cell }
     requires cell { pass.old.cell ≡ 0 }
@@ -130,8 +130,8 @@ fn counted<R: Wait>(rt: &R, hall: &Hall<Tally>, pass: Pass<Tally>) -> Pass<Tally
     pass
 }
 
-// Two counters at 0, words that say 0, and a first pass that may give the names 0 and 1.
-fn counters(alloc: Global) -> Option<(Hall<Tally>, Pass<Tally>)>
+/// Two counters at 0, words that say 0, and a first pass that may give the names 0 and 1. None where memory is short.
+pub fn counters(alloc: Global) -> Option<(Hall<Tally>, Pass<Tally>)>
     ensures own { IfSome result (λ r. IsOf r.0 r.1 × (view r.1 ≡ first_view opening) × (passes_of r.0 ≡ 3)) }
     ensures sizes { IfSome result (λ r. (r.0.cells ≡ 2) × (r.0.posts ≡ 2)) }
 {
@@ -168,6 +168,3 @@ pub fn both<R: Threads + Wait + Sync>(rt: &R, alloc: Global) -> Option<Vec<u64>>
     hall.join(&mut first, b);
     Some(hall.close_with(first))
 }
-
-#[cfg(test)]
-mod tests;

@@ -2,7 +2,5 @@
 #![tactic(auto)]
 
 mod fact;
-#[cfg(test)]
-mod tests;
 
 pub use fact::{Fact, found};

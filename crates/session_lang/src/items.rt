@@ -92,8 +92,7 @@ impl ItemList {
         }
     }
 
-    /// How many bytes the items take, by count.
-    #[cfg(test)]
+    /// How many bytes the items take, by count; no clause speaks of it.
     pub fn bytes_kept(&self) -> usize {
         let Apart {
             names,

@@ -8,8 +8,6 @@ mod lines;
 mod packed;
 mod parser;
 mod script;
-#[cfg(test)]
-mod tests;
 
 pub use items::{ItemList, Items};
 pub use lines::line_of;

@@ -1,12 +1,9 @@
 //! Savepoints, snapshots and verdicts, command by command.
-use crate::test_help::{check_parts, check_report};
+use crate::test_help::check_rows;
 use std::test::Fail;
 
-#[test]
-fn undo_of_many_levels(rt: HostRuntime) -> Result<(), Fail> {
-    check_report(
-        &rt,
-        "a begin
+const ROWS: &str = "=== undo_of_many_levels
+a begin
 a write
 a save
 a save
@@ -24,8 +21,8 @@ b see s 3
 b see s 4
 b see s 5
 b see s 6
-",
-        "txid report 1
+--- report
+txid report 1
 life 1 from 0 next 3 oldest 3 multi 1 offset 1 oldest-multi 1 oldest-offset 1
 round 1
 a 1 begin -> ok
@@ -60,15 +57,8 @@ log flushed 2 end 80
 0 checkpoint next 3 oldest 3 multi 1 offset 1 oldest-multi 1 oldest-offset 1
 1 commit 3
 end
-",
-    )
-}
-
-#[test]
-fn snapshot_outlives_its_transaction(rt: HostRuntime) -> Result<(), Fail> {
-    check_report(
-        &rt,
-        "a begin
+=== snapshot_outlives_its_transaction
+a begin
 a write
 a snap s
 a save
@@ -84,8 +74,8 @@ a drop s
 a see s 3
 a snap s
 a see s 4
-",
-        "txid report 1
+--- report
+txid report 1
 life 1 from 0 next 3 oldest 3 multi 1 offset 1 oldest-multi 1 oldest-offset 1
 round 1
 a 1 begin -> ok
@@ -118,22 +108,15 @@ log flushed 2 end 88
 0 checkpoint next 3 oldest 3 multi 1 offset 1 oldest-multi 1 oldest-offset 1
 1 commit 3 4
 end
-",
-    )
-}
-
-#[test]
-fn aborted_savepoint_is_hidden(rt: HostRuntime) -> Result<(), Fail> {
-    check_report(
-        &rt,
-        "a begin
+=== aborted_savepoint_is_hidden
+a begin
 a save
 a write
 a abort
 b snap s
 b see s 4
-",
-        "txid report 1
+--- report
+txid report 1
 life 1 from 0 next 3 oldest 3 multi 1 offset 1 oldest-multi 1 oldest-offset 1
 round 1
 a 1 begin -> ok
@@ -152,44 +135,27 @@ log flushed 1 end 62
 0 checkpoint next 3 oldest 3 multi 1 offset 1 oldest-multi 1 oldest-offset 1
 1 abort 3 4
 end
-",
-    )
-}
-
-/// The full id near the xmax that ends so would be below 0.
-#[test]
-fn id_below_zero_is_too_old(rt: HostRuntime) -> Result<(), Fail> {
-    check_parts(
-        &rt,
-        ".start 10
+=== id_below_zero_is_too_old
+# The full id near the xmax that ends so would be below 0.
+.start 10
 a snap s
 a see s 4294967295
-",
-        &[
-            "
+--- part
 a 1 snap s -> ok xmin 10 xmax 10 xip - sub - overflow no
 a 2 see s 4294967295 -> too-old 3
 history
-",
-        ],
-    )
-}
-
-#[test]
-fn id_below_the_oldest_is_too_old(rt: HostRuntime) -> Result<(), Fail> {
-    check_parts(
-        &rt,
-        ".start 10
+=== id_below_the_oldest_is_too_old
+.start 10
 .oldest 10
 a snap s
 a see s 4
-",
-        &[
-            "
+--- part
 a 1 snap s -> ok xmin 10 xmax 10 xip - sub - overflow no
 a 2 see s 4 -> too-old 10
 history
-",
-        ],
-    )
+";
+
+#[test]
+fn commands(rt: HostRuntime) -> Result<(), Fail> {
+    check_rows(&rt, ROWS)
 }

@@ -1,13 +1,10 @@
 //! The oldest id is announced, by the rules of docs/SCRIPT-AND-REPORT.md.
-use crate::test_help::{check_parts, check_report};
+use crate::test_help::check_rows;
 use std::test::Fail;
 
-/// What lies before the announced id isn't told any more, and the id itself is.
-#[test]
-fn freeze_lets_old_ids_go(rt: HostRuntime) -> Result<(), Fail> {
-    check_report(
-        &rt,
-        "a begin
+const ROWS: &str = "=== freeze_lets_old_ids_go
+# What lies before the announced id isn't told any more, and the id itself is.
+a begin
 a write
 a commit
 b begin
@@ -20,8 +17,8 @@ a see s 3
 a see s 4
 a status 3
 a did 4
-",
-        "txid report 1
+--- report
+txid report 1
 life 1 from 0 next 3 oldest 3 multi 1 offset 1 oldest-multi 1 oldest-offset 1
 round 1
 a 1 begin -> ok
@@ -51,16 +48,10 @@ log flushed 3 end 98
 1 commit 3
 2 commit 4
 end
-",
-    )
-}
-
-/// The oldest id never falls, and doesn't pass the oldest xmin: neither a live snapshot's nor a running transaction's.
-#[test]
-fn freeze_is_refused(rt: HostRuntime) -> Result<(), Fail> {
-    check_parts(
-        &rt,
-        ".start 9
+=== freeze_is_refused
+# The oldest id never falls, and doesn't pass the oldest xmin: neither a live snapshot's nor a running
+# transaction's.
+.start 9
 .oldest 5
 a freeze 4
 a freeze 10
@@ -75,33 +66,21 @@ a write
 a freeze 11
 a freeze 10
 a freeze 9
-",
-        &[
-            "
+--- part
 a 1 freeze 4 -> backward 5
 a 2 freeze 10 -> too-new 9
-",
-            "
+--- part
 a 7 freeze 10 -> too-new 9
 a 8 drop s -> ok
-",
-            "
+--- part
 a 11 freeze 11 -> too-new 10
 a 12 freeze 10 -> ok
 a 13 freeze 9 -> backward 10
 history
-",
-        ],
-    )
-}
-
-/// The limits on ids go by the announced id. A commit whose record would leave the log without a base has the record of a
-/// truncation before its own.
-#[test]
-fn truncation_is_logged_before_a_commit(rt: HostRuntime) -> Result<(), Fail> {
-    check_report(
-        &rt,
-        ".start 2144483649
+=== truncation_is_logged_before_a_commit
+# The limits on ids go by the announced id. A commit whose record would leave the log without a base has the
+# record of a truncation before its own.
+.start 2144483649
 a begin
 a write
 a commit
@@ -113,8 +92,8 @@ a commit
 b snap s
 b see s 2144483650
 b see s 2144483649
-",
-        "txid report 1
+--- report
+txid report 1
 life 1 from 0 next 2144483649 oldest 3 multi 1 offset 1 oldest-multi 1 oldest-offset 1
 round 1
 a 1 begin -> ok
@@ -142,6 +121,9 @@ log flushed 4 end 123
 2 truncate 2144483650 1 1
 3 commit 2144483650
 end
-",
-    )
+";
+
+#[test]
+fn freezes(rt: HostRuntime) -> Result<(), Fail> {
+    check_rows(&rt, ROWS)
 }

@@ -1,21 +1,18 @@
-//! The oldest xmin, and that the number of banks changes no report.
-use crate::test_help::{check_parts, check_report};
+//! The oldest xmin, and commits over two pages, which lie in one bank or in two.
+use crate::test_help::check_rows;
 use std::test::Fail;
 
-/// No id from a live snapshot's xmin on is let go, whoever asks.
-#[test]
-fn snapshot_holds_the_horizon_back(rt: HostRuntime) -> Result<(), Fail> {
-    check_report(
-        &rt,
-        "a snap s
+const ROWS: &str = "=== snapshot_holds_the_horizon_back
+# No id from a live snapshot's xmin on is let go, whoever asks.
+a snap s
 a horizon
 .round
 b begin
 b write
 b commit
 b horizon
-",
-        "txid report 1
+--- report
+txid report 1
 life 1 from 0 next 3 oldest 3 multi 1 offset 1 oldest-multi 1 oldest-offset 1
 round 1
 a 1 snap s -> ok xmin 3 xmax 3 xip - sub - overflow no
@@ -34,16 +31,10 @@ log flushed 2 end 80
 0 checkpoint next 3 oldest 3 multi 1 offset 1 oldest-multi 1 oldest-offset 1
 1 commit 3
 end
-",
-    )
-}
-
-/// A running transaction holds it back too, and a savepoint in it doesn't; later ones that have ended don't let it go.
-#[test]
-fn running_transaction_holds_the_horizon_back(rt: HostRuntime) -> Result<(), Fail> {
-    check_parts(
-        &rt,
-        "a begin
+=== running_transaction_holds_the_horizon_back
+# A running transaction holds it back too, and a savepoint in it doesn't; later ones that have ended don't let
+# it go.
+a begin
 a write
 a save
 a write
@@ -56,27 +47,16 @@ b horizon
 a commit
 .round
 b horizon
-",
-        &[
-            "
+--- part
 b 3 commit -> ok
 b 4 horizon -> ok 3
 round 3
-",
-            "
+--- part
 b 5 horizon -> ok 6
 history
-",
-        ],
-    )
-}
-
-/// A dropped snapshot lets it go on, to the next snapshot's xmax.
-#[test]
-fn dropped_snapshot_lets_the_horizon_go(rt: HostRuntime) -> Result<(), Fail> {
-    check_parts(
-        &rt,
-        "a snap s
+=== dropped_snapshot_lets_the_horizon_go
+# A dropped snapshot lets it go on, to the next snapshot's xmax.
+a snap s
 .round
 b begin
 b write
@@ -85,28 +65,23 @@ b abort
 a horizon
 a drop s
 a horizon
-",
-        &[
-            "
+--- part
 a 2 horizon -> ok 3
 a 3 drop s -> ok
 a 4 horizon -> ok 4
 history
-",
-        ],
-    )
-}
-
-const OVER_TWO_PAGES: &str = "a begin
+=== banks_change_no_report
+# A commit over two pages, which lie in one bank or in two.
+.start 32767
+a begin
 a save
 a write
 a commit
 b snap s
 b see s 32767
 b see s 32768
-";
-
-const TWO_PAGES_REPORT: &str = "txid report 1
+--- report
+txid report 1
 life 1 from 0 next 32767 oldest 3 multi 1 offset 1 oldest-multi 1 oldest-offset 1
 round 1
 a 1 begin -> ok
@@ -128,12 +103,7 @@ log flushed 2 end 88
 end
 ";
 
-/// A commit over two pages, which lie in one bank or in two.
 #[test]
-fn banks_change_no_report(rt: HostRuntime) -> Result<(), Fail> {
-    for banks in [1, 2, 16] {
-        let script = format!(in rt.alloc(); ".start 32767\n.banks {banks}\n{OVER_TWO_PAGES}")?;
-        check_report(&rt, script.as_str(), TWO_PAGES_REPORT)?;
-    }
-    Ok(())
+fn horizons(rt: HostRuntime) -> Result<(), Fail> {
+    check_rows(&rt, ROWS)
 }

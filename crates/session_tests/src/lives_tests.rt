@@ -1,14 +1,12 @@
 //! Lives, one behind a crash of the other.
-use crate::test_help::{check_parts, check_report, check_run};
+use crate::test_help::check_rows;
 use std::test::Fail;
 
-/// A crash is followed by an opening also where it is the script's last line.
-#[test]
-fn a_crash_begins_a_life(rt: HostRuntime) -> Result<(), Fail> {
-    check_report(
-        &rt,
-        ".crash torn\n",
-        "txid report 1
+const ROWS: &str = "=== a_crash_begins_a_life
+# A crash is followed by an opening also where it is the script's last line.
+.crash torn
+--- report
+txid report 1
 life 1 from 0 next 3 oldest 3 multi 1 offset 1 oldest-multi 1 oldest-offset 1
 history
 multis
@@ -21,16 +19,9 @@ multis
 log flushed 2 end 124
 1 checkpoint next 3 oldest 3 multi 1 offset 1 oldest-multi 1 oldest-offset 1
 end
-",
-    )
-}
-
-/// An id that no record tells of is given again. Sessions, commands and rounds count anew.
-#[test]
-fn an_id_that_was_not_logged_is_given_again(rt: HostRuntime) -> Result<(), Fail> {
-    check_report(
-        &rt,
-        "a begin
+=== an_id_that_was_not_logged_is_given_again
+# An id that no record tells of is given again. Sessions, commands and rounds count anew.
+a begin
 a write
 a commit
 .round
@@ -39,8 +30,8 @@ a write
 .crash lost
 b begin
 b write
-",
-        "txid report 1
+--- report
+txid report 1
 life 1 from 0 next 3 oldest 3 multi 1 offset 1 oldest-multi 1 oldest-offset 1
 round 1
 a 1 begin -> ok
@@ -68,16 +59,9 @@ multis
 log flushed 3 end 142
 2 checkpoint next 4 oldest 3 multi 1 offset 1 oldest-multi 1 oldest-offset 1
 end
-",
-    )
-}
-
-/// What a life's commits and truncations left on disk is there in each later one.
-#[test]
-fn lives_go_on_from_what_is_on_disk(rt: HostRuntime) -> Result<(), Fail> {
-    check_parts(
-        &rt,
-        ".start 2144483649
+=== lives_go_on_from_what_is_on_disk
+# What a life's commits and truncations left on disk is there in each later one.
+.start 2144483649
 a begin
 a write
 a commit
@@ -94,29 +78,26 @@ b commit
 c snap s
 c see s 2144483650
 c see s 2144483651
-",
-        &[
-            "2 truncate 2144483650 1 1\n",
-            "life 2 from 4 next 2144483651 oldest 2144483650 multi 1",
-            "b 2 write -> ok 2144483651\n",
-            "life 3 from 6 next 2144483652 oldest 2144483650 multi 1",
-            "life 4 from 7 next 2144483652 oldest 2144483650 multi 1",
-            "c 1 snap s -> ok xmin 2144483652 xmax 2144483652 xip - sub - overflow no\n",
-            "c 2 see s 2144483650 -> visible\nc 3 see s 2144483651 -> visible\n",
-            "log flushed 8 end 327\n7 checkpoint next 2144483652",
-        ],
-    )
-}
+--- part
+2 truncate 2144483650 1 1
+--- part
+life 2 from 4 next 2144483651 oldest 2144483650 multi 1 offset 1 oldest-multi 1 oldest-offset 1
+--- part
+b 2 write -> ok 2144483651
+--- part
+life 3 from 6 next 2144483652 oldest 2144483650 multi 1 offset 1 oldest-multi 1 oldest-offset 1
+--- part
+life 4 from 7 next 2144483652 oldest 2144483650 multi 1 offset 1 oldest-multi 1 oldest-offset 1
+--- part
+c 1 snap s -> ok xmin 2144483652 xmax 2144483652 xip - sub - overflow no
+c 2 see s 2144483650 -> visible
+c 3 see s 2144483651 -> visible
+--- part
+log flushed 8 end 327
+7 checkpoint next 2144483652 oldest 2144483650 multi 1 offset 1 oldest-multi 1 oldest-offset 1
+";
 
-/// The life that crashed is written before the next one is opened: a sink that is full then holds no more.
 #[test]
-fn a_life_is_written_before_its_crash(rt: HostRuntime) -> Result<(), Fail> {
-    check_run(
-        &rt,
-        "run",
-        ".crash lost\n.crash kept\n",
-        Vec::new(rt.alloc()),
-        14,
-        (4, "txid report 1\n"),
-    )
+fn lives(rt: HostRuntime) -> Result<(), Fail> {
+    check_rows(&rt, ROWS)
 }

@@ -1,23 +1,9 @@
 //! Rounds, limits, and commands many times over.
-use crate::test_help::{check_parts, check_report};
-use std::alloc::Global;
+use crate::test_help::check_rows;
 use std::test::Fail;
 
-/// A line so many times, between two texts.
-fn repeated(alloc: Global, head: &str, line: &str, count: u32, tail: &str) -> Result<String, Fail> {
-    let mut script = String::from_str(alloc, head)?;
-    for _ in 0..count {
-        script.push_str(line)?;
-    }
-    script.push_str(tail)?;
-    Ok(script)
-}
-
-#[test]
-fn undone_savepoint_is_hidden(rt: HostRuntime) -> Result<(), Fail> {
-    check_report(
-        &rt,
-        "a begin
+const ROWS: &str = "=== undone_savepoint_is_hidden
+a begin
 a write
 a save
 a write
@@ -28,8 +14,8 @@ a commit
 a snap s
 a see s 4
 a see s 5
-",
-        "txid report 1
+--- report
+txid report 1
 life 1 from 0 next 3 oldest 3 multi 1 offset 1 oldest-multi 1 oldest-offset 1
 round 1
 a 1 begin -> ok
@@ -55,15 +41,8 @@ log flushed 2 end 88
 0 checkpoint next 3 oldest 3 multi 1 offset 1 oldest-multi 1 oldest-offset 1
 1 commit 3 5
 end
-",
-    )
-}
-
-#[test]
-fn xmax_past_running_top(rt: HostRuntime) -> Result<(), Fail> {
-    check_report(
-        &rt,
-        "a begin
+=== xmax_past_running_top
+a begin
 a write
 .round
 c begin
@@ -73,8 +52,8 @@ c commit
 a snap s
 a commit
 a see s 3
-",
-        "txid report 1
+--- report
+txid report 1
 life 1 from 0 next 3 oldest 3 multi 1 offset 1 oldest-multi 1 oldest-offset 1
 round 1
 a 1 begin -> ok
@@ -99,15 +78,8 @@ log flushed 3 end 98
 1 commit 4
 2 commit 3
 end
-",
-    )
-}
-
-#[test]
-fn every_session_refusal(rt: HostRuntime) -> Result<(), Fail> {
-    check_report(
-        &rt,
-        "a commit
+=== every_session_refusal
+a commit
 a undo
 a begin
 a begin
@@ -124,8 +96,8 @@ a undo
 a undo
 a abort
 a abort
-",
-        "txid report 1
+--- report
+txid report 1
 life 1 from 0 next 3 oldest 3 multi 1 offset 1 oldest-multi 1 oldest-offset 1
 round 1
 a 1 commit -> no-transaction
@@ -152,16 +124,9 @@ multis
 log flushed 1 end 62
 0 checkpoint next 3 oldest 3 multi 1 offset 1 oldest-multi 1 oldest-offset 1
 end
-",
-    )
-}
-
-/// A round takes its sessions in the order in which they first appear there, and an empty one isn't told.
-#[test]
-fn rounds_have_orders_of_their_own(rt: HostRuntime) -> Result<(), Fail> {
-    check_parts(
-        &rt,
-        ".round
+=== rounds_have_orders_of_their_own
+# A round takes its sessions in the order in which they first appear there, and an empty one isn't told.
+.round
 a begin
 b begin
 .round
@@ -170,9 +135,7 @@ b write
 a write
 b commit
 .round
-",
-        &[
-            "
+--- part
 round 1
 a 1 begin -> ok
 b 1 begin -> ok
@@ -181,16 +144,8 @@ b 2 write -> ok 3
 b 3 commit -> ok
 a 2 write -> ok 4
 history
-",
-        ],
-    )
-}
-
-#[test]
-fn ids_wrap_around(rt: HostRuntime) -> Result<(), Fail> {
-    check_parts(
-        &rt,
-        ".start 4294967294
+=== ids_wrap_around
+.start 4294967294
 .oldest 4294967290
 a begin
 a write
@@ -204,9 +159,8 @@ a commit
 a snap s
 a see s 3
 a see s 4294967295
-",
-        &[
-            "life 1 from 0 next 4294967294 oldest 4294967290 multi 1 offset 1 oldest-multi 1 oldest-offset 1
+--- part
+life 1 from 0 next 4294967294 oldest 4294967290 multi 1 offset 1 oldest-multi 1 oldest-offset 1
 round 1
 a 1 begin -> ok
 a 2 write -> ok 4294967294
@@ -220,109 +174,113 @@ a 9 commit -> ok
 a 10 snap s -> ok xmin 4294967300 xmax 4294967300 xip - sub - overflow no
 a 11 see s 3 -> visible
 a 12 see s 4294967295 -> visible
-",
-        ],
-    )
-}
-
-#[test]
-fn id_warn_limit(rt: HostRuntime) -> Result<(), Fail> {
-    check_parts(
-        &rt,
-        ".start 2107483649
+=== id_warn_limit
+.start 2107483649
 a begin
 a write
 a commit
 a begin
 a write
-",
-        &[
-            "a 2 write -> ok 2107483649
+--- part
+a 2 write -> ok 2107483649
 a 3 commit -> ok
 a 4 begin -> ok
 a 5 write -> ok 2107483650 warn
-",
-        ],
-    )
-}
-
-#[test]
-fn id_stop_limit(rt: HostRuntime) -> Result<(), Fail> {
-    check_parts(
-        &rt,
-        ".start 2144483649
+=== id_stop_limit
+.start 2144483649
 a begin
 a write
 a commit
 a begin
 a write
-",
-        &[
-            "a 2 write -> ok 2144483649 warn
+--- part
+a 2 write -> ok 2144483649 warn
 a 3 commit -> ok
 a 4 begin -> ok
 a 5 write -> stop 2144483650 2144483650
-",
-        ],
-    )
-}
-
-#[test]
-fn savepoint_1001_is_refused(rt: HostRuntime) -> Result<(), Fail> {
-    let alloc = rt.alloc();
-    let script = repeated(alloc, "a begin\n", "a save\n", 1_001, "")?;
-    check_parts(
-        &rt,
-        script.as_str(),
-        &[
-            "a 1001 save -> ok
+=== savepoint_1001_is_refused
+a begin
+1001 times a save
+--- part
+a 1001 save -> ok
 a 1002 save -> depth-limit
-",
-        ],
-    )
-}
-
-/// Adds eight commands that take snapshots, whose names begin so.
-fn push_snaps(script: &mut String, front: &str) -> Result<(), Fail> {
-    for digit in ["0", "1", "2", "3", "4", "5", "6", "7"] {
-        script.push_str("a snap ")?;
-        script.push_str(front)?;
-        script.push_str(digit)?;
-        script.push_str("\n")?;
-    }
-    Ok(())
-}
-
-#[test]
-fn snapshot_65_is_refused(rt: HostRuntime) -> Result<(), Fail> {
-    let alloc = rt.alloc();
-    let mut script = String::new(alloc);
-    for front in ["s", "ss", "sss", "t", "tt", "ttt", "u", "uu"] {
-        push_snaps(&mut script, front)?;
-    }
-    script.push_str("a snap t\na drop sss7\na snap t\n")?;
-    check_parts(
-        &rt,
-        script.as_str(),
-        &[
-            "a 65 snap t -> snap-limit
+=== snapshot_65_is_refused
+a snap s0
+a snap s1
+a snap s2
+a snap s3
+a snap s4
+a snap s5
+a snap s6
+a snap s7
+a snap ss0
+a snap ss1
+a snap ss2
+a snap ss3
+a snap ss4
+a snap ss5
+a snap ss6
+a snap ss7
+a snap sss0
+a snap sss1
+a snap sss2
+a snap sss3
+a snap sss4
+a snap sss5
+a snap sss6
+a snap sss7
+a snap t0
+a snap t1
+a snap t2
+a snap t3
+a snap t4
+a snap t5
+a snap t6
+a snap t7
+a snap tt0
+a snap tt1
+a snap tt2
+a snap tt3
+a snap tt4
+a snap tt5
+a snap tt6
+a snap tt7
+a snap ttt0
+a snap ttt1
+a snap ttt2
+a snap ttt3
+a snap ttt4
+a snap ttt5
+a snap ttt6
+a snap ttt7
+a snap u0
+a snap u1
+a snap u2
+a snap u3
+a snap u4
+a snap u5
+a snap u6
+a snap u7
+a snap uu0
+a snap uu1
+a snap uu2
+a snap uu3
+a snap uu4
+a snap uu5
+a snap uu6
+a snap uu7
+a snap t
+a drop sss7
+a snap t
+--- part
+a 65 snap t -> snap-limit
 a 66 drop sss7 -> ok
 a 67 snap t -> ok xmin 3 xmax 3 xip - sub - overflow no
-",
-        ],
-    )
-}
-
-/// With 64 running subtransactions a snapshot still lists all; the 65th takes them out, and parents are asked.
-#[test]
-fn snapshot_overflows_at_65_subids(rt: HostRuntime) -> Result<(), Fail> {
-    let alloc = rt.alloc();
-    let script = repeated(
-        alloc,
-        "a begin\n",
-        "a save\n",
-        64,
-        "a write
+=== snapshot_overflows_at_65_subids
+# With 64 running subtransactions a snapshot still lists all; the 65th takes them out, and parents are asked.
+a begin
+64 times a save
+a write
 .round
 c begin
 c write
@@ -349,16 +307,11 @@ a commit
 b see t 67
 b snap u
 b see u 67
-",
-    )?;
-    check_parts(
-        &rt,
-        script.as_str(),
-        &[
-            " 65 66 67 overflow no
+--- part
+b 1 snap s -> ok xmin 3 xmax 69 xip 3 sub 4 5 6 7 8 9 10 11 12 13 14 15 16 17 18 19 20 21 22 23 24 25 26 27 28 29 30 31 32 33 34 35 36 37 38 39 40 41 42 43 44 45 46 47 48 49 50 51 52 53 54 55 56 57 58 59 60 61 62 63 64 65 66 67 overflow no
 round 4
-",
-            "b 2 snap t -> ok xmin 3 xmax 71 xip 3 sub - overflow yes
+--- part
+b 2 snap t -> ok xmin 3 xmax 71 xip 3 sub - overflow yes
 b 3 see s 67 -> hidden
 b 4 see t 67 -> hidden
 b 5 see t 69 -> hidden
@@ -370,7 +323,9 @@ round 8
 b 8 see t 67 -> hidden
 b 9 snap u -> ok xmin 71 xmax 71 xip - sub - overflow no
 b 10 see u 67 -> visible
-",
-        ],
-    )
+";
+
+#[test]
+fn rounds(rt: HostRuntime) -> Result<(), Fail> {
+    check_rows(&rt, ROWS)
 }

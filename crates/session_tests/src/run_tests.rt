@@ -1,35 +1,32 @@
 //! The first worked runs, and how a run ends otherwise.
-use crate::test_help::{check_report, check_run, status_of};
+use crate::test_help::{check_rows, run_words, status_of};
+use engine_parts::OpenGate;
+use script_rounds::RoundThreads;
+use std::alloc::{AllocGlobal, Global};
+use std::process::Abort;
+use std::str::SplitWhitespace;
+use std::sync::Wait;
 use std::test::Fail;
+use std::thread::Threads;
 use tx_io::{Failed, MemSink, MemSource, Source};
 
-#[test]
-fn empty_script(rt: HostRuntime) -> Result<(), Fail> {
-    check_report(
-        &rt,
-        "",
-        "txid report 1
+const ROWS: &str = "=== empty_script
+--- report
+txid report 1
 life 1 from 0 next 3 oldest 3 multi 1 offset 1 oldest-multi 1 oldest-offset 1
 history
 multis
 log flushed 1 end 62
 0 checkpoint next 3 oldest 3 multi 1 offset 1 oldest-multi 1 oldest-offset 1
 end
-",
-    )
-}
-
-#[test]
-fn commit_is_visible(rt: HostRuntime) -> Result<(), Fail> {
-    check_report(
-        &rt,
-        "a begin
+=== commit_is_visible
+a begin
 a write
 a commit
 a snap s
 a see s 3
-",
-        "txid report 1
+--- report
+txid report 1
 life 1 from 0 next 3 oldest 3 multi 1 offset 1 oldest-multi 1 oldest-offset 1
 round 1
 a 1 begin -> ok
@@ -46,21 +43,14 @@ log flushed 2 end 80
 0 checkpoint next 3 oldest 3 multi 1 offset 1 oldest-multi 1 oldest-offset 1
 1 commit 3
 end
-",
-    )
-}
-
-#[test]
-fn commit_after_snapshot_is_hidden(rt: HostRuntime) -> Result<(), Fail> {
-    check_report(
-        &rt,
-        "a begin
+=== commit_after_snapshot_is_hidden
+a begin
 a write
 a snap s
 a commit
 a see s 3
-",
-        "txid report 1
+--- report
+txid report 1
 life 1 from 0 next 3 oldest 3 multi 1 offset 1 oldest-multi 1 oldest-offset 1
 round 1
 a 1 begin -> ok
@@ -77,20 +67,13 @@ log flushed 2 end 80
 0 checkpoint next 3 oldest 3 multi 1 offset 1 oldest-multi 1 oldest-offset 1
 1 commit 3
 end
-",
-    )
-}
-
-#[test]
-fn special_ids(rt: HostRuntime) -> Result<(), Fail> {
-    check_report(
-        &rt,
-        "a snap s
+=== special_ids
+a snap s
 a see s 0
 a see s 1
 a see s 2
-",
-        "txid report 1
+--- report
+txid report 1
 life 1 from 0 next 3 oldest 3 multi 1 offset 1 oldest-multi 1 oldest-offset 1
 round 1
 a 1 snap s -> ok xmin 3 xmax 3 xip - sub - overflow no
@@ -103,16 +86,9 @@ multis
 log flushed 1 end 62
 0 checkpoint next 3 oldest 3 multi 1 offset 1 oldest-multi 1 oldest-offset 1
 end
-",
-    )
-}
-
-/// An aborted transaction's record waits for the next flush: three aborts of 13 bytes and a commit in one batch.
-#[test]
-fn abort_records_wait_for_a_flush(rt: HostRuntime) -> Result<(), Fail> {
-    check_report(
-        &rt,
-        "a begin
+=== abort_records_wait_for_a_flush
+# An aborted transaction's record waits for the next flush: three aborts of 13 bytes and a commit in one batch.
+a begin
 a write
 a abort
 b begin
@@ -121,8 +97,8 @@ b commit
 c begin
 c write
 c abort
-",
-        "txid report 1
+--- report
+txid report 1
 life 1 from 0 next 3 oldest 3 multi 1 offset 1 oldest-multi 1 oldest-offset 1
 round 1
 a 1 begin -> ok
@@ -148,71 +124,88 @@ log flushed 3 end 93
 2 commit 4
 3 abort 5
 end
-",
-    )
+";
+
+#[test]
+fn first_runs(rt: HostRuntime) -> Result<(), Fail> {
+    check_rows(&rt, ROWS)
 }
 
-/// None of the source's bytes are read.
-#[test]
-fn other_words_are_refused(rt: HostRuntime) -> Result<(), Fail> {
+/// Runs that end otherwise: behind each script the status, the room of the sink, which read fails if one does, and the
+/// text of which the sink holds as much as it has room for.
+const ENDINGS: &str = "=== bytes_that_are_no_script_are_refused
+a begin
+a frob
+--- 1 100 0
+script 2 command
+=== first_line_that_the_run_lacks_is_refused
+# It stands in the grammar, and the run doesn't have it.
+.banks 2
+
+a begin
+a trim
+.checkpoint
+--- 1 100 0
+script 5 command
+=== a_dump_that_the_run_lacks
+# Pages of multixacts aren't shown yet.
+a begin
+.dump offsets 0 0 8
+--- 1 100 0
+script 3 command
+=== a_failing_read_is_a_read_fault
+a begin
+--- 3 100 1
+read-fault
+=== a_sink_of_twenty_holds_the_front_of_the_report
+--- 4 20 0
+txid report 1
+life 1 from 0 next 3
+=== a_life_is_written_before_its_crash
+# The life that crashed is written before the next one is opened: a sink that is full then holds no more.
+.crash lost
+.crash kept
+--- 4 14 0
+txid report 1
+life 1 from 0 next 3
+";
+
+fn next_number(words: &mut SplitWhitespace<'_>) -> Result<u64, Fail> {
+    let word = words.next().ok_or("a number is missing")?;
+    Ok(word.parse::<u64>().ok().ok_or("no number")?)
+}
+
+/// A run of the script ends as the row says.
+fn check_ending(
+    rt: &(impl Abort + AllocGlobal + Threads + Wait + Sync),
+    row: &str,
+) -> Result<(), Fail> {
     let alloc = rt.alloc();
-    check_run(&rt, "runs", "", Vec::new(alloc), 100, (2, "words\n"))?;
-    let mut source = MemSource::new(Vec::from_slice(alloc, b"a begin\n")?, Vec::new(alloc));
-    let mut sink = MemSink::new(alloc, 100, Vec::new(alloc))?;
-    let two = [
-        String::from_str(alloc, "run")?,
-        String::from_str(alloc, "now")?,
-    ];
-    assert_eq!(rt; status_of(&rt, &two, &mut source, &mut sink), 2);
-    assert_eq!(rt; sink.held(), b"words\n".as_slice());
-    let mut unread = [0; 16];
-    assert_eq!(rt; source.read(&mut unread), Ok(8));
+    let (front, behind) = row.split_once("--- ").ok_or("a row without an end")?;
+    let (name, script) = front.split_once("\n").ok_or("a row without a name")?;
+    let (numbers, text) = behind.split_once("\n").ok_or("a row without a text")?;
+    let mut numbers = numbers.split_whitespace();
+    let wanted = next_number(&mut numbers)?;
+    let room = next_number(&mut numbers)?;
+    let failing = vec![in alloc; next_number(&mut numbers)?]?;
+    let mut source = MemSource::new(Vec::from_slice(alloc, script.as_bytes())?, failing);
+    let words = [String::from_str(alloc, "run")?];
+    let (status, written) = run_words(rt, &words, &mut source, room)?;
+    assert!(rt; text.starts_with(written.as_str()), "{name}: {written}");
+    let fits = text.len() as u64;
+    assert_eq!(rt; written.len() as u64, fits.min(room), "{name}");
+    assert_eq!(rt; u64::from(status), wanted, "{name}");
     Ok(())
 }
 
 #[test]
-fn bytes_that_are_no_script_are_refused(rt: HostRuntime) -> Result<(), Fail> {
-    let script = "a begin\na frob\n";
-    check_run(
-        &rt,
-        "run",
-        script,
-        Vec::new(rt.alloc()),
-        100,
-        (1, "script 2 command\n"),
-    )
-}
-
-/// They stand in the grammar, and the run doesn't have them.
-#[test]
-fn first_line_that_the_run_lacks_is_refused(rt: HostRuntime) -> Result<(), Fail> {
-    let script = "# a line\n.banks 2\n\na begin\na trim\n.checkpoint\n";
-    check_run(
-        &rt,
-        "run",
-        script,
-        Vec::new(rt.alloc()),
-        100,
-        (1, "script 5 command\n"),
-    )
-}
-
-#[test]
-fn a_failing_read_is_a_read_fault(rt: HostRuntime) -> Result<(), Fail> {
-    let failing = vec![in rt.alloc(); 1]?;
-    check_run(&rt, "run", "a begin\n", failing, 100, (3, "read-fault\n"))
-}
-
-#[test]
-fn a_sink_of_twenty_holds_the_front_of_the_report(rt: HostRuntime) -> Result<(), Fail> {
-    check_run(
-        &rt,
-        "run",
-        "",
-        Vec::new(rt.alloc()),
-        20,
-        (4, "txid report 1\nlife 1"),
-    )
+fn runs_that_end_otherwise(rt: HostRuntime) -> Result<(), Fail> {
+    for row in ENDINGS.split("=== ") {
+        if !row.is_empty() {
+            check_ending(&rt, row)?;
+        }
+    }
+    Ok(())
 }
 
 /// A source that never ends.
@@ -244,7 +237,9 @@ fn script_past_the_limit_is_refused(rt: HostRuntime) -> Result<(), Fail> {
     let alloc = rt.alloc();
     let mut sink = MemSink::new(alloc, 100, Vec::new(alloc))?;
     let words = [String::from_str(alloc, "run")?];
-    assert_eq!(rt; status_of(&rt, &words, &mut Endless, &mut sink), 1);
+    let threads = RoundThreads::AtMost(4);
+    let status = status_of(&rt, &words, &mut Endless, &mut sink, threads, &OpenGate);
+    assert_eq!(rt; status, 1);
     assert_eq!(rt; sink.held(), b"script 0 size\n".as_slice());
     Ok(())
 }

@@ -1,12 +1,9 @@
 //! How ids stand: the status of an id at its question, by the rules of docs/SCRIPT-AND-REPORT.md.
-use crate::test_help::check_report;
+use crate::test_help::check_rows;
 use std::test::Fail;
 
-#[test]
-fn status_follows_the_transaction(rt: HostRuntime) -> Result<(), Fail> {
-    check_report(
-        &rt,
-        "a begin
+const ROWS: &str = "=== status_follows_the_transaction
+a begin
 a write
 a status 3
 a commit
@@ -15,8 +12,8 @@ b begin
 b write
 b abort
 b status 4
-",
-        "txid report 1
+--- report
+txid report 1
 life 1 from 0 next 3 oldest 3 multi 1 offset 1 oldest-multi 1 oldest-offset 1
 round 1
 a 1 begin -> ok
@@ -42,15 +39,8 @@ log flushed 2 end 80
 1 commit 3
 2 abort 4
 end
-",
-    )
-}
-
-#[test]
-fn undone_savepoint_is_aborted_while_its_transaction_runs(rt: HostRuntime) -> Result<(), Fail> {
-    check_report(
-        &rt,
-        "a begin
+=== undone_savepoint_is_aborted_while_its_transaction_runs
+a begin
 a save
 a write
 a status 4
@@ -60,8 +50,8 @@ a status 3
 a commit
 a status 4
 a status 3
-",
-        "txid report 1
+--- report
+txid report 1
 life 1 from 0 next 3 oldest 3 multi 1 offset 1 oldest-multi 1 oldest-offset 1
 round 1
 a 1 begin -> ok
@@ -89,20 +79,13 @@ log flushed 2 end 80
 0 checkpoint next 3 oldest 3 multi 1 offset 1 oldest-multi 1 oldest-offset 1
 1 commit 3
 end
-",
-    )
-}
-
-#[test]
-fn special_ids_are_asked_for_by_no_event(rt: HostRuntime) -> Result<(), Fail> {
-    check_report(
-        &rt,
-        "a status 0
+=== special_ids_are_asked_for_by_no_event
+a status 0
 a status 1
 a status 2
 a status 3
-",
-        "txid report 1
+--- report
+txid report 1
 life 1 from 0 next 3 oldest 3 multi 1 offset 1 oldest-multi 1 oldest-offset 1
 round 1
 a 1 status 0 -> aborted
@@ -115,21 +98,14 @@ multis
 log flushed 1 end 62
 0 checkpoint next 3 oldest 3 multi 1 offset 1 oldest-multi 1 oldest-offset 1
 end
-",
-    )
-}
-
-#[test]
-fn status_below_the_oldest_is_too_old(rt: HostRuntime) -> Result<(), Fail> {
-    check_report(
-        &rt,
-        ".start 9
+=== status_below_the_oldest_is_too_old
+.start 9
 .oldest 5
 a status 4
 a status 5
 a status 8
-",
-        "txid report 1
+--- report
+txid report 1
 life 1 from 0 next 9 oldest 5 multi 1 offset 1 oldest-multi 1 oldest-offset 1
 round 1
 a 1 status 4 -> too-old 5
@@ -143,6 +119,9 @@ multis
 log flushed 1 end 62
 0 checkpoint next 9 oldest 5 multi 1 offset 1 oldest-multi 1 oldest-offset 1
 end
-",
-    )
+";
+
+#[test]
+fn statuses(rt: HostRuntime) -> Result<(), Fail> {
+    check_rows(&rt, ROWS)
 }

@@ -1,4 +1,4 @@
-//! What the tests share: runs of the tool on a script in memory, and what they are held against.
+//! What the tests share: runs of the tool on a script in memory, and rows of text that they are held against.
 use disk_core::MemMedia;
 use engine_parts::{Gate, OpenGate};
 use report_check::check_tool;
@@ -11,19 +11,48 @@ use std::test::Fail;
 use std::thread::Threads;
 use tx_io::{MemSink, MemSource, Sink, Source};
 
-/// The tool over a new media in memory, without its contract, so that a test proves no more than that it is safe. The
-/// sessions of a round share at most four threads.
-pub fn status_of<R: AllocGlobal + Threads + Wait + Sync, S: Source, K: Sink>(
-    rt: &R,
+/// The tool over a new media in memory, without its contract, so that a test proves no more than that it is safe.
+pub fn status_of<S: Source, K: Sink, G: Gate + Sync>(
+    rt: &(impl AllocGlobal + Threads + Wait + Sync),
     words: &[String],
     source: &mut S,
     sink: &mut K,
+    threads: RoundThreads,
+    gate: &G,
 ) -> u8 {
     let alloc = rt.alloc();
     let mut media = MemMedia::new(alloc);
-    let threads = RoundThreads::AtMost(4);
-    run_tool(
-        rt, alloc, words, source, sink, &mut media, threads, &OpenGate,
+    run_tool(rt, alloc, words, source, sink, &mut media, threads, gate)
+}
+
+/// The same over a source and a sink in memory, the sessions of a round on at most four threads. Answers the status and
+/// what the sink holds then.
+pub fn run_words(
+    rt: &(impl AllocGlobal + Threads + Wait + Sync),
+    words: &[String],
+    source: &mut MemSource,
+    room: u64,
+) -> Result<(u8, String), Fail> {
+    let alloc = rt.alloc();
+    let mut sink = MemSink::new(alloc, room, Vec::new(alloc))?;
+    let status = status_of(
+        rt,
+        words,
+        source,
+        &mut sink,
+        RoundThreads::AtMost(4),
+        &OpenGate,
+    );
+    Ok((status, text_of(alloc, sink.held())?))
+}
+
+/// Bytes that were written, as text.
+fn text_of(alloc: Global, bytes: &[u8]) -> Result<String, Fail> {
+    let held = Vec::from_slice(alloc, bytes)?;
+    Ok(
+        String::from_utf8(held)
+            .ok()
+            .ok_or("what was written isn't text")?,
     )
 }
 
@@ -35,70 +64,13 @@ pub fn report_past<G: Gate + Sync>(
     gate: &G,
 ) -> Result<String, Fail> {
     let alloc = rt.alloc();
-    let mut words = Vec::new(alloc);
-    words.push(String::from_str(alloc, "run")?)?;
+    let words = [String::from_str(alloc, "run")?];
     let mut source = MemSource::new(Vec::from_slice(alloc, script.as_bytes())?, Vec::new(alloc));
     let mut sink = MemSink::new(alloc, 100_000, Vec::new(alloc))?;
-    let mut media = MemMedia::new(alloc);
-    let words = words.as_slice();
-    let status = run_tool(
-        rt,
-        alloc,
-        words,
-        &mut source,
-        &mut sink,
-        &mut media,
-        threads,
-        gate,
-    );
-    if status != 0 {
-        return Err(Fail::from("the status isn't 0"));
+    match status_of(rt, &words, &mut source, &mut sink, threads, gate) {
+        0 => text_of(alloc, sink.held()),
+        _ => Err(Fail::from("the status isn't 0")),
     }
-    let held = Vec::from_slice(alloc, sink.held())?;
-    Ok(String::from_utf8(held).ok().ok_or("the report isn't text")?)
-}
-
-/// Runs the tool with these words on a script, into a sink with this room, where these reads fail. Answers the status
-/// and the bytes held.
-fn run(
-    rt: &(impl AllocGlobal + Threads + Wait + Sync),
-    words: &[&str],
-    script: &str,
-    failing: Vec<u64>,
-    room: u64,
-) -> Result<(u8, Vec<u8>), Fail> {
-    let alloc = rt.alloc();
-    let mut source = MemSource::new(Vec::from_slice(alloc, script.as_bytes())?, failing);
-    let mut sink = MemSink::new(alloc, room, Vec::new(alloc))?;
-    let mut all = Vec::new(alloc);
-    for word in words {
-        all.push(String::from_str(alloc, *word)?)?;
-    }
-    let status = status_of(rt, all.as_slice(), &mut source, &mut sink);
-    Ok((status, Vec::from_slice(alloc, sink.held())?))
-}
-
-/// Runs the tool with these words over a source that can't be read. Answers the status and the bytes held.
-pub fn run_unread(
-    rt: &(impl AllocGlobal + Threads + Wait + Sync),
-    words: &[&str],
-) -> Result<(u8, Vec<u8>), Fail> {
-    run(rt, words, "a begin\n", vec![in rt.alloc(); 1]?, 200)
-}
-
-/// Such a run ends with this status and holds these bytes.
-pub fn check_run(
-    rt: &(impl Abort + AllocGlobal + Threads + Wait + Sync),
-    word: &str,
-    script: &str,
-    failing: Vec<u64>,
-    room: u64,
-    wanted: (u8, &str),
-) -> Result<(), Fail> {
-    let (status, held) = run(rt, &[word], script, failing, room)?;
-    assert_eq!(rt; status, wanted.0);
-    assert_eq!(rt; held.as_slice(), wanted.1.as_bytes());
-    Ok(())
 }
 
 /// Whether the checker calls the report lawful.
@@ -108,42 +80,56 @@ pub fn is_lawful(alloc: Global, report: &str) -> Result<bool, Fail> {
     Ok(check_tool(alloc, &mut source, &mut sink) == 0 && sink.held() == b"lawful\n".as_slice())
 }
 
-/// The report that a run of the script writes, with status 0. It is lawful to the checker.
-fn report_of(
-    rt: &(impl AllocGlobal + Threads + Wait + Sync),
-    script: &str,
-) -> Result<String, Fail> {
-    let (status, held) = run(rt, &["run"], script, Vec::new(rt.alloc()), 100_000)?;
-    if status != 0 {
-        return Err(Fail::from("the status isn't 0"));
+/// The script of a row, in which `N times LINE` stands for a line so often, behind these lines.
+fn written_out(alloc: Global, front: &str, script: &str) -> Result<String, Fail> {
+    let mut text = String::from_str(alloc, front)?;
+    for line in script.lines() {
+        let (count, line) = line.split_once(" times ").unwrap_or(("1", line));
+        for _ in 0..count.parse::<u32>().ok().ok_or("no number of times")? {
+            text.push_str(line)?;
+            text.push_str("\n")?;
+        }
     }
-    let report = String::from_utf8(held).ok().ok_or("the report isn't text")?;
-    if !is_lawful(rt.alloc(), report.as_str())? {
-        return Err(Fail::from("the report isn't lawful"));
-    }
-    Ok(report)
+    Ok(text)
 }
 
-/// The script's report is this text.
-pub fn check_report(
+/// A row's report, with these header lines before its script, is or has what the row says of it, and is lawful to the
+/// checker.
+fn check_row(
     rt: &(impl Abort + AllocGlobal + Threads + Wait + Sync),
-    script: &str,
-    report: &str,
+    banks: &str,
+    row: &str,
 ) -> Result<(), Fail> {
-    let found = report_of(rt, script)?;
-    assert_eq!(rt; found.as_str(), report);
+    let (front, texts) = row.split_once("--- ").ok_or("a row without a text")?;
+    let (name, script) = front.split_once("\n").ok_or("a row without a name")?;
+    let script = written_out(rt.alloc(), banks, script)?;
+    let report = report_past(rt, script.as_str(), RoundThreads::AtMost(4), &OpenGate)?;
+    for part in texts.split("--- ") {
+        let (kind, text) = part.split_once("\n").ok_or("a row without a text")?;
+        let lines = format!(in rt.alloc(); "\n{text}")?;
+        let holds = match kind {
+            "report" => report.as_str() == text,
+            _ => report.contains(lines.as_str()),
+        };
+        assert!(rt; holds, "{name}: {report}");
+    }
+    assert!(rt; is_lawful(rt.alloc(), report.as_str())?, "{name}: {report}");
     Ok(())
 }
 
-/// The script's report has each of these texts in it.
-pub fn check_parts(
+/// Runs the script of each row with 1, 2, 4 and 16 banks. A row is a line `=== NAME`, the script, and behind a line
+/// `--- report` the whole report, or behind each line `--- part` lines that stand in it one behind another.
+pub fn check_rows(
     rt: &(impl Abort + AllocGlobal + Threads + Wait + Sync),
-    script: &str,
-    parts: &[&str],
+    rows: &str,
 ) -> Result<(), Fail> {
-    let report = report_of(rt, script)?;
-    for part in parts {
-        assert!(rt; report.contains(*part));
+    for row in rows.split("=== ") {
+        if row.is_empty() {
+            continue;
+        }
+        for banks in ["", ".banks 1\n", ".banks 2\n", ".banks 16\n"] {
+            check_row(rt, banks, row)?;
+        }
     }
     Ok(())
 }

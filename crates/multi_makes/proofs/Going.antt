@@ -1,20 +1,24 @@
 -- What critical sections leave in which a session goes on with a multixact, one after another.
-use Rattle.std.proofs.Common.{◌≡◌, ℕ, List, [], ◌++◌, append-nil, append_assoc, refl, sym, ap, subst, ◌∙◌}
+use Rattle.std.proofs.Common.{◌≡◌, ℕ, List, [], ◌++◌, append-nil, append_assoc, refl, sym, ap, subst, ◌∙◌, arith, length, ◌≤◌}
 use Rattle.std.specs.List.{filter}
 use Rattle.disk_core.specs.declared.log_disk.LogDisk as logs
 use Rattle.disk_core.specs.declared.page_disk.PageDisk as disks
 use Rattle.hall.specs.declared.hall.Hall.{Hall}
 use Rattle.hall.specs.Calls.{IsOf, start_of, view}
-use Rattle.notes.proofs.Growing.{begins_same}
-use Rattle.notes.specs.Lists.{at}
+use Rattle.notes.proofs.Growing.{begins_length, begins_same}
+use Rattle.notes.specs.Lists.{Grows, at}
 use Rattle.tx_events.specs.declared.event.By.{By}
 use Rattle.tx_events.specs.declared.multi.MultiEvent.{MultiEvent}
 use Rattle.tx_events.specs.Events.{is_of}
+use Rattle.tx_events.specs.Multis.{made, made_by}
 use Rattle.tx_core.specs.declared.entry.Entry.{Entry}
 use Rattle.tx_core.specs.declared.entry.Kind.{Kind}
 use Rattle.tx_core.specs.declared.entry.Start.{Start}
 use Rattle.tx_core.specs.Entries.{history}
+use Rattle.tx_core.specs.MultiEntries.{AreFewMultis, multi_history}
 use Rattle.tx_core.specs.OwnMultis.{own_multis}
+use Rattle.tx_core.proofs.Growing.{begins_filter_map}
+use Rattle.tx_core.proofs.Rising.{multis_grow}
 use Rattle.engine_parts.specs.declared.part.Part.{Part}
 use Rattle.engine_parts.specs.declared.session.Caller.{Caller}
 use Rattle.engine_parts.specs.declared.session.Session.{Session}
@@ -39,6 +43,21 @@ went_none n a b w = record {
   multis = w.on.multis ∙ sym (append-nil (own_multis n a));
   asks = w.asks;
 }
+
+-- and the other way round
+pub went_on : (n : ℕ) (a b : List (List Entry)) → WentMulti n [] a b → WentOn n [] a b
+went_on n a b w = record {
+  on = record {
+    grows = w.grows;
+    own = w.own ∙ sym (append-nil (filter (is_of n) (history a)));
+    multis = w.multis ∙ append-nil (own_multis n a);
+  };
+  asks = w.asks;
+}
+
+-- what is few was few
+pub few_before : (lists more : List (List Entry)) → Grows lists more → AreFewMultis more → AreFewMultis lists
+few_before lists more g few = let le = begins_length (made (multi_history lists)) (made (multi_history more)) (begins_filter_map made_by (multi_history lists) (multi_history more) (multis_grow lists more g)) in omega arith
 
 pub went_nothing : (n : ℕ) (lists : List (List Entry)) → WentMulti n [] lists lists
 went_nothing n lists = record {
@@ -98,6 +117,16 @@ module _ {H L P : Type 0} {l : logs.Ghosts L} {p : disks.Ghosts P} (hall : Hall 
     laid = m.laid;
     each = m.each;
     may = call_multi (start_of hall) (view old.pass) (view new.pass) old.number new.number old.session new.session xs m.may went number same ready;
+  }
+
+  -- critical sections that left the session as it was
+  pub visited_of : (May : ℕ → Kind → Type 0) (old new : Caller L P l p) → MayStep hall banks old → IsOf hall new.pass → IsReady (start_of hall) (view new.pass) new.number new.session → WentMulti old.number [] (view old.pass).seen (view new.pass).seen → (new.session ≡ old.session) × (new.number ≡ old.number)
+      → Adds (by_at old.number old.session.levels.commands) May (view old.pass).seen (view new.pass).seen → Visited hall banks May old new
+  visited_of May old new m own ready went same adds = record {
+    step = step_of old new [] m own ready went same.1 (same_making old.session new.session same.0);
+    went = went;
+    adds = adds;
+    number = same.1;
   }
 
   pub visited_here : (May : ℕ → Kind → Type 0) (old : Caller L P l p) → MayStep hall banks old → Visited hall banks May old old

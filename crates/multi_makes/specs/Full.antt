@@ -1,6 +1,7 @@
 -- The members of a multixact in full, from what a script wrote.
 use Rattle.std.specs.Prelude.{◌≡◌, ℕ, ◌<◌, ◌≤◌, List, Some, IfSome, slice_get, take}
 use Rattle.std.specs.List.{AllByRecursion, AllZip}
+use Rattle.tx_events.specs.Ids.{low_half}
 use Rattle.tx_events.specs.Nearest.{near_id}
 use Rattle.tx_events.specs.declared.multi.Member.{Member}
 use Rattle.tx_events.specs.declared.refusal.Refusal.{Refusal}
@@ -12,6 +13,7 @@ use Rattle.life_law.specs.MultiLines.{IsUngiven}
 pub record IsGivenNear (next x id : ℕ) : Type 0 where
   pub normal : 3 ≤ x
   pub near : near_id next x ≡ Some id
+  pub low : low_half id ≡ x
   pub given : id < next
 
 -- a stored half that means an id before the oldest one, or none

@@ -7,7 +7,7 @@ ghost use Rattle.tx_events.specs.Ids.{IsFullId};
 ghost use Rattle.tx_events.specs.Multis.{AreMembers};
 ghost use Rattle.tx_model.specs.declared.command.Command.TheVariants as commands;
 ghost use Rattle.tx_core.specs.Entries.{history};
-ghost use Rattle.report_law.specs.Steps.{by_members, refused_by_members};
+ghost use Rattle.life_law.specs.Refused.{by_members, refused_by_members};
 ghost use Rattle.engine_parts.specs.Adding.{Adds, IsOfMulti, IsToldBy, MayAdd};
 ghost use Rattle.engine_parts.specs.Answers.{reply_of};
 ghost use Rattle.engine_parts.specs.Calls.{MayRun, MayStep, Ran, next_command};

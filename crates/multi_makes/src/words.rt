@@ -1,7 +1,7 @@
 //! The refusals that go by the members alone.
 ghost use Rattle.std.specs.Prelude.{◌≡◌};
 ghost use Rattle.std.specs.List.{count_by};
-ghost use Rattle.report_law.specs.Steps.{is_updater_pair, refused_by_members};
+ghost use Rattle.life_law.specs.Refused.{is_updater_pair, refused_by_members};
 ghost use Rattle.tx_model.specs.declared.command.Command.TheVariants as commands;
 
 use tx_events::{Mode, Refusal};

@@ -1,6 +1,6 @@
 use Rattle.std.proofs.Common.{◌≡◌, ◌≤◌, take}
 use Rattle.std.specs.List.{count_by}
-use Rattle.report_law.specs.Steps.{is_updater_pair}
+use Rattle.life_law.specs.Refused.{is_updater_pair}
 use Rattle.multi_makes.proofs.words.count_updaters.Given as goal
 
 abbrev pub invariant-loop-pair : goal.invariant-loop-pair

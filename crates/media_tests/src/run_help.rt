@@ -196,7 +196,7 @@ fn next_number(words: &mut SplitWhitespace<'_>) -> Result<u64, Fail> {
 /// The volume that the next two words name.
 fn next_volume(words: &mut SplitWhitespace<'_>) -> Result<Which, Fail> {
     let store = words.next().ok_or("no store")?;
-    let bank = next_number(words)? as u32;
+    let bank = u32::try_from(next_number(words)?).ok().ok_or("no bank")?;
     match store {
         "log" => Ok(Which::Log),
         "xact" => Ok(Which::Xact(bank)),

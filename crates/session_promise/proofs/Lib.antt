@@ -32,6 +32,7 @@ pub mod LawfulCheckpoints
 pub mod LawfulLog
 pub mod Opened
 pub mod LawfulDumps
+pub mod LawfulMultis
 pub mod LawfulLives
 pub mod Rounding
 pub mod PendingStays

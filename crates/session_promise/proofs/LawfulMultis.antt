@@ -1,8 +1,8 @@
 -- The promises of all sessions make lawful multixacts.
-use Rattle.std.proofs.Common.{Bool, Contains, IsTrue, List, None, Option, Some, [], ap, append-nil, arith, cons_option, drop, eq-eqb, inl, inr, length, map, refl, subst, sym, take, true, zero, suc, ℕ, ⊎_elim, ◌+◌, ◌++◌, ◌-◌, ◌<◌, ◌==◌, ◌≡◌, ◌≤◌, ◌∙◌, ◌∷◌, ◌⊎◌, slice_get}
-use Rattle.std.specs.List.{All, AllByRecursion, filter, filter_map, flat_map}
+use Rattle.std.proofs.Common.{Bool, Contains, IsTrue, List, None, Option, Some, [], ap, append-nil, arith, drop, eq-eqb, length, map, refl, subst, sym, take, true, zero, suc, ℕ, ⊎_elim, ◌+◌, ◌++◌, ◌-◌, ◌<◌, ◌==◌, ◌≡◌, ◌≤◌, ◌∙◌, ◌∷◌, ◌⊎◌, slice_get}
+use Rattle.std.specs.List.{All, cons_option, filter, filter_map, flat_map}
 use Rattle.std.proofs.Math.Seq.{take-append_seam}
-use Rattle.std.proofs.lemmas.List.{map-append, take-append-drop}
+use Rattle.std.proofs.lemmas.List.{take-append-drop}
 use Rattle.std.proofs.lemmas.List.Elements.{All-from_recursion, filter_map-append}
 use Rattle.notes.specs.Lists.{at}
 use Rattle.tx_events.specs.declared.event.By.{By}
@@ -14,7 +14,7 @@ use Rattle.tx_events.specs.declared.record.Rec.{Rec}
 use Rattle.tx_events.specs.declared.record.Rec.TheVariants as records
 use Rattle.tx_events.specs.Multis.{AreLegalMultis, BaseOffset, InBase, MultiMayCome, multi_by}
 use Rattle.tx_events.specs.Places.{EachPlace}
-use Rattle.tx_events.proofs.Membership.{Has, all_at, all_from, contains_has, filter_has, has_contains, has_filter_map, has_place, map_has, place_has}
+use Rattle.tx_events.proofs.Membership.{Has, all_from, contains_has, filter_has, has_contains, has_filter_map, has_place, place_has}
 use Rattle.tx_events.proofs.PlaceLemmas.{by_end, each_place_none, each_place_push, last_at, slice_get-grows, take-grows}
 use Rattle.tx_model.specs.declared.report.LifeReport.{LifeReport}
 use Rattle.tx_model.specs.declared.report.Line.{Line}
@@ -43,16 +43,14 @@ use Rattle.session_promise.specs.Told.{Follow, ToldRound, all_lines, in_multis, 
 use Rattle.session_promise.proofs.Between.{filter_take, lines_of_rounds, step_lines}
 use Rattle.session_promise.proofs.FewMultis.{lines_bound_multis, multi_known}
 use Rattle.session_promise.proofs.LawfulSteps.{report_lines, take_lines}
-use Rattle.session_promise.proofs.OwnNone.{entry_of, multi_own, not_hosts}
+use Rattle.session_promise.proofs.OwnNone.{multi_own, not_hosts}
+use Rattle.session_promise.proofs.RecordPlaces.{filter_map_has}
 use Rattle.session_promise.proofs.Standing.{follow_split, line_in, multis_stand_first, multis_told}
 
 -- ---- by the records
 
 of_record : (start : Start) (multi offset : ℕ) → IsRecordedIn start multi offset → (members : List Member) × Contains (recorded_in start) (multi, offset, members)
-of_record start multi offset r = (r.0, has_contains (recorded_in start) (multi, offset, r.0) (map_option start.recorded (contains_has start.recorded (records.Multi multi offset r.0) r.1)))
-  where
-    map_option : (rs : List Rec) → Has rs (records.Multi multi offset r.0) → Has (filter_map recorded_by rs) (multi, offset, r.0)
-    map_option rs h = filter_map_has recorded_by rs (records.Multi multi offset r.0) (multi, offset, r.0) h refl
+of_record start multi offset r = (r.0, has_contains (recorded_in start) (multi, offset, r.0) (filter_map_has recorded_by start.recorded (records.Multi multi offset r.0) (multi, offset, r.0) (contains_has start.recorded (records.Multi multi offset r.0) r.1) refl))
 
 -- where each raise to a multixact of the base is to its recorded offset
 by_record : (start : Start) (h : List MultiEvent) → AreLegalMultis start.base (InBase start.base) h → ((by : By) (multi offset : ℕ) → Has h (multi_events.Raise by multi offset) → multi < start.base.multi → IsRecordedIn start multi offset)
@@ -75,15 +73,15 @@ by_record start h legal raises p e at = step e at (legal p e at)
 
 -- ---- each session's by its commands
 
+abbrev AreTurns : Start → List (List Entry) → List Entry → Type 0
+AreTurns start lists es = (p : ℕ) (e : Entry) → slice_get es p ≡ Some e → NeedsTurn start lists multi_lock (take p es) e
+
+abbrev AreOwn : List Entry → Type 0
+AreOwn es = (p : ℕ) (e : Entry) → slice_get es p ≡ Some e → (event : MultiEvent) → multi_of e ≡ Some event → multi_by event ≡ e.by
+
 turns_in : (start : Start) (lists : List (List Entry)) (k : EngineInvariant start lists) → EachPlace (multi_history lists) MultiComesInTurn
 turns_in start lists k = legal (at lists multi_lock) (λ p e here. k.order.turns.each multi_lock p e here) (λ p e here event is. multi_own start lists multi_lock (take p (at lists multi_lock)) e event (k.multis.each.each multi_lock p e here) is)
   where
-    abbrev AreTurns : List Entry → Type 0
-    AreTurns es = (p : ℕ) (e : Entry) → slice_get es p ≡ Some e → NeedsTurn start lists multi_lock (take p es) e
-
-    abbrev AreOwn : List Entry → Type 0
-    AreOwn es = (p : ℕ) (e : Entry) → slice_get es p ≡ Some e → (event : MultiEvent) → multi_of e ≡ Some event → multi_by event ≡ e.by
-
     behind : (es : List Entry) (e : Entry) (event : MultiEvent) → multi_of e ≡ Some event → AreOwn (es ++ e ∷ []) → NeedsTurn start lists multi_lock es e → MultiComesInTurn (multis_in es) event
     behind es e event is owns turn =
         all_from (λ f. (multi_by f).session ≡ (multi_by event).session → (multi_by f).command ≤ (multi_by event).command) (multis_in es) (λ f h same.
@@ -101,8 +99,8 @@ turns_in start lists k = legal (at lists multi_lock) (λ p e here. k.order.turns
         (λ (t : IsHostsTurn start e.by × IsOfHost e.kind). absurd (not_hosts e.kind event t.1 is))
         turn)
 
-    legal : (es : List Entry) → AreTurns es → AreOwn es → EachPlace (multis_in es) MultiComesInTurn
-    legal = by_end (λ es. AreTurns es → AreOwn es → EachPlace (multis_in es) MultiComesInTurn)
+    legal : (es : List Entry) → AreTurns start lists es → AreOwn es → EachPlace (multis_in es) MultiComesInTurn
+    legal = by_end (λ es. AreTurns start lists es → AreOwn es → EachPlace (multis_in es) MultiComesInTurn)
         (λ turns owns. each_place_none MultiComesInTurn)
         (λ es e before turns owns.
         let old : EachPlace (multis_in es) MultiComesInTurn =

@@ -35,7 +35,7 @@ use Rattle.session_promise.specs.Causes.{FaultsAreTold, failed_volume, faults_in
 use Rattle.session_promise.specs.Closing.{IsOver}
 use Rattle.session_promise.specs.Told.{Span, ToldRound, all_lines, lines_by}
 use Rattle.session_promise.proofs.OneFault.{known, none_counts, numbered, once_counts, one_if, told_line}
-use Rattle.session_promise.proofs.Standing.{same_is}
+use Rattle.session_promise.proofs.Sides.{same_is}
 
 -- ---- counts
 

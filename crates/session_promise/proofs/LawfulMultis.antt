@@ -14,8 +14,8 @@ use Rattle.tx_events.specs.declared.record.Rec.{Rec}
 use Rattle.tx_events.specs.declared.record.Rec.TheVariants as records
 use Rattle.tx_events.specs.Multis.{AreLegalMultis, BaseOffset, InBase, MultiMayCome, multi_by}
 use Rattle.tx_events.specs.Places.{EachPlace}
-use Rattle.tx_events.proofs.Membership.{Has, all_from, contains_has, filter_has, has_contains, has_filter_map, has_place, place_has}
-use Rattle.tx_events.proofs.PlaceLemmas.{by_end, each_place_none, each_place_push, last_at, slice_get-grows, take-grows}
+use Rattle.tx_events.proofs.Membership.{Has, all_from, by_end, contains_has, filter_has, has_contains, has_filter_map, has_place, place_has}
+use Rattle.tx_events.proofs.PlaceLemmas.{each_place_none, each_place_push, last_at, slice_get-grows, take-grows}
 use Rattle.tx_model.specs.declared.report.LifeReport.{LifeReport}
 use Rattle.tx_model.specs.declared.report.Line.{Line}
 use Rattle.tx_model.specs.declared.report.Step.{Step}

@@ -28,7 +28,7 @@ use Rattle.session_promise.proofs.Growing.{all_lines_of, all_places}
 use Rattle.session_promise.proofs.LawfulSteps.{filter_twice}
 use Rattle.session_promise.proofs.PendingGrowth.{AreSettled, IsNotDown, pending_grows}
 use Rattle.session_promise.proofs.Settling.{settled_of}
-use Rattle.session_promise.proofs.Standing.{same_is}
+use Rattle.session_promise.proofs.Sides.{same_is}
 use Rattle.session_promise.proofs.Telling.{lines_of_both, lines_told}
 
 pub place_behind : {X : Type 0} (xs ys : List X) (i : ℕ) (x : X) → slice_get ys i ≡ Some x → slice_get (xs ++ ys) (length xs + i) ≡ Some x

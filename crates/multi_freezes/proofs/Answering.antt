@@ -1,5 +1,5 @@
 -- A freeze may be answered so.
-use Rattle.std.proofs.Common.{◌≡◌, ⊎_elim, inl, inr, ℕ, ◌+◌, ◌-◌, ◌≤◌, ◌<◌, Bool, IsTrue, Contains, List, [], ◌∷◌, ◌++◌, None, Some, drop, take, take_all, length, refl, sym, ap, subst, ◌∙◌, arith}
+use Rattle.std.proofs.Common.{◌≡◌, inl, inr, ℕ, ◌-◌, ◌≤◌, ◌<◌, Bool, List, [], ◌∷◌, ◌++◌, None, Some, drop, take, take_all, length, refl, sym, ap, subst, ◌∙◌, arith}
 use Rattle.std.specs.List.{AllByRecursion, slice_get}
 use Rattle.std.proofs.lemmas.List.{take_at}
 use Rattle.notes.specs.Lists.{Grows}
@@ -16,7 +16,7 @@ use Rattle.tx_events.specs.declared.refusal.Refusal.{Refusal}
 use Rattle.tx_events.specs.declared.refusal.Refusal.TheVariants as refusals
 use Rattle.tx_model.specs.declared.command.Command.TheVariants as commands
 use Rattle.tx_model.specs.declared.reply.Reply.TheVariants as replies
-use Rattle.tx_model.specs.Replies.{RoundSpan, alone}
+use Rattle.tx_model.specs.Replies.{alone}
 use Rattle.tx_model.specs.Stance.{Stance}
 use Rattle.life_law.specs.MultiLines.{HasMultiEvents, IsPinnedOrNext}
 use Rattle.life_law.specs.MultiPlaces.{MayReadMultis}
@@ -24,17 +24,17 @@ use Rattle.life_law.specs.Refused.{by_standing}
 use Rattle.multi_store.specs.declared.answers.Held.{Held}
 use Rattle.tx_core.specs.declared.entry.Entry.{Entry}
 use Rattle.tx_core.specs.declared.entry.Start.{Start}
-use Rattle.tx_core.specs.Entries.{AreFewIds, history}
-use Rattle.tx_core.specs.MultiEntries.{AreFewMultis, multi_history}
+use Rattle.tx_core.specs.Entries.{history}
+use Rattle.tx_core.specs.MultiEntries.{multi_history}
 use Rattle.tx_core.proofs.Rising.{multis_grow}
 use Rattle.engine_parts.specs.declared.session.Stage.{Stage}
-use Rattle.engine_parts.specs.Answers.{MayAnswerAny, alone_multis}
+use Rattle.engine_parts.specs.Answers.{MayAnswerAny}
 use Rattle.engine_parts.specs.Calls.{IsHeldBehind}
 use Rattle.engine_parts.specs.MultiAnswers.{WasNotYet}
 use Rattle.engine_parts.proofs.Leaving.{grows_then}
 use Rattle.multi_sections.specs.Pinnings.{IsPinned}
 use Rattle.multi_sections.specs.Raisings.{IsNotFrozen}
-use Rattle.multi_freezes.specs.Freezes.{IsNotFrozenPinned, IsOffsetsFault, WasHeldBack, WasUnset}
+use Rattle.multi_freezes.specs.Freezes.{IsNotFrozenPinned, WasUnset}
 
 -- the events and the answer are lawful, and it is none by how the session stands
 pub record IsFit (tells : Bool) (start : Start) (begun lists : List (List Entry)) (by : By) (s : Stance) (stage now : Stage) (multi : ℕ) (r : Refusal) (xs : List MultiEvent) : Type 0 where
@@ -148,7 +148,7 @@ module _ (tells : Bool) (start : Start) (begun mid lists : List (List Entry)) (b
 
   -- one that was raised was pinned
   pub pinned_then : IsPinnedOrNext start.base (multi_history lists) by h.multi
-  pinned_then = inl (length before, h.multi, (pin_stands mid lists before (multis.Hold by h.multi) second split).stands)
+  pinned_then = inl (length before, (h.multi, (pin_stands mid lists before (multis.Hold by h.multi) second split).stands))
 
 -- and the next one wasn't there to be pinned
 pub next_then : (start : Start) (lists : List (List Entry)) (by : By) (multi offset : ℕ) (before : List MultiEvent) → multi_history lists ≡ before ++ multis.Raise by multi offset ∷ [] → multi ≡ next_made start.base.multi before → IsPinnedOrNext start.base (multi_history lists) by multi

@@ -1,5 +1,5 @@
 -- A freeze of a pinned multixact, step by step.
-use Rattle.std.proofs.Common.{◌≡◌, ⊎_elim, inl, inr, ℕ, ◌+◌, ◌^◌, ◌<◌, ◌≤◌, Bool, IsTrue, Contains, List, [], ◌∷◌, ◌++◌, Option, Some, None, Result, Ok, Err, drop, take, length, length-append, refl, sym, ap, subst, ◌∙◌, arith}
+use Rattle.std.proofs.Common.{◌≡◌, ⊎_elim, ℕ, ◌<◌, ◌≤◌, Bool, List, [], ◌∷◌, ◌++◌, Some, Result, Ok, Err, drop, take, length, length-append, refl, sym, ap, subst, ◌∙◌, arith}
 use Rattle.std.proofs.lemmas.List.{drop_at, take_at}
 use Rattle.std.specs.List.{AllByRecursion}
 use Rattle.disk_core.specs.declared.log_disk.LogDisk as logs
@@ -11,7 +11,7 @@ use Rattle.notes.proofs.Growing.{begins_length}
 use Rattle.tx_core.proofs.Growing.{contains_begins}
 use Rattle.tx_events.specs.Base.{IsBase}
 use Rattle.tx_events.specs.Ids.{IsFullMulti}
-use Rattle.tx_events.specs.Multis.{multi_by, next_made, oldest_multi, pin_limit}
+use Rattle.tx_events.specs.Multis.{multi_by, pin_limit}
 use Rattle.tx_events.proofs.Membership.{Has}
 use Rattle.tx_events.specs.declared.event.By.{By}
 use Rattle.tx_events.specs.declared.multi.MultiEvent.{MultiEvent}
@@ -21,11 +21,10 @@ use Rattle.tx_events.specs.declared.refusal.Refusal.TheVariants as refusals
 use Rattle.multi_store.specs.declared.answers.Held.{Held}
 use Rattle.tx_core.specs.declared.entry.Entry.{Entry}
 use Rattle.tx_core.specs.declared.entry.Kind.{Kind}
-use Rattle.tx_core.specs.declared.entry.Kind.TheVariants as kinds
 use Rattle.tx_core.specs.declared.entry.Start.{Start}
 use Rattle.tx_core.specs.EngineInvariant.{EngineInvariant}
 use Rattle.tx_core.specs.Locks.{IsPageLock, multi_lock, offsets_lock}
-use Rattle.tx_core.specs.MultiEntries.{AreFewMultis, multi_history}
+use Rattle.tx_core.specs.MultiEntries.{multi_history}
 use Rattle.tx_core.proofs.OwnMultis.{pins_hold}
 use Rattle.tx_core.proofs.Rising.{multis_grow}
 use Rattle.engine_parts.specs.declared.part.Part.{Part}
@@ -38,14 +37,13 @@ use Rattle.engine_parts.specs.Holds.{Knowledge, Section}
 use Rattle.engine_parts.specs.Sessions.{IsAt, IsReady, by_at}
 use Rattle.engine_parts.specs.Steps.{WentMulti}
 use Rattle.engine_parts.proofs.Adding.{plain_meets}
-use Rattle.engine_parts.proofs.Leaving.{grows_then}
 use Rattle.engine_parts.proofs.Sectioning.{section_adds, shared_adds}
 use Rattle.multi_sections.specs.Pinnings.{Pins, unhold_event}
-use Rattle.multi_sections.specs.Raised.{IsNotRaisedNow, offset_read}
+use Rattle.multi_sections.specs.Raised.{IsNotRaisedNow}
 use Rattle.multi_sections.specs.Raisings.{raise_event}
 use Rattle.multi_sections.specs.Steps.{entry_of}
 use Rattle.multi_sections.proofs.PinnedRaises.{few_before}
-use Rattle.multi_freezes.specs.Freezes.{FreezesPinned, IsHeldSince, IsNotFrozenPinned, IsNotRaisedRead, IsOffsetsFault, IsRecordedAs, IsStartRead, RaisesRead, WasHeldBack}
+use Rattle.multi_freezes.specs.Freezes.{FreezesPinned, IsHeldSince, IsNotFrozenPinned, IsNotRaisedRead, IsOffsetsFault, IsStartRead, RaisesRead, WasHeldBack}
 use Rattle.multi_freezes.specs.Visits.{Visited}
 use Rattle.multi_freezes.proofs.Going.{visited_now, visited_then, visited_wider}
 use Rattle.multi_freezes.proofs.Pinning.{IsKeeping, all_own, between, pins_kept}

@@ -1,5 +1,5 @@
 -- What a call did that left its session as it stood and had these events of multixacts.
-use Rattle.std.proofs.Common.{◌≡◌, ⊎_elim, inl, inr, ℕ, ◌+◌, ◌≤◌, ◌<◌, Bool, false, Contains, IfSome, List, [], ◌∷◌, ◌++◌, None, Some, append-nil, eq-eqb, length, refl, sym, ap, subst, ◌∙◌, arith, ◌==◌}
+use Rattle.std.proofs.Common.{◌≡◌, ⊎_elim, ℕ, ◌≤◌, ◌<◌, false, Contains, IfSome, List, [], ◌++◌, None, Some, append-nil, eq-eqb, sym, ap, subst, ◌∙◌, arith, ◌==◌}
 use Rattle.std.specs.List.{AllByRecursion, filter}
 use Rattle.std.proofs.lemmas.List.Elements.{recursion_from_All}
 use Rattle.disk_core.specs.declared.log_disk.LogDisk as logs
@@ -12,7 +12,6 @@ use Rattle.tx_events.specs.Multis.{InBase, MultiMayCome, multi_by}
 use Rattle.tx_events.specs.Running.{open_ids}
 use Rattle.tx_events.specs.declared.event.By.{By}
 use Rattle.tx_events.specs.declared.multi.MultiEvent.{MultiEvent}
-use Rattle.tx_events.specs.declared.multi.MultiEvent.TheVariants as multis
 use Rattle.tx_model.specs.declared.command.Command.{Command}
 use Rattle.tx_model.specs.declared.reply.Reply.{Reply}
 use Rattle.tx_model.specs.CommandEvents.{HasEvents}
@@ -36,10 +35,9 @@ use Rattle.engine_parts.specs.declared.session.Caller.{Caller}
 use Rattle.engine_parts.specs.declared.session.Session.{Session}
 use Rattle.engine_parts.specs.Adding.{MayLeave}
 use Rattle.engine_parts.specs.Answers.{MayAnswerAny}
-use Rattle.engine_parts.specs.Calls.{IsCounted, IsHeldBehind, MayRun, Ran, next_command}
-use Rattle.engine_parts.specs.Holds.{Knowledge}
+use Rattle.engine_parts.specs.Calls.{IsCounted, IsHeldBehind, Ran, next_command}
 use Rattle.engine_parts.specs.Makings.{has_more_multis}
-use Rattle.engine_parts.specs.Sessions.{IsAt, by_at, stance_of}
+use Rattle.engine_parts.specs.Sessions.{by_at, stance_of}
 use Rattle.engine_parts.specs.Stages.{pending_in}
 use Rattle.engine_parts.specs.Standing.{moves_end}
 use Rattle.engine_parts.specs.Steps.{WentMulti}
@@ -86,15 +84,15 @@ module _ {H L P : Type 0} {l : logs.Ghosts L} {p : disks.Ghosts P} (hall : Hall 
 
 -- ---- the events of a command
 
-if_here : {P : MultiEvent → Type 0} (e : Entry) (event : MultiEvent) → IfSome (multi_of e) P → multi_of e ≡ Some event → P event
-if_here {P} e event k is = subst (λ o. IfSome o P) is k
+if_here : (P : MultiEvent → Type 0) (e : Entry) (event : MultiEvent) → IfSome (multi_of e) P → multi_of e ≡ Some event → P event
+if_here P e event k is = subst (λ o. IfSome o P) is k
 
 -- a command that the session hasn't begun has no event
 pub none_yet : (start : Start) (lists : List (List Entry)) (by : By) (command : ℕ) → EngineInvariant start lists → IsInTurn start (at lists multi_lock) by → by.command < command → (e : MultiEvent) → Has (multi_history lists) e → multi_by e ≡ record by { command = command } → ⊥
 none_yet start lists by command k turn later e there own =
     let f = has_filter_map multi_of (at lists multi_lock) e there in
     let need = upheld_has (NeedsMulti start) lists multi_lock f.0 k.multis.each f.1 in
-    let mine : multi_by e ≡ f.0.by = (if_here {P = λ event. (multi_by event ≡ f.0.by) × MultiMayCome start.base (InBase start.base) (multis_in need.0) event × ToldOf start event} f.0 e need.1 f.2).0 in
+    let mine : multi_by e ≡ f.0.by = (if_here (λ event. (multi_by event ≡ f.0.by) × MultiMayCome start.base (InBase start.base) (multis_in need.0) event × ToldOf start event) f.0 e need.1 f.2).0 in
     let same : f.0.by ≡ record by { command = command } = sym mine ∙ own in
     let le : f.0.by.command ≤ by.command = all_at (λ (g : Entry). g.by.command ≤ by.command) (filter (λ (g : Entry). g.by.session == by.session) (at lists multi_lock)) f.0 (recursion_from_All (λ (g : Entry). g.by.command ≤ by.command) (filter (λ (g : Entry). g.by.session == by.session) (at lists multi_lock)) turn.after)
     (filter_has (λ (g : Entry). g.by.session == by.session) (at lists multi_lock) f.0 f.1 (eq-eqb f.0.by.session by.session (ap (λ (z : By). z.session) same))) in

@@ -1,10 +1,9 @@
-use Rattle.std.proofs.Common.{◌≡◌, ℕ, [], ◌∷◌, None, Some, refl, subst, sym}
+use Rattle.std.proofs.Common.{[], refl, subst, sym}
 use Rattle.hall.specs.Calls.{view, start_of}
 use Rattle.tx_events.specs.declared.refusal.Refusal.TheVariants as refusals
 use Rattle.engine_parts.specs.Adding.{IsPlain, MayMeet}
 use Rattle.engine_parts.specs.Sessions.{by_at}
 use Rattle.engine_parts.proofs.Adding.{plain_meets}
-use Rattle.multi_sections.specs.Pinnings.{Pins}
 use Rattle.multi_sections.proofs.PinnedRaises.{few_before}
 use Rattle.multi_freezes.specs.Freezes.{IsHeldSince, IsStartRead}
 use Rattle.multi_freezes.specs.Visits.{Visited}

@@ -1,4 +1,4 @@
-use Rattle.std.proofs.Common.{◌≡◌, ℕ, [], ◌∷◌, Ok, Contains, IsTrue, Some, arith, refl, subst, sym, ◌∙◌}
+use Rattle.std.proofs.Common.{[], ◌∷◌, Ok, arith, refl, subst, ◌∙◌}
 use Rattle.hall.specs.Calls.{view, start_of}
 use Rattle.tx_events.specs.Ids.{IsFullMulti}
 use Rattle.tx_events.specs.declared.multi.MultiEvent.{MultiEvent}
@@ -6,10 +6,8 @@ use Rattle.tx_events.specs.declared.record.Rec.TheVariants as records
 use Rattle.tx_core.specs.Locks.{multi_lock}
 use Rattle.engine_parts.specs.Adding.{IsPlain}
 use Rattle.engine_parts.specs.Sessions.{by_at, look_by}
-use Rattle.engine_parts.proofs.Leaving.{grows_then}
 use Rattle.engine_parts.proofs.Sectioning.{shared_adds}
 use Rattle.engine_parts.proofs.Unmoved.{look_adds}
-use Rattle.multi_sections.specs.declared.settling.Raising.TheVariants as raisings
 use Rattle.multi_sections.specs.Raised.{RaiseSection, RaisesMulti}
 use Rattle.multi_sections.specs.Raisings.{raise_event}
 use Rattle.multi_sections.specs.Steps.{entry_of}

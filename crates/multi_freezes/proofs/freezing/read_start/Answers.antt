@@ -1,4 +1,4 @@
-use Rattle.std.proofs.Common.{◌≡◌, [], ap, refl, subst, sym, ◌<◌, ℕ, arith}
+use Rattle.std.proofs.Common.{[], refl, subst, ◌<◌, arith}
 use Rattle.hall.specs.Calls.{view, start_of}
 use Rattle.tx_events.specs.Ids.{IsFullMulti}
 use Rattle.tx_events.specs.declared.refusal.Lock.TheVariants as locks

@@ -1,5 +1,5 @@
 // What held the oldest multixact back, and where multixacts were given.
-use crate::driver::{Act, life_of, multi};
+use crate::hold_driver::{Act, life_of, multi};
 use held_rules::{LimitAt, held_limits};
 use multi_gens::gen_place;
 

@@ -1,11 +1,9 @@
 // Calls that fail, and what stands after them.
 ghost use Rattle.std.specs.Prelude.{IsTrue};
 
+use crate::folders::{both_ends, clear, is_refused, open};
 use crate::read_only::ReadOnly;
-use crate::volumes::{
-    after, both_ends, clear, eight_bytes, ends, fill, forget, is_refused, open, remove, sync,
-    sync_pages, write,
-};
+use crate::volumes::{after, eight_bytes, ends, fill, forget, remove, sync, sync_pages, write};
 use disk_core::{Failed, Media, MountRefusal};
 use disk_folder::FolderMedia;
 use std::fs;

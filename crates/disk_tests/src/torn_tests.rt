@@ -1,5 +1,6 @@
 // Folders that aren't taken.
-use crate::volumes::{both_ends, clear, ends, fill, is_refused, open, sync, write};
+use crate::folders::{both_ends, clear, is_refused, open};
+use crate::volumes::{ends, fill, sync, write};
 use std::fs;
 use std::test::Fail;
 

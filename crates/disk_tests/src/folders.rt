@@ -1,7 +1,7 @@
-// The calls of volumes without their contracts, so that a test proves no more than that it is safe.
+// Folders that are mounted, without the contract of the mount.
 ghost use Rattle.std.specs.Prelude.{IsTrue, IfOk};
 
-use disk_core::{Extent, Failed, LogDisk, Media, MountRefusal, PageDisk, Volumes};
+use disk_core::{Failed, Media, MountRefusal, PageDisk, Volumes};
 use disk_folder::{FolderLog, FolderMedia, FolderPages};
 use std::alloc::{AllocError, Global};
 use std::{fs, io};
@@ -40,48 +40,6 @@ pub fn is_refused(rt: HostRuntime, path: &str, banks: u32) -> bool {
     matches!(open(rt, path, banks), Err(MountRefusal::Failed))
 }
 
-pub fn write<D: LogDisk>(log: &mut D, at: u64, bytes: &[u8]) -> Result<(), Failed> {
-    log.write_at(at, bytes)
-}
-
-pub fn sync<D: LogDisk>(log: &mut D) -> Result<(), Failed> {
-    log.sync()
-}
-
-pub fn forget<D: LogDisk>(log: &mut D, upto: u64) -> Result<(), Failed> {
-    log.forget(upto)
-}
-
-/// Where a log starts, and how long it is.
-pub fn ends<D: LogDisk>(log: &mut D) -> Result<(u64, u64), Failed> {
-    let Extent { start, length } = log.extent()?;
-    Ok((start, length))
-}
-
-/// How many bytes a read of eight gives, and these, before zeros.
-pub fn eight_bytes<D: LogDisk>(log: &mut D, at: u64) -> Result<(usize, [u8; 8]), Failed> {
-    let mut into = [0; 8];
-    let count = log.read(at, &mut into)?;
-    Ok((count, into))
-}
-
-/// Writes a page of one byte.
-pub fn fill<P: PageDisk>(pages: &mut P, page: u32, byte: u8) -> Result<(), Failed> {
-    pages.write_page(page, &[byte; 8192])
-}
-
-pub fn remove<P: PageDisk>(pages: &mut P, page: u32) -> Result<(), Failed> {
-    pages.remove(page)
-}
-
-pub fn sync_pages<P: PageDisk>(pages: &mut P) -> Result<(), Failed> {
-    pages.sync()
-}
-
-pub fn after<P: PageDisk>(pages: &mut P, page: Option<u32>) -> Result<Option<u32>, Failed> {
-    pages.after(page)
-}
-
 /// The first byte of a page and its last one, if it is present.
 pub fn both_ends<P: PageDisk>(pages: &mut P, page: u32) -> Result<Option<(u8, u8)>, Failed> {
     let mut bytes = [7; 8192];
@@ -89,14 +47,4 @@ pub fn both_ends<P: PageDisk>(pages: &mut P, page: u32) -> Result<Option<(u8, u8
         return Ok(None);
     }
     Ok(Some((bytes[0], bytes[8191])))
-}
-
-/// How many banks each store has.
-pub fn bank_counts(volumes: &FolderVolumes) -> [usize; 4] {
-    [
-        volumes.xact.len(),
-        volumes.subtrans.len(),
-        volumes.offsets.len(),
-        volumes.members.len(),
-    ]
 }

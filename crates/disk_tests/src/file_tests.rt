@@ -1,7 +1,7 @@
 // What a folder keeps, and in which files.
+use crate::folders::{both_ends, clear, folder, open};
 use crate::volumes::{
-    after, bank_counts, both_ends, clear, eight_bytes, ends, fill, folder, forget, open, remove,
-    sync, sync_pages, write,
+    after, bank_counts, eight_bytes, ends, fill, forget, remove, sync, sync_pages, write,
 };
 use disk_core::{Crash, Failed, Media, PageDisk};
 use std::fs;

@@ -16,5 +16,4 @@ pub mod Restored
 pub mod LifeBegins
 pub mod Standing
 pub mod Holding
-pub mod Unmade
 pub mod Ended

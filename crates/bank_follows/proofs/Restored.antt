@@ -1,9 +1,10 @@
 -- What a recovery leaves is a clean start.
-use Rattle.std.proofs.Common.{Contains, List, None, Some, [], ap, append-nil, arith, cond, eq-eqb, inl, inr, length, refl, subst, suc, sym, take, zero, ℕ, ⊎_elim, ◌+◌, ◌++◌, ◌-◌, ◌/◌, ◌%◌, ◌<◌, ◌∙◌, ◌∷◌, ◌≡◌, ◌≤◌, ◌⊎◌}
+use Rattle.std.proofs.Common.{Contains, IsTrue, List, None, Some, [], ap, append-nil, arith, cond, eq-eqb, inl, inr, length, refl, subst, suc, sym, take, zero, ℕ, ⊎_elim, ◌+◌, ◌++◌, ◌-◌, ◌/◌, ◌%◌, ◌<◌, ◌∙◌, ◌∷◌, ◌≡◌, ◌≤◌, ◌⊎◌}
 use Rattle.std.proofs.lemmas.Nat.{mod_below}
 use Rattle.std.specs.List.{slice_index}
 use Rattle.disk_core.specs.Pages.{page_bytes}
 use Rattle.store_pages.specs.Layouts.{member_page_of, member_place_of, mode_place_of, number_in, word_page_of, word_place_of, xact_page_of, xact_place_of}
+use Rattle.tx_events.specs.Ids.{IsFullMulti}
 use Rattle.tx_events.specs.declared.record.Rec.{Rec}
 use Rattle.tx_events.specs.declared.record.Rec.TheVariants as records
 use Rattle.tx_core.specs.declared.entry.Start.{Start}
@@ -32,7 +33,7 @@ commit_code (suc zero) lt e = inl refl
 commit_code (suc (suc zero)) lt e = absurd (⊎_elim (λ (q : Some states.Aborted ≡ Some states.Committed). absurd cc) (λ (q : Some states.Aborted ≡ Some states.SubCommitted). absurd cc) e)
 commit_code (suc (suc (suc n))) lt e = inr (omega arith)
 
-module _ (start : Start) (log : KeptLog) (from : ℕ) (left : Left) (some : 1 ≤ start.banks) (list : ListFits log) (settled : EndsSettled log from (life_base start)) (r : Restored start.banks log from start.base left) where
+module _ (start : Start) (log : KeptLog) (from : ℕ) (left : Left) (told : IsTrue start.told) (full : IsFullMulti start.base.multi) (some : 1 ≤ start.banks) (list : ListFits log) (settled : EndsSettled log from (life_base start)) (r : Restored start.banks log from start.base left) where
   -- the log is on disk to its end, and gives the life's base there
   flushed_is : log.flushed ≡ from + 1
   flushed_is = let upto = list.upto in let end = settled.end in let past = settled.flushed in omega arith
@@ -103,7 +104,10 @@ module _ (start : Start) (log : KeptLog) (from : ℕ) (left : Left) (some : 1 �
 
   offsets_clean : CleanOffsets start (shown_on start.banks left).offsets
   offsets_clean = record {
+    told = told;
+    full = λ multi offset members among. full;
     before = λ multi offset members among. (is_base.multis multi offset members among).0;
+    in_order = is_base.in_order;
     recorded = λ multi offset members among old i lt.
         let oldest = oldest_multi_is in
         let bank : ℕ = word_page_of multi % start.banks in
@@ -151,8 +155,8 @@ module _ (start : Start) (log : KeptLog) (from : ℕ) (left : Left) (some : 1 �
 
 pub restored_begins : RestoredBegins
 restored_begins start log from left on r = record {
-  right = record { told = on.told; full = on.full; base = is_base start log from left on.some on.list on.settled r };
-  xact = xact_clean start log from left on.some on.list on.settled r;
-  offsets = offsets_clean start log from left on.some on.list on.settled r;
-  members = members_clean start log from left on.some on.list on.settled r;
+  right = record { told = on.told; full = on.full; base = is_base start log from left on.told on.full on.some on.list on.settled r };
+  xact = xact_clean start log from left on.told on.full on.some on.list on.settled r;
+  offsets = offsets_clean start log from left on.told on.full on.some on.list on.settled r;
+  members = members_clean start log from left on.told on.full on.some on.list on.settled r;
 }

@@ -114,8 +114,8 @@ pub fn engine_fits<L: LogDisk, P: PageDisk>()
     ensures { EngineFits L.images P.images P.moment P.left_at }
 {}
 
-/// Where the value of a cluster's log holds what it is to, and each image of its volumes of pg_xact follows its bank's list,
-/// in a short life that began right and did nothing to a multixact, the volumes fit the life's log.
+/// Where the value of a cluster's log holds what it is to, and each image of its volumes of pg_xact, of offsets and of
+/// members follows its bank's list, in a short life that began right, the volumes fit the life's log.
 pub fn cluster_fits<L: LogDisk, P: PageDisk>()
     ensures { ClusterFits L.LogDisk P.PageDisk }
 {}

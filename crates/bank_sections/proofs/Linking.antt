@@ -89,7 +89,7 @@ module _ {P O : Type 0} {g : disks.Ghosts P} {r : rules.Ghosts O} where
             (λ (page : word_page_of x ≡ word_page_of id).
             subst (λ z. number_in (pages_of new z) (word_place_of x) ≡ number_in (pages_of old z) (word_place_of x)) (sym page)
             (put.same_page (low_half x % 2048) (omega arith)
-            (λ (place : low_half x % 2048 ≡ low_half id % 2048). other_number id x parent none (one_place start.base.next start.base.oldest id x near mine.from mine.to asked.used.1 asked.used.2 (sym page) (sym place)))))
+            (λ (place : low_half x % 2048 ≡ low_half id % 2048). other_number id x parent none (one_place start.base.next start.base.oldest id x near mine.from mine.to asked.used.1 (let to = asked.used.2 in omega arith) (sym page) (sym place)))))
             (λ (page : word_page_of x ≢ word_page_of id). ap (λ (t : List ℕ). number_in t (word_place_of x)) (put.others (word_page_of x) page))
             (same_or_not (word_page_of x) (word_page_of id));
         set = λ x i v asked lt some.

@@ -37,10 +37,10 @@ nth_round first zero full = omega arith
 nth_round first (suc n) full = let a = nth_round first n full in let b = next_round (nth_id first n) (nth_full first n full) in omega arith
 
 -- so few ids skip the special ones once at most
-nth_near : (first n : ℕ) → IsFullId first → n < 2900000 → nth_id first n ≤ first + n + 3
+pub nth_near : (first n : ℕ) → IsFullId first → n < 2900000 → nth_id first n ≤ first + n + 3
 nth_near first n full few = let a = nth_round first n full in let b = nth_upto first n in omega arith
 
-stop_tight : (oldest : ℕ) → stop_limit oldest + 2999990 ≤ oldest + 2 ^ 31
+pub stop_tight : (oldest : ℕ) → stop_limit oldest + 2999990 ≤ oldest + 2 ^ 31
 stop_tight oldest = grind arith
 
 pub ids_near : (start : Start) (lists : List (List Entry)) → IsBase start.base → AreFewIds lists → AreIdsNear start lists

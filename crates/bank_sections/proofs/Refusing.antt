@@ -83,7 +83,7 @@ module _ {P O : Type 0} {g : disks.Ghosts P} {r : rules.Ghosts O} where
       (refused_told start (xact_lock bank) by (faults_of store) refusal es s.count) (λ told page. refl)
       (λ told k.
       let e : Entry = entry_of_refusal by (faults_of store) refusal in
-      let note : Noted store store es (es ++ e ∷ []) = record { entry = e; entries = refl; same = refl; sets = q.marks; makes = q.zeroed; other = q.other } in
+      let note : Noted store store es (es ++ e ∷ []) = record { entry = e; entries = refl; same = refl; sets = q.marks; makes = q.zeroed; cuts = q.cut; other = q.other } in
       (suc k.0, (store, es, k.1, inr (inl note))))
 
   pub subtrans_refused : (start : Start) (bank : ℕ) (store : SlruBank P O g r) (by : By) (refusal : BankRefusal) (es : List Entry) → IsSubtransOf start bank store es → IsSubtransOf start bank store (es ++ entry_of_refusal by (faults_of store) refusal ∷ [])

@@ -27,6 +27,7 @@ module _ {P O : Type 0} {g : disks.Ghosts P} {r : rules.Ghosts O} where
         count = (let c = s.count in let f = same.count in omega arith);
         last_is = s.last_is;
         cutoff_is = s.cutoff_is;
+        near = s.near;
         shown = λ told near.
             let old_shown = s.shown told near in
             (old_shown.0, old_shown.1, record { each = λ x used here uncut. ap (λ (t : List ℕ). state_in t (xact_place_of x)) (same.pages told (xact_page_of x)) ∙ old_shown.2.each x used here uncut });
@@ -43,6 +44,7 @@ module _ {P O : Type 0} {g : disks.Ghosts P} {r : rules.Ghosts O} where
         count = (let c = s.count in let f = same.count in omega arith);
         last_is = s.last_is;
         cutoff_is = s.cutoff_is;
+        near = s.near;
         shown = λ told near. record { each = λ x used here uncut. ap (λ (t : List ℕ). number_in t (word_place_of x)) (same.pages told (word_page_of x)) ∙ (s.shown told near).each x used here uncut };
         course = λ told.
             let k = s.course told in

@@ -53,5 +53,5 @@ module _ {P O : Type 0} {g : disks.Ghosts P} {r : rules.Ghosts O} where
       let show = s.shown told (xact_near start lists bank k few) in
       let there = show.2.each x used (bank_at start x bank here) uncut in
       let all : (xact_pages start show.0 es).shows x ≡ state_read show.0 (marks es) x =
-      subst (λ (t : List Entry). (pages_after xact_store start.base.next show.0 t).shows x ≡ state_read show.0 (marks t) x) (take-length es) (pages_show start lists show.0 (xact_lock bank) (length es) x k show.1 used.2) in
+      subst (λ (t : List Entry). (pages_after xact_store start.base.next show.0 t).shows x ≡ state_read show.0 (marks t) x) (take-length es) (pages_show start lists show.0 (xact_lock bank) (length es) x k show.1 (let to = used.2 in omega arith)) in
       (show.0, show.1, subst (λ z. state ≡ state_read show.0 (marks (at lists z)) x) (sym here) (state_apart state ((xact_pages start show.0 es).shows x) (read ∙ there) ∙ all))

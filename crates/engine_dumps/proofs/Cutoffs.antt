@@ -1,6 +1,5 @@
 -- The cutoffs of banks are those of the life.
-use Rattle.std.proofs.Common.{◌≡◌, ℕ, zero, suc, ◌%◌, ◌^◌, ◌<◌, List, [], ◌∷◌, Bool, Contains, IsTrue, inl, inr, map, ⊎_elim, refl, sym, ap, ◌∙◌, arith, take}
-use Rattle.disk_core.specs.declared.page_disk.PageDisk as disks
+use Rattle.std.proofs.Common.{◌≡◌, ℕ, Some, None, ◌%◌, ◌^◌, ◌<◌, List, [], ◌∷◌, Bool, Contains, IsTrue, inl, inr, map, ⊎_elim, refl, sym, ap, ◌∙◌, arith, take}
 use Rattle.notes.specs.Lists.{at}
 use Rattle.tx_events.specs.declared.event.By.{By}
 use Rattle.tx_events.specs.declared.record.Rec.{Rec}
@@ -11,28 +10,27 @@ use Rattle.tx_events.specs.Base.{IsBase}
 use Rattle.tx_events.specs.Horizon.{oldest_xmin}
 use Rattle.tx_events.specs.Ids.{id_before}
 use Rattle.tx_events.proofs.Membership.{Has, has_contains, place_has}
-use Rattle.store_pages.specs.declared.page_rule.PageRule as rules
-use Rattle.store_pages.specs.Layouts.{word_page_of, xact_cutoff, xact_page_of}
+use Rattle.store_pages.specs.Layouts.{member_page_of, multi_before, word_page_of, xact_cutoff, xact_page_of}
 use Rattle.tx_events.specs.Pages.{subtrans_page, xact_page}
 use Rattle.tx_model.specs.declared.report.DumpOf.TheVariants as dumps
-use Rattle.life_law.specs.Dumps.{IsSubtransCutoff, IsXactCutoff, MayDump}
-use Rattle.slru_bank.specs.declared.bank.SlruBank.{SlruBank}
+use Rattle.life_law.specs.Dumps.{IsMemberCutoff, IsOffsetCutoff, IsSubtransCutoff, IsXactCutoff, MayDump}
 use Rattle.slru_bank.specs.declared.refusal.BankRefusal.{BankRefusal}
 use Rattle.slru_bank.specs.declared.refusal.BankRefusal.TheVariants as refused
-use Rattle.slru_bank.specs.Calls.{cutoff_of}
 use Rattle.tx_core.specs.declared.entry.Entry.{Entry}
 use Rattle.tx_core.specs.declared.entry.Start.{Start}
 use Rattle.tx_core.specs.CutsFollow.{IsTruncated}
 use Rattle.tx_core.specs.EngineInvariant.{EngineInvariant}
 use Rattle.tx_core.specs.Entries.{history, records_of}
-use Rattle.tx_core.specs.Locks.{subtrans_lock, xact_lock}
+use Rattle.tx_core.specs.Locks.{member_page_in_full, members_lock, offset_page, offsets_lock, subtrans_lock, xact_lock}
 use Rattle.tx_core.proofs.Cutting.{cut_says}
-use Rattle.engine_parts.specs.Course.{HasCourse, Looked, Marked, Noted, PageMade, Synced, Went}
 use Rattle.engine_parts.specs.Stand.{IsCutoff, first_subtrans_page, first_xact_page}
+use Rattle.engine_parts.specs.Shelf.{IsCutoffOf}
+use Rattle.engine_parts.specs.Shelves.{member_shelf, offset_shelf}
 use Rattle.engine_host.proofs.Hosting.{xmin_first}
 use Rattle.bank_sections.specs.Sections.{IsSubtransCut, IsXactCut}
+use Rattle.multi_banks.specs.Sections.{IsMemberCut, IsOffsetCut}
 use Rattle.session_promise.specs.Promise.{recs_of}
-use Rattle.engine_dumps.specs.Dumps.{IsCutTold, refusal_by}
+use Rattle.engine_dumps.specs.Dumps.{HasNoCut, IsCutTold, refusal_by}
 
 -- a page in full, as it is stored
 xact_stored : (oldest cutoff : ℕ) → cutoff ≡ xact_page oldest % 2 ^ 17 → cutoff ≡ xact_page_of oldest
@@ -71,6 +69,31 @@ subtrans_told start lists bank cutoff base k c =
     (t.0, t.1, subtrans_stored (id_before (oldest_xmin start.base.next (take t.0 (history lists)))) cutoff (c.1 ∙ ap (λ n. n % 2 ^ 21) t.2)))
     c.3
 
+-- of offsets, and of members
+offset_stored : (multi cutoff : ℕ) → cutoff ≡ offset_page multi % 2 ^ 21 → cutoff ≡ word_page_of multi
+offset_stored multi cutoff e = omega (arith, e)
+
+member_stored : (offset cutoff : ℕ) → cutoff ≡ member_page_in_full offset % 2625286 → cutoff ≡ member_page_of offset
+member_stored offset cutoff e = omega (arith, e)
+
+pub offset_told : (start : Start) (lists : List (List Entry)) (bank cutoff : ℕ) → EngineInvariant start lists → IsCutoffOf (offset_shelf start) (at lists (offsets_lock bank)) cutoff → IsOffsetCutoff start.base (recs_of lists) cutoff
+offset_told start lists bank cutoff k c =
+    ⊎_elim
+    (λ (first : c.0 ≡ offset_page (multi_before start.base.oldest_multi)). (start.base.oldest_multi, inl refl, offset_stored (multi_before start.base.oldest_multi) cutoff (c.2 ∙ ap (λ n. n % 2 ^ 21) first)))
+    (λ z.
+    let t = (cut_says start lists (offsets_lock bank) c.0 z.0 k z.1 z.2).offsets bank refl in
+    (t.1, inr (t.0, t.2, truncated_among start lists t.0 t.1 t.2 t.3), offset_stored (multi_before t.1) cutoff (c.2 ∙ ap (λ n. n % 2 ^ 21) t.4)))
+    c.1
+
+pub member_told : (start : Start) (lists : List (List Entry)) (bank cutoff : ℕ) → EngineInvariant start lists → IsCutoffOf (member_shelf start) (at lists (members_lock bank)) cutoff → IsMemberCutoff start.base (recs_of lists) cutoff
+member_told start lists bank cutoff k c =
+    ⊎_elim
+    (λ (first : c.0 ≡ member_page_in_full start.base.oldest_offset). (start.base.oldest_offset, inl refl, member_stored start.base.oldest_offset cutoff (c.2 ∙ ap (λ n. n % 2625286) first)))
+    (λ z.
+    let t = (cut_says start lists (members_lock bank) c.0 z.0 k z.1 z.2).members bank refl in
+    (t.2, inr (t.0, t.1, truncated_among start lists t.0 t.1 t.2 t.3), member_stored t.2 cutoff (c.2 ∙ ap (λ n. n % 2625286) t.4)))
+    c.1
+
 -- ---- where a bank refused
 
 pub xact_refused : (start : Start) (lists : List (List Entry)) (page size bank : ℕ) (refusal : BankRefusal) → EngineInvariant start lists → bank ≡ page % start.banks → bank < start.banks
@@ -83,33 +106,37 @@ pub subtrans_refused : (start : Start) (lists : List (List Entry)) (page size ba
 subtrans_refused start lists page size bank (refused.Cut cutoff) base k here low cut = let z = cut cutoff refl in (subtrans_told start lists (page % start.banks) cutoff base k z.0, z.1)
 subtrans_refused start lists page size bank refused.DiskFault base k here low cut = (low, here)
 
+-- where no entry cut the bank, its cutoff is the one with which the life began
+first_told : (start : Start) (lists : List (List Entry)) (bank cutoff : ℕ) → IsCutoff (first_xact_page start) (2 ^ 17) (at lists (xact_lock bank)) cutoff → HasNoCut (at lists (xact_lock bank)) → cutoff ≡ xact_cutoff start.base.oldest
+first_told start lists bank cutoff c none =
+    ⊎_elim
+    (λ (first : c.0 ≡ first_xact_page start). xact_stored start.base.oldest cutoff (c.1 ∙ ap (λ n. n % 2 ^ 17) first))
+    (λ z. absurd (let no : Some c.0 ≡ None = sym z.2 ∙ none z.0 z.1 in cc))
+    c.3
+
 pub xact_cut_told : (tells : Bool) (start : Start) (lists : List (List Entry)) (page : ℕ) (lock : Lock) (refusal : BankRefusal) → ((cutoff : ℕ) → refusal ≡ refused.Cut cutoff → IsXactCut start lists (page % start.banks) page cutoff)
-    → (IsTrue tells → (cutoff : ℕ) → refusal ≡ refused.Cut cutoff → cutoff ≡ xact_cutoff start.base.oldest) → IsCutTold tells start lists (dumps.Xact page) (refusal_by lock refusal)
-xact_cut_told tells start lists page lock (refused.Cut cutoff) cut first = (cut cutoff refl, λ told. first told cutoff refl)
-xact_cut_told tells start lists page lock refused.DiskFault cut first = tt
+    → IsCutTold tells start lists (dumps.Xact page) (refusal_by lock refusal)
+xact_cut_told tells start lists page lock (refused.Cut cutoff) cut = let z = cut cutoff refl in (z, λ none. first_told start lists (page % start.banks) cutoff z.0 none)
+xact_cut_told tells start lists page lock refused.DiskFault cut = tt
 
 pub subtrans_cut_told : (tells : Bool) (start : Start) (lists : List (List Entry)) (page : ℕ) (lock : Lock) (refusal : BankRefusal) → ((cutoff : ℕ) → refusal ≡ refused.Cut cutoff → IsSubtransCut start lists (page % start.banks) page cutoff) → IsCutTold tells start lists (dumps.Subtrans page) (refusal_by lock refusal)
 subtrans_cut_told tells start lists page lock (refused.Cut cutoff) cut = cut cutoff refl
 subtrans_cut_told tells start lists page lock refused.DiskFault cut = tt
 
--- ---- the course of a bank of pg_xact
+pub offset_refused : (start : Start) (lists : List (List Entry)) (page size bank : ℕ) (refusal : BankRefusal) → EngineInvariant start lists → bank ≡ page % start.banks → bank < start.banks
+    → ((cutoff : ℕ) → refusal ≡ refused.Cut cutoff → IsOffsetCut start lists (page % start.banks) page cutoff) → MayDump start.banks start.base (recs_of lists) (history lists) (dumps.Offsets page) size (refusal_by (locks.Offsets bank) refusal)
+offset_refused start lists page size bank (refused.Cut cutoff) k here low cut = let z = cut cutoff refl in (offset_told start lists (page % start.banks) cutoff k z.0, z.1)
+offset_refused start lists page size bank refused.DiskFault k here low cut = (low, here)
 
-module _ {P O : Type 0} {g : disks.Ghosts P} {r : rules.Ghosts O} where
-  -- no step of it cuts the bank
-  first_cutoff : (start : Start) (bank steps : ℕ) (store : SlruBank P O g r) (es : List Entry) → Went start bank steps store es → cutoff_of store ≡ first_xact_page start % 2 ^ 17
-  first_cutoff start bank zero store es w = w.1.cutoff
-  first_cutoff start bank (suc n) store es w =
-      let before : cutoff_of w.0 ≡ first_xact_page start % 2 ^ 17 = first_cutoff start bank n w.0 w.1 w.2 in
-      ⊎_elim
-      (λ (k : Looked w.0 store w.1 es). k.cutoff ∙ before)
-      (⊎_elim
-      (λ (k : Noted w.0 store w.1 es). ap cutoff_of k.same ∙ before)
-      (⊎_elim
-      (λ (k : PageMade w.0 store w.1 es). k.cutoff ∙ before)
-      (⊎_elim
-      (λ (k : Marked start w.0 store w.1 es). k.cutoff ∙ before)
-      (λ (k : Synced w.0 store w.1 es). k.cutoff ∙ before))))
-      w.3
+pub member_refused : (start : Start) (lists : List (List Entry)) (page size bank : ℕ) (refusal : BankRefusal) → EngineInvariant start lists → bank ≡ page % start.banks → bank < start.banks
+    → ((cutoff : ℕ) → refusal ≡ refused.Cut cutoff → IsMemberCut start lists (page % start.banks) page cutoff) → MayDump start.banks start.base (recs_of lists) (history lists) (dumps.Members page) size (refusal_by (locks.Members bank) refusal)
+member_refused start lists page size bank (refused.Cut cutoff) k here low cut = let z = cut cutoff refl in (member_told start lists (page % start.banks) cutoff k z.0, z.1)
+member_refused start lists page size bank refused.DiskFault k here low cut = (low, here)
 
-  pub first_told : (start : Start) (bank cutoff : ℕ) (store : SlruBank P O g r) (es : List Entry) → cutoff ≡ cutoff_of store → HasCourse start bank store es → cutoff ≡ xact_cutoff start.base.oldest
-  first_told start bank cutoff store es is course = xact_stored start.base.oldest cutoff (is ∙ first_cutoff start bank course.0 store es course.1)
+pub offset_cut_told : (tells : Bool) (start : Start) (lists : List (List Entry)) (page : ℕ) (lock : Lock) (refusal : BankRefusal) → ((cutoff : ℕ) → refusal ≡ refused.Cut cutoff → IsOffsetCut start lists (page % start.banks) page cutoff) → IsCutTold tells start lists (dumps.Offsets page) (refusal_by lock refusal)
+offset_cut_told tells start lists page lock (refused.Cut cutoff) cut = cut cutoff refl
+offset_cut_told tells start lists page lock refused.DiskFault cut = tt
+
+pub member_cut_told : (tells : Bool) (start : Start) (lists : List (List Entry)) (page : ℕ) (lock : Lock) (refusal : BankRefusal) → ((cutoff : ℕ) → refusal ≡ refused.Cut cutoff → IsMemberCut start lists (page % start.banks) page cutoff) → IsCutTold tells start lists (dumps.Members page) (refusal_by lock refusal)
+member_cut_told tells start lists page lock (refused.Cut cutoff) cut = cut cutoff refl
+member_cut_told tells start lists page lock refused.DiskFault cut = tt

@@ -1,5 +1,5 @@
 -- What a dump between two rounds is answered.
-use Rattle.std.specs.Prelude.{◌≡◌, ℕ, ◌%◌, Bool, IsTrue, List, Some}
+use Rattle.std.specs.Prelude.{◌≡◌, ℕ, ◌%◌, Bool, IsTrue, List, None, Some, Contains}
 use Rattle.disk_core.specs.declared.log_disk.LogDisk as logs
 use Rattle.disk_core.specs.declared.page_disk.PageDisk as disks
 use Rattle.hall.specs.declared.hall.Hall.{Hall}
@@ -17,14 +17,15 @@ use Rattle.slru_bank.specs.declared.refusal.BankRefusal.{BankRefusal}
 use Rattle.slru_bank.specs.declared.refusal.BankRefusal.TheVariants as refused
 use Rattle.tx_core.specs.declared.entry.Entry.{Entry}
 use Rattle.tx_core.specs.declared.entry.Start.{Start}
-use Rattle.tx_core.specs.Entries.{history}
-use Rattle.tx_core.specs.Locks.{log_lock, number_of}
+use Rattle.tx_core.specs.Entries.{cut_in, history}
+use Rattle.tx_core.specs.Locks.{log_lock, number_of, xact_lock}
 use Rattle.engine_parts.specs.declared.part.Part.{Part}
 use Rattle.engine_host.specs.declared.host.Host.{Host}
 use Rattle.session_promise.specs.Causes.{failed_volume}
 use Rattle.session_promise.specs.Promise.{recs_of}
 use Rattle.bank_sections.specs.Sections.{IsSubtransCut, IsXactCut}
-use Rattle.engine_dumps.specs.Shown.{AreLogBytes, HasFailed, ShowsSubtrans, ShowsXact}
+use Rattle.multi_banks.specs.Sections.{IsMemberCut, IsOffsetCut}
+use Rattle.engine_dumps.specs.Shown.{AreLogBytes, HasFailed, ShowsMembers, ShowsOffsets, ShowsSubtrans, ShowsXact}
 
 -- the answer where a bank refused
 abbrev pub refusal_by : Lock → BankRefusal → Reply
@@ -48,19 +49,28 @@ module _ {L P : Type 0} (l : logs.Ghosts L) (p : disks.Ghosts P) (start : Start)
   AreShown dumps.Log from size bytes = IsTrue l.tells → AreLogBytes start (list_at lists log_lock) from size bytes
   AreShown (dumps.Xact page) from size bytes = IsTrue p.tells → ShowsXact start lists page from size bytes
   AreShown (dumps.Subtrans page) from size bytes = IsTrue p.tells → ShowsSubtrans start lists page from size bytes
-  AreShown what from size bytes = Unit {0}
+  AreShown (dumps.Offsets page) from size bytes = IsTrue p.tells → ShowsOffsets start lists page from size bytes
+  AreShown (dumps.Members page) from size bytes = IsTrue p.tells → ShowsMembers start lists page from size bytes
 
   -- so the bytes of the answer, where it has some
   abbrev pub ShowsBytes : DumpOf → ℕ → ℕ → Reply → Type 0
   ShowsBytes what from size (replies.Bytes bytes) = AreShown what from size bytes
   ShowsBytes what from size reply = Unit {0}
 
+-- no entry cut the bank
+abbrev pub HasNoCut : List Entry → Type 0
+HasNoCut es = (e : Entry) → Contains es e → cut_in e.kind ≡ None
+
 -- The cutoff by which a page is told as cut is one of the bank's list. That of pg_xact is the one with which the life began,
--- where the volumes tell what they hold.
+-- where no entry cut the bank.
 abbrev pub IsCutTold : Bool → Start → List (List Entry) → DumpOf → Reply → Type 0
 IsCutTold tells start lists (dumps.Xact page) (replies.Cut cutoff) =
     IsXactCut start lists (page % start.banks) page cutoff
-    × (IsTrue tells → cutoff ≡ xact_cutoff start.base.oldest)
+    × (HasNoCut (list_at lists (xact_lock (page % start.banks))) → cutoff ≡ xact_cutoff start.base.oldest)
 IsCutTold tells start lists (dumps.Subtrans page) (replies.Cut cutoff) =
     IsSubtransCut start lists (page % start.banks) page cutoff
+IsCutTold tells start lists (dumps.Offsets page) (replies.Cut cutoff) =
+    IsOffsetCut start lists (page % start.banks) page cutoff
+IsCutTold tells start lists (dumps.Members page) (replies.Cut cutoff) =
+    IsMemberCut start lists (page % start.banks) page cutoff
 IsCutTold tells start lists what reply = Unit {0}

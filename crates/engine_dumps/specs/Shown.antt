@@ -1,28 +1,36 @@
 -- What the bytes of the log and of pages show, by the lists of their locks.
 use Rattle.std.specs.Prelude.{◌≡◌, ℕ, ◌^◌, false, List, ◌++◌, Option, drop, take}
-use Rattle.std.specs.List.{flat_map}
+use Rattle.std.specs.List.{flat_map, slice_index}
 use Rattle.disk_core.specs.declared.log_disk.LogDisk as logs
 use Rattle.disk_core.specs.declared.page_disk.PageDisk as disks
 use Rattle.disk_core.specs.Faults.{HasRisen}
 use Rattle.disk_core.specs.Volume.{IsRead, Volume}
 use Rattle.notes.specs.Lists.{at}
-use Rattle.life_law.specs.Dumps.{is_subtrans_cut, is_xact_cut}
-use Rattle.store_pages.specs.Layouts.{number_in, state_in, word_page_of, word_place_of, xact_page_of, xact_place_of}
+use Rattle.life_law.specs.Dumps.{is_member_cut, is_offset_cut, is_subtrans_cut, is_xact_cut}
+use Rattle.multi_offsets.specs.Offsets.{offset_of}
+use Rattle.multi_members.specs.Slots.{slot_of}
+use Rattle.store_pages.specs.Layouts.{member_page_of, member_place_of, mode_place_of, number_in, state_in, word_page_of, word_place_of, xact_page_of, xact_place_of}
 use Rattle.slru_bank.specs.Bank.{IsPage}
 use Rattle.wal_core.specs.Kept.{HasFlushed}
+use Rattle.tx_events.specs.Multis.{oldest_multi, oldest_offset}
 use Rattle.tx_events.specs.declared.record.Rec.{Rec}
 use Rattle.tx_core.specs.declared.entry.Entry.{Entry}
 use Rattle.tx_core.specs.declared.entry.Start.{Start}
 use Rattle.tx_core.specs.declared.entry.State.{State}
 use Rattle.tx_core.specs.CleanStart.{CleanStart}
 use Rattle.tx_core.specs.Entries.{AreFewIds, flushed_to, links_in, marks, recs_in}
-use Rattle.tx_core.specs.Locks.{subtrans_lock, subtrans_lock_of, xact_lock, xact_lock_of}
+use Rattle.tx_core.specs.Locks.{members_lock, offsets_lock, subtrans_lock, subtrans_lock_of, xact_lock, xact_lock_of}
+use Rattle.tx_core.specs.MultiEntries.{AreFewMultis, multi_history}
 use Rattle.tx_core.specs.Pages.{parent_read}
 use Rattle.tx_core.specs.Verdict.{state_read}
 use Rattle.engine_parts.specs.declared.part.Part.{Part}
 use Rattle.engine_parts.specs.Parts.{PartStands}
 use Rattle.engine_parts.specs.Stand.{IsCutoff, IsInUse, first_subtrans_page, first_xact_page, number_of_parent, number_of_state}
+use Rattle.engine_parts.specs.Shelf.{IsCutoffOf}
+use Rattle.engine_parts.specs.Shelves.{member_shelf, offset_shelf}
 use Rattle.engine_host.specs.Opening.{faults_behind}
+use Rattle.multi_banks.specs.Members.{IsSlotRead}
+use Rattle.multi_banks.specs.Offsets.{IsOffsetRead}
 
 -- ---- the log
 
@@ -69,6 +77,24 @@ pub record ShowsSubtrans (start : Start) (lists : List (List Entry)) (page from 
       → number_in on (word_place_of x)
       ≡ number_of_parent (parent_read (flat_map links_in (at lists (subtrans_lock_of start x))) x)
 
+-- The bytes stand on the stored page of offsets. There each multixact from the announced oldest one on has the offset that
+-- stands.
+pub record ShowsOffsets (start : Start) (lists : List (List Entry)) (page from count : ℕ) (bytes : List ℕ) : Type 0 where
+  pub on : List ℕ
+  pub piece : IsPieceOf on from count bytes
+  pub offsets : (multi : ℕ) → word_page_of multi ≡ page
+      → oldest_multi start.base.oldest_multi (multi_history lists) ≤ multi
+      → IsOffsetRead start lists multi (offset_of (number_in on (word_place_of multi)))
+
+-- The bytes stand on the stored page of members. There each offset from the announced oldest one on has the member that
+-- stands.
+pub record ShowsMembers (start : Start) (lists : List (List Entry)) (page from count : ℕ) (bytes : List ℕ) : Type 0 where
+  pub on : List ℕ
+  pub piece : IsPieceOf on from count bytes
+  pub members : AreFewMultis lists → (offset : ℕ) → member_page_of offset ≡ page
+      → oldest_offset start.base.oldest_offset (multi_history lists) ≤ offset
+      → IsSlotRead start lists offset (slot_of (slice_index on (mode_place_of offset)) (number_in on (member_place_of offset)))
+
 -- the bank's cutoff, one that its list has, cuts no page that was read
 abbrev pub IsXactUncut : Start → List (List Entry) → ℕ → ℕ → Type 0
 IsXactUncut start lists bank page =
@@ -79,6 +105,16 @@ abbrev pub IsSubtransUncut : Start → List (List Entry) → ℕ → ℕ → Typ
 IsSubtransUncut start lists bank page =
     (cutoff : ℕ) × IsCutoff (first_subtrans_page start) (2 ^ 21) (at lists (subtrans_lock bank)) cutoff
     × (is_subtrans_cut cutoff page ≡ false)
+
+abbrev pub IsOffsetsUncut : Start → List (List Entry) → ℕ → ℕ → Type 0
+IsOffsetsUncut start lists bank page =
+    (cutoff : ℕ) × IsCutoffOf (offset_shelf start) (at lists (offsets_lock bank)) cutoff
+    × (is_offset_cut cutoff page ≡ false)
+
+abbrev pub IsMembersUncut : Start → List (List Entry) → ℕ → ℕ → Type 0
+IsMembersUncut start lists bank page =
+    (cutoff : ℕ) × IsCutoffOf (member_shelf start) (at lists (members_lock bank)) cutoff
+    × (is_member_cut cutoff page ≡ false)
 
 -- ---- faults
 

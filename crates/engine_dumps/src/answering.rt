@@ -9,7 +9,7 @@ ghost use Rattle.engine_host.specs.Homes.{IsHome, StaysHome};
 ghost use Rattle.engine_dumps.specs.Dumps.{IsAnswered, IsCutTold, IsFaultCounted, ShowsBytes, refusal_by};
 
 use crate::log::dump_log;
-use crate::pages::{dump_subtrans, dump_xact};
+use crate::pages::{dump_members, dump_offsets, dump_subtrans, dump_xact};
 use disk_core::{LogDisk, PageDisk};
 use engine_host::Host;
 use engine_parts::EngineLaw;
@@ -137,6 +137,60 @@ fn show_subtrans<R: Wait, L: LogDisk, P: PageDisk>(
     }
 }
 
+/// Bytes of a page of the offsets of multixacts.
+fn show_offsets<R: Wait, L: LogDisk, P: PageDisk>(
+    rt: &R,
+    alloc: Global,
+    hall: &Hall<EngineLaw<L, P>>,
+    host: &mut Host<L, P>,
+    page: u32,
+    at: u32,
+    size: usize,
+) -> Result<Reply, Memory>
+    requires home { IsHome hall.now host.old }
+    requires size { at + size ≤ 8192 }
+    ensures stays { StaysHome hall.now host.old host.new }
+    ensures reply { IfOk result (IsAnswered hall.now host.old (dumps.Offsets page) size) }
+    ensures bytes { IfOk result (ShowsBytes L.LogDisk P.PageDisk (start_of hall.now) (view host.old.pass).seen
+        (dumps.Offsets page) at size) }
+    ensures cut { IfOk result (IsCutTold P.tells (start_of hall.now) (view host.old.pass).seen (dumps.Offsets page)) }
+    ensures fault { IfOk result (IsFaultCounted L.LogDisk P.PageDisk (start_of hall.now) (view host.old.pass).seen) }
+{
+    let bank = bank_of(page, host.cluster.banks);
+    let mut bytes = Vec::from_elem(alloc, 0u8, size)?;
+    match dump_offsets(rt, hall, host, page, at, bytes.as_mut_slice()) {
+        Ok(()) => Ok(bytes_reply(bytes)),
+        Err(refusal) => Ok(refused(Lock::Offsets(bank), refusal)),
+    }
+}
+
+/// Bytes of a page of the members of multixacts.
+fn show_members<R: Wait, L: LogDisk, P: PageDisk>(
+    rt: &R,
+    alloc: Global,
+    hall: &Hall<EngineLaw<L, P>>,
+    host: &mut Host<L, P>,
+    page: u32,
+    at: u32,
+    size: usize,
+) -> Result<Reply, Memory>
+    requires home { IsHome hall.now host.old }
+    requires size { at + size ≤ 8192 }
+    ensures stays { StaysHome hall.now host.old host.new }
+    ensures reply { IfOk result (IsAnswered hall.now host.old (dumps.Members page) size) }
+    ensures bytes { IfOk result (ShowsBytes L.LogDisk P.PageDisk (start_of hall.now) (view host.old.pass).seen
+        (dumps.Members page) at size) }
+    ensures cut { IfOk result (IsCutTold P.tells (start_of hall.now) (view host.old.pass).seen (dumps.Members page)) }
+    ensures fault { IfOk result (IsFaultCounted L.LogDisk P.PageDisk (start_of hall.now) (view host.old.pass).seen) }
+{
+    let bank = bank_of(page, host.cluster.banks);
+    let mut bytes = Vec::from_elem(alloc, 0u8, size)?;
+    match dump_members(rt, hall, host, page, at, bytes.as_mut_slice()) {
+        Ok(()) => Ok(bytes_reply(bytes)),
+        Err(refusal) => Ok(refused(Lock::Members(bank), refusal)),
+    }
+}
+
 /// Answers a dump that the run has, while no session is in: with the bytes that stand there, where the volumes tell
 /// what they hold, or that a page is cut, by its bank's cutoff, or that a volume failed whose count of faults rose. Takes
 /// memory for the bytes.
@@ -163,6 +217,11 @@ pub fn show<R: Wait, L: LogDisk, P: PageDisk>(
         DumpOf::Subtrans { page } => {
             show_subtrans(rt, alloc, hall, host, page, dump.at as u32, size)
         }
-        DumpOf::Offsets { .. } | DumpOf::Members { .. } => unreachable!(),
+        DumpOf::Offsets { page } => {
+            show_offsets(rt, alloc, hall, host, page, dump.at as u32, size)
+        }
+        DumpOf::Members { page } => {
+            show_members(rt, alloc, hall, host, page, dump.at as u32, size)
+        }
     }
 }

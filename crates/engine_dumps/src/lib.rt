@@ -8,4 +8,4 @@ mod pages;
 
 pub use answering::show;
 pub use log::dump_log;
-pub use pages::{dump_subtrans, dump_xact};
+pub use pages::{dump_members, dump_offsets, dump_subtrans, dump_xact};

@@ -37,7 +37,7 @@ use Rattle.engine_parts.specs.Course.{HasCourse, IsOpened}
 use Rattle.engine_parts.specs.Parts.{PartStands}
 use Rattle.engine_parts.specs.Stand.{GivesStart, LogStands, XactStands}
 use Rattle.engine_host.specs.declared.cluster.Cluster.{Cluster}
-use Rattle.engine_host.specs.Opening.{AllOnDisk, AllShowNothing, AllShowStates, AreNew, Beginning, IsNewPart, IsOnDisk, MayBeginOver, ShowStates, bytes_left, faults_behind, life_from, life_of, new_life}
+use Rattle.engine_host.specs.Opening.{AllOnDisk, AllShow, AllShowNothing, AreNew, Beginning, IsNewPart, IsOnDisk, MayBeginOver, ShowMembers, ShowOffsets, ShowStates, bytes_left, faults_behind, life_from, life_of, new_life}
 use Rattle.engine_host.specs.Stores.{Store, of_members, of_offsets, of_subtrans, of_xact, volumes_in}
 use Rattle.engine_host.specs.declared.cluster.BankVolumes.{BankVolumes}
 
@@ -55,12 +55,13 @@ none_more n = omega arith
 
 -- what was given doesn't go by the counts of faults
 gives_any : (c : Cluster) (b : Beginning) (counts : List ℕ) (number : ℕ) (past : List Rec) → GivesStart (life_from c b []) number past → GivesStart (life_from c b counts) number past
-gives_any c b counts number past g = record { base = g.base; gives = g.gives; place = g.place; some = g.some; whole = g.whole }
+gives_any c b counts number past g = record { base = g.base; below = g.below; gives = g.gives; place = g.place; some = g.some; whole = g.whole }
 
 -- the first checkpoint gives the begin of a new cluster's life
 pub first_gives : (c : Cluster) → GivesStart (life_of c []) 0 (records.Checkpoint 0 c.base ∷ [])
 first_gives c = record {
   base = none;
+  below = λ multi offset members k. absurd (contains_has [] (records.Multi multi offset members) k);
   gives = λ i. record { counters = raised 0 c.base i; committed = []; recorded = [] };
   place = refl;
   some = omega arith;
@@ -151,6 +152,7 @@ xact_begins c b bank faults last cutoff tells bytes left led counts inside count
   count = count;
   last_is = λ near. last_is ∙ low_page c.base.next;
   cutoff_is = (xact_page c.base.oldest, cutoff_is ∙ low_page c.base.oldest, omega arith, inl refl);
+  near = (xact_page c.base.oldest, cutoff_is ∙ low_page c.base.oldest, (omega arith, omega arith));
   shown = λ told near. let s = shows told in (
     s.shown,
     clean_any c b counts s.shown s.clean,
@@ -217,16 +219,16 @@ drop_at zero m xs x e = let same : m ≡ 0 + m = omega arith in subst (λ k. sli
 drop_at (suc n) m [] x e = absurd cc
 drop_at (suc n) m (y ∷ xs) x e = let same : suc (n + m) ≡ suc n + m = omega arith in subst (λ k. slice_get (y ∷ xs) k ≡ Some x) same (drop_at n m xs x e)
 
-module _ {P : Type 0} (p : disks.Ghosts P) (c : Cluster) (b : Beginning) (removed : Bool) where
-  pub rest_show : (n : ℕ) (xs : List P) → AllShowStates p c b removed 0 xs → AllShowStates p c b removed n (drop n xs)
+module _ {P : Type 0} (p : disks.Ghosts P) (Shows : ℕ → (ℕ → List ℕ) → Type 0) (removed : Bool) where
+  pub rest_show : (n : ℕ) (xs : List P) → AllShow p Shows removed 0 xs → AllShow p Shows removed n (drop n xs)
   rest_show n xs all m disk at =
       let same : 0 + (n + m) ≡ n + m = omega arith in
-      subst (λ k. ShowStates c b k (bytes_left p removed disk)) same (all (n + m) disk (drop_at n m xs disk at))
+      subst (λ k. Shows k (bytes_left p removed disk)) same (all (n + m) disk (drop_at n m xs disk at))
 
-  pub first_shows : (bank : ℕ) (xs : List P) (disk : P) → AllShowStates p c b removed bank xs → slice_get xs 0 ≡ Some disk → ShowStates c b bank (bytes_left p removed disk)
+  pub first_shows : (bank : ℕ) (xs : List P) (disk : P) → AllShow p Shows removed bank xs → slice_get xs 0 ≡ Some disk → Shows bank (bytes_left p removed disk)
   first_shows bank xs disk all at =
       let same : bank + 0 ≡ bank = omega arith in
-      subst (λ k. ShowStates c b k (bytes_left p removed disk)) same (all 0 disk at)
+      subst (λ k. Shows k (bytes_left p removed disk)) same (all 0 disk at)
 
 pub rest_empty : {P : Type 0} (p : disks.Ghosts P) (removed : Bool) (n : ℕ) (xs : List P) → AllShowNothing p removed xs → AllShowNothing p removed (drop n xs)
 rest_empty p removed n xs all m disk at = all (n + m) disk (drop_at n m xs disk at)
@@ -238,11 +240,10 @@ rest_on_disk p n xs all m disk at = all (n + m) disk (drop_at n m xs disk at)
 pub rest_begin : {P : Type 0} (p : disks.Ghosts P) (c : Cluster) (b : Beginning) (removed : Bool) (n : ℕ) (all rest : BankVolumes P) → ((k : Store) → (volumes_in k rest).items ≡ drop n (volumes_in k all).items)
     → MayBeginOver p c b removed 0 all → MayBeginOver p c b removed n rest
 rest_begin {P} p c b removed n all rest is may = record {
-  states = subst (λ (xs : List P). AllShowStates p c b removed n xs) (sym (is of_xact)) (rest_show p c b removed n all.xact.items may.states);
+  states = subst (λ (xs : List P). AllShow p (ShowStates c b) removed n xs) (sym (is of_xact)) (rest_show p (ShowStates c b) removed n all.xact.items may.states);
   parents = subst (λ (xs : List P). AllShowNothing p removed xs) (sym (is of_subtrans)) (rest_empty p removed n all.subtrans.items may.parents);
-  offsets = subst (λ (xs : List P). AllShowNothing p removed xs) (sym (is of_offsets)) (rest_empty p removed n all.offsets.items may.offsets);
-  members = subst (λ (xs : List P). AllShowNothing p removed xs) (sym (is of_members)) (rest_empty p removed n all.members.items may.members);
-  none = may.none;
+  offsets = subst (λ (xs : List P). AllShow p (ShowOffsets c b) removed n xs) (sym (is of_offsets)) (rest_show p (ShowOffsets c b) removed n all.offsets.items may.offsets);
+  members = subst (λ (xs : List P). AllShow p (ShowMembers c b) removed n xs) (sym (is of_members)) (rest_show p (ShowMembers c b) removed n all.members.items may.members);
   durable = λ kept k. subst (λ (xs : List P). AllOnDisk p xs) (sym (is k)) (rest_on_disk p n (volumes_in k all).items (may.durable kept k));
 }
 

@@ -1,5 +1,5 @@
 -- What a new engine starts from, and what its parts stand for.
-use Rattle.std.specs.Prelude.{◌≡◌, ℕ, ◌+◌, ◌*◌, ◌%◌, ◌≤◌, ◌<◌, ◌^◌, Bool, true, false, cond, IsTrue, List, [], ◌∷◌, Option, None, Some, slice_get, get_or, length, map}
+use Rattle.std.specs.Prelude.{◌≡◌, ℕ, ◌+◌, ◌*◌, ◌%◌, ◌≤◌, ◌<◌, ◌^◌, Bool, true, false, cond, IsTrue, List, [], ◌∷◌, Option, None, Some, slice_get, slice_index, get_or, length, map}
 use Rattle.disk_core.specs.declared.log_disk.LogDisk as logs
 use Rattle.disk_core.specs.declared.page_disk.PageDisk as disks
 use Rattle.disk_core.specs.Pages.{Pages, page_bytes, zero_page}
@@ -10,10 +10,11 @@ use Rattle.wal_core.specs.declared.wal_log.WalLog.{WalLog}
 use Rattle.wal_core.specs.LogViews.{KeepsAll, log_counters, log_disk, log_down, log_first, log_flushed, log_next, log_recs}
 use Rattle.slru_bank.specs.Calls.{faults_of}
 use Rattle.slru_bank.specs.declared.bank.SlruBank.{SlruBank}
-use Rattle.store_pages.specs.Layouts.{state_in, xact_page_of, xact_place_of}
+use Rattle.store_pages.specs.Layouts.{member_page_of, state_in, word_page_of, word_place_of, xact_page_of, xact_place_of}
 use Rattle.store_pages.specs.declared.page_rule.PageRule as rules
 use Rattle.tx_core.specs.CleanMultis.{CleanMembers, CleanOffsets}
 use Rattle.tx_core.specs.CleanStart.{CleanStart}
+use Rattle.tx_core.specs.StoredBytes.{HasZeroTails, StoredBytes, byte_held, slot_place_of}
 use Rattle.tx_core.specs.declared.entry.Start.{Start}
 use Rattle.tx_core.specs.declared.entry.State.{State}
 use Rattle.tx_core.specs.Locks.{log_lock, members_lock, offsets_lock, subtrans_lock, xact_lock}
@@ -93,10 +94,20 @@ pub record ShowStates (c : Cluster) (b : Beginning) (bank : ℕ) (bytes : ℕ �
   pub each : (x : ℕ) → xact_page_of x % c.banks ≡ bank
       → state_in (bytes (xact_page_of x)) (xact_place_of x) ≡ number_of_state (shown x)
 
--- No recorded multixact is in use: of their stores, pages that show nothing are those of a clean start.
-pub record HasNoMultis (c : Cluster) (b : Beginning) : Type 0 where
-  pub offsets : CleanOffsets (life_from c b []) (λ x. None)
-  pub members : CleanMembers (life_from c b []) (λ x. None)
+-- Those of a bank of offsets show offsets of a clean start, byte by byte: of each multixact of the bank its own.
+pub record ShowOffsets (c : Cluster) (b : Beginning) (bank : ℕ) (bytes : ℕ → List ℕ) : Type 0 where
+  pub shown : ℕ → Option StoredBytes
+  pub clean : CleanOffsets (life_from c b []) shown
+  pub each : (x i : ℕ) → i < 4 → word_page_of x % c.banks ≡ bank
+      → slice_index (bytes (word_page_of x)) (word_place_of x + i) ≡ byte_held (shown x) i
+
+-- Those of a bank of members so show members, and nothing behind the last slot of a page.
+pub record ShowMembers (c : Cluster) (b : Beginning) (bank : ℕ) (bytes : ℕ → List ℕ) : Type 0 where
+  pub shown : ℕ → Option StoredBytes
+  pub clean : CleanMembers (life_from c b []) shown
+  pub each : (x i : ℕ) → i < 5 → member_page_of x % c.banks ≡ bank
+      → slice_index (bytes (member_page_of x)) (slot_place_of x i) ≡ byte_held (shown x) i
+  pub tails : HasZeroTails bytes
 
 -- no page has anything
 abbrev pub ShowNothing : (ℕ → List ℕ) → Type 0
@@ -108,9 +119,9 @@ module _ {P : Type 0} (p : disks.Ghosts P) where
   bytes_left removed disk q = cond removed zero_page (page_bytes (p.pages disk q))
 
   -- so each of these volumes, the first of which is that of this bank
-  abbrev pub AllShowStates : Cluster → Beginning → Bool → ℕ → List P → Type 0
-  AllShowStates c b removed first volumes =
-      (n : ℕ) (disk : P) → slice_get volumes n ≡ Some disk → ShowStates c b (first + n) (bytes_left removed disk)
+  abbrev pub AllShow : (ℕ → (ℕ → List ℕ) → Type 0) → Bool → ℕ → List P → Type 0
+  AllShow Shows removed first volumes =
+      (n : ℕ) (disk : P) → slice_get volumes n ≡ Some disk → Shows (first + n) (bytes_left removed disk)
 
   abbrev pub AllShowNothing : Bool → List P → Type 0
   AllShowNothing removed volumes =
@@ -127,11 +138,10 @@ module _ {P : Type 0} (p : disks.Ghosts P) where
   -- A life may begin over these volumes, the first of which are of this bank: their pages show what it begins with, where
   -- they may be removed first, and as they are they are on disk.
   pub record MayBeginOver (c : Cluster) (b : Beginning) (removed : Bool) (first : ℕ) (volumes : BankVolumes P) : Type 0 where
-    pub states : AllShowStates c b removed first volumes.xact.items
+    pub states : AllShow (ShowStates c b) removed first volumes.xact.items
     pub parents : AllShowNothing removed volumes.subtrans.items
-    pub offsets : AllShowNothing removed volumes.offsets.items
-    pub members : AllShowNothing removed volumes.members.items
-    pub none : HasNoMultis c b
+    pub offsets : AllShow (ShowOffsets c b) removed first volumes.offsets.items
+    pub members : AllShow (ShowMembers c b) removed first volumes.members.items
     pub durable : removed ≡ false → (k : Store) → AllOnDisk (volumes_in k volumes).items
 
 module _ {P O : Type 0} {g : disks.Ghosts P} {r : rules.Ghosts O} where

@@ -9,7 +9,7 @@ ghost use Rattle.tx_events.specs.Pages.{offset_page};
 ghost use Rattle.tx_events.specs.Base.{IsBase};
 ghost use Rattle.tx_events.specs.declared.refusal.Lock.TheVariants as locks;
 ghost use Rattle.engine_host.specs.declared.refusal.OpenRefusal.TheVariants as refusals;
-ghost use Rattle.engine_host.specs.Opening.{Beginning, HasNoMultis, IsNewMembers, IsNewOffsets, IsNewSubtrans, IsNewXact, IsOnDisk, ShowNothing, ShowStates, bytes_left};
+ghost use Rattle.engine_host.specs.Opening.{Beginning, IsNewMembers, IsNewOffsets, IsNewSubtrans, IsNewXact, IsOnDisk, ShowMembers, ShowNothing, ShowOffsets, ShowStates, bytes_left};
 
 use crate::cluster::Cluster;
 use crate::refusal::OpenRefusal;
@@ -143,7 +143,7 @@ fn first_offset_page(oldest: FullMulti) -> u32
     (last / u64::from(OFFSETS_PER_PAGE) % OFFSET_PAGES) as u32
 }
 
-// A bank of the offsets of multixacts, in which none shows.
+// A bank of the offsets of multixacts. The page of the next one counts as made.
 pub(crate) fn open_offsets<P: PageDisk + Drop>(
     alloc: Global,
     disk: P,
@@ -153,8 +153,7 @@ pub(crate) fn open_offsets<P: PageDisk + Drop>(
 ) -> Result<Box<SlruBank<P, OffsetPages>>, (P, OpenRefusal)>
     ghost begins: { Beginning }
     requires inside { bank < cluster.now.banks }
-    requires shows { IsTrue P.tells → ShowNothing (bytes_left P.PageDisk removes disk) }
-    requires none { IsTrue P.tells → HasNoMultis cluster.now begins }
+    requires shows { IsTrue P.tells → ShowOffsets cluster.now begins bank (bytes_left P.PageDisk removes disk) }
     requires durable { IsTrue P.tells → removes ≡ false → IsOnDisk P.PageDisk disk }
     ensures new { IfOk result (λ store. IsNewOffsets cluster.now begins bank store.value) }
     ensures count { IfOk result (λ store. P.faults disk ≤ faults_of store.value) }
@@ -178,8 +177,7 @@ pub(crate) fn open_members<P: PageDisk + Drop>(
 ) -> Result<Box<SlruBank<P, MemberPages>>, (P, OpenRefusal)>
     ghost begins: { Beginning }
     requires inside { bank < cluster.now.banks }
-    requires shows { IsTrue P.tells → ShowNothing (bytes_left P.PageDisk removes disk) }
-    requires none { IsTrue P.tells → HasNoMultis cluster.now begins }
+    requires shows { IsTrue P.tells → ShowMembers cluster.now begins bank (bytes_left P.PageDisk removes disk) }
     requires durable { IsTrue P.tells → removes ≡ false → IsOnDisk P.PageDisk disk }
     ensures new { IfOk result (λ store. IsNewMembers cluster.now begins bank store.value) }
     ensures count { IfOk result (λ store. P.faults disk ≤ faults_of store.value) }

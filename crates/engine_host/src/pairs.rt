@@ -2,7 +2,7 @@
 ghost use Rattle.std.specs.Prelude.{◌≡◌, ◌⊎◌, ◌<◌, false, IfErr, IfOk, IsTrue, OnErr, length, vec_capacity};
 ghost use Rattle.tx_events.specs.Base.{IsBase};
 ghost use Rattle.tx_events.specs.declared.refusal.Lock.TheVariants as locks;
-ghost use Rattle.engine_host.specs.Opening.{AllOnDisk, AllShowNothing, AllShowStates, Beginning, HasNoMultis, IsNewMembers, IsNewOffsets, IsNewSubtrans, IsNewXact};
+ghost use Rattle.engine_host.specs.Opening.{AllOnDisk, AllShow, AllShowNothing, Beginning, IsNewMembers, IsNewOffsets, IsNewSubtrans, IsNewXact, ShowMembers, ShowOffsets, ShowStates};
 ghost use Rattle.engine_host.specs.Refused.{IsBack, IsFailed, OpensFirst};
 
 use crate::banks::{open_members, open_offsets, open_subtrans, open_xact};
@@ -27,7 +27,7 @@ pub(crate) fn open_states<P: PageDisk + Drop>(
     requires base { IsBase cluster.now.base }
     requires inside { bank < cluster.now.banks }
     requires volumes { (0 < length xact.old.items) × (0 < length subtrans.old.items) }
-    requires states { IsTrue P.tells → AllShowStates P.PageDisk cluster.now begins removes bank xact.old.items }
+    requires states { IsTrue P.tells → AllShow P.PageDisk (ShowStates cluster.now begins) removes bank xact.old.items }
     requires parents { IsTrue P.tells → AllShowNothing P.PageDisk removes subtrans.old.items }
     requires durable { IsTrue P.tells → removes ≡ false → AllOnDisk P.PageDisk xact.old.items × AllOnDisk P.PageDisk subtrans.old.items }
     ensures new { IfOk result (λ banks. IsNewXact cluster.now begins bank banks.0.value × IsNewSubtrans cluster.now begins bank banks.1.value) }
@@ -68,8 +68,8 @@ pub(crate) fn open_multis<P: PageDisk + Drop>(
     ghost begins: { Beginning }
     requires inside { bank < cluster.now.banks }
     requires volumes { (0 < length offsets.old.items) × (0 < length members.old.items) }
-    requires empty { IsTrue P.tells → AllShowNothing P.PageDisk removes offsets.old.items × AllShowNothing P.PageDisk removes members.old.items }
-    requires none { IsTrue P.tells → HasNoMultis cluster.now begins }
+    requires shown { IsTrue P.tells → AllShow P.PageDisk (ShowOffsets cluster.now begins) removes bank offsets.old.items
+        × AllShow P.PageDisk (ShowMembers cluster.now begins) removes bank members.old.items }
     requires durable { IsTrue P.tells → removes ≡ false → AllOnDisk P.PageDisk offsets.old.items × AllOnDisk P.PageDisk members.old.items }
     ensures new { IfOk result (λ banks. IsNewOffsets cluster.now begins bank banks.0.value × IsNewMembers cluster.now begins bank banks.1.value) }
     ensures opened { IfOk result (λ banks. OpensFirst removes offsets.old.items offsets.new.items banks.0.value

@@ -1,5 +1,5 @@
 -- Each image of a bank's volume follows the bank's list: by the bank's course, step by step.
-use Rattle.std.proofs.Common.{ℕ, zero, suc, ◌≡◌, ◌++◌, ◌∷◌, [], ◌∙◌, List, None, Option, Some, IsTrue, arith, length, refl, subst, sym, ⊎_elim}
+use Rattle.std.proofs.Common.{ℕ, zero, suc, ◌≡◌, ◌%◌, ◌^◌, ◌++◌, ◌∷◌, [], ◌∙◌, ap, List, None, Option, Some, IsTrue, arith, length, refl, subst, sym, ⊎_elim}
 use Rattle.std.specs.List.{slice_index}
 use Rattle.disk_core.specs.Pages.{Pages}
 use Rattle.disk_core.specs.declared.log_disk.LogDisk as logs
@@ -9,15 +9,18 @@ use Rattle.store_pages.specs.declared.page_rule.PageRule as rules
 use Rattle.slru_bank.specs.declared.bank.SlruBank.{SlruBank}
 use Rattle.slru_bank.specs.Calls.{cutoff_of, last_page, pages_of, volume_of}
 use Rattle.slru_bank.specs.Changes.{SetsStates}
-use Rattle.slru_bank.specs.Crash.{CrashLeaves, IsMixture, mixture_kept}
+use Rattle.slru_bank.specs.Crash.{CrashLeaves, IsMixture, IsMixtureOrGone, mixture_kept}
+use Rattle.slru_bank.specs.Removal.{MayDrop, later_cutoff}
+use Rattle.tx_events.specs.PageOrder.{Ids, is_cut}
 use Rattle.tx_events.specs.declared.event.By.{By}
 use Rattle.tx_core.specs.declared.entry.Entry.{Entry}
+use Rattle.tx_core.specs.declared.entry.Kind.{Kind}
 use Rattle.tx_core.specs.declared.entry.Kind.TheVariants as kinds
 use Rattle.tx_core.specs.declared.entry.Start.{Start}
 use Rattle.tx_core.specs.declared.entry.State.{State}
 use Rattle.tx_core.specs.declared.entry.State.TheVariants as states
 use Rattle.tx_core.specs.EngineInvariant.{EngineInvariant}
-use Rattle.tx_core.specs.Entries.{AreFewIds}
+use Rattle.tx_core.specs.Entries.{AreFewIds, cut_in}
 use Rattle.tx_core.specs.Laws.{all_set}
 use Rattle.tx_core.specs.Locks.{xact_lock}
 use Rattle.tx_core.proofs.Nearness.{made_near}
@@ -33,7 +36,7 @@ use Rattle.bank_follows.proofs.Moments.{xact_moments}
 use Rattle.bank_follows.proofs.Near.{near_before, near_on_made}
 use Rattle.bank_follows.proofs.Standing.{banks_stand}
 use Rattle.bank_follows.proofs.StateSetting.{states_set}
-use Rattle.engine_parts.specs.Course.{HasCourse, IsOpened, Looked, Marked, Noted, PageMade, Step, Synced, Went}
+use Rattle.engine_parts.specs.Course.{HasCourse, IsOpened, Looked, Marked, Noted, PageMade, Removed, Step, Synced, Went}
 use Rattle.engine_parts.specs.Parts.{PartStands}
 use Rattle.engine_parts.specs.Stand.{number_of_state}
 use Rattle.engine_parts.specs.declared.part.Part.{Part}
@@ -146,8 +149,23 @@ module _ {P : Type 0} (g : disks.Ghosts P) (start : Start) (bank : ℕ) (told : 
               ((with_entry old new before e h near).syncs (record { sets_none = refl; makes_none = refl }) k.pages (k.crash told) k.durable).behind;
         })
 
+    removed : (old new : SlruBank P O g r) (before es : List Entry) → Holds old before → Removed old new before es → Holds new es
+    removed old new before es h k =
+        subst (λ (l : List Entry). Holds new l) (sym k.entries) (record {
+          shown = h.shown;
+          clean = h.clean;
+          stands = λ near.
+              let drops : MayDrop (is_cut Ids 32768 (later_cutoff Ids 32768 (cutoff_of old) (k.page % 2 ^ 17))) (pages_of old) (pages_of new) = subst (λ c. MayDrop (is_cut Ids 32768 c) (pages_of old) (pages_of new)) k.cutoff k.pages in
+              let lacks : CrashLeaves (IsMixtureOrGone (is_cut Ids 32768 (later_cutoff Ids 32768 (cutoff_of old) (k.page % 2 ^ 17))) (pages_of old) (pages_of old)) g.images g.moment g.left_at (volume_of old) (volume_of new) = subst (λ c. CrashLeaves (IsMixtureOrGone (is_cut Ids 32768 c) (pages_of old) (pages_of old)) g.images g.moment g.left_at (volume_of old) (volume_of new)) k.cutoff (k.crash told) in
+              subst (λ (z : ℕ × ℕ). Stood h.shown (before ++ k.entry ∷ []) (pages_of new) z.0 z.1 (volume_of new)) (λ j. (sym k.cutoff j, sym k.last j))
+              ((with_entry old new before k.entry h near).cuts k.page (no_sync k.page k.entry.kind k.cuts) k.cuts (record { sets_none = k.sets; makes_none = k.makes }) drops lacks).behind;
+        })
+      where
+        no_sync : (page : ℕ) (kind : Kind) → cut_in kind ≡ Some page → kind ≡ kinds.Sync → ⊥
+        no_sync page kind cut sync = absurd (let none : None ≡ Some page = sym (ap cut_in sync) ∙ cut in cc)
+
     stepped : (old new : SlruBank P O g r) (before es : List Entry) → Holds old before → Step start old new before es → Holds new es
-    stepped old new before es h = ⊎_elim (looked old new before es h) (⊎_elim (noted old new before es h) (⊎_elim (made old new before es h) (⊎_elim (marked old new before es h) (synced old new before es h))))
+    stepped old new before es h = ⊎_elim (looked old new before es h) (⊎_elim (noted old new before es h) (⊎_elim (made old new before es h) (⊎_elim (marked old new before es h) (⊎_elim (synced old new before es h) (removed old new before es h)))))
 
     holds : (steps : ℕ) (store : SlruBank P O g r) (es : List Entry) → Went start bank steps store es → Holds store es
     holds zero store es k = subst (λ (l : List Entry). Holds store l) (sym k.0) (opened store k.1)

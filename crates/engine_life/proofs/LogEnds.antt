@@ -45,6 +45,7 @@ module _ (start : Start) (number : ℕ) (past : List Rec) (g : GivesStart start 
             let next : n - number + 1 ≡ n + 1 - number = omega (arith, first) in
             let here : slice_get past (n - number) ≡ Some (records.Checkpoint (number + (n - number)) counters) = found ∙ ap (λ m. Some (records.Checkpoint m counters)) (sym place) in
             subst (λ m. (base_after g.base (take m past)).counters ≡ counters) next (g.whole (n - number) counters here);
+        below = g.below;
         begun = omega arith;
         upto = omega (arith, from);
         flushed = λ to stands. absurd (contains_has [] (record { by = stands.0; kind = kinds.Flush to }) stands.1);

@@ -73,6 +73,7 @@ xact_quiet start bank faults faults' last cutoff tells bytes bytes' led led' es 
       count = count;
       last_is = λ made. s.last_is (omega arith) ∙ sym (ap (λ z. z % 2 ^ 17) l);
       cutoff_is = cutoff_more (first_xact_page start) (2 ^ 17) es e cutoff s.cutoff_is;
+      near = s.near;
       shown = λ told made.
           let old = s.shown told (omega arith) in
           (old.0, old.1, record { each = λ x used here uncut. same told (xact_page_of x) (xact_place_of x) (omega arith) ∙ (old.2.each x used here uncut ∙ sym (ap (λ (p : Pages State). number_of_state (p.shows x)) (still old.0))) });
@@ -152,7 +153,7 @@ module _ (start : Start) (bank faults last cutoff : ℕ) (tells : Bool) (bytes :
                       ap (λ z. state_in (bytes' z) (xact_place_of x)) stored ∙ (ap (λ (b : List ℕ). state_in b (xact_place_of x)) put.here ∙ zero_state (xact_place_of x))
                   | false ↦ λ q.
                       let other : xact_page x ≢ page = λ (h : xact_page x ≡ page). false≢true (sym q ∙ (ap (λ z. z == page) h ∙ eqb-refl page)) in
-                      ap (λ (b : List ℕ). state_in b (xact_place_of x)) (put.others (xact_page_of x) (λ h. other (pages_apart start.base.next start.base.oldest page x window from (omega arith) used.1 used.2 h))) ∙ old.2.each x used here uncut
+                      ap (λ (b : List ℕ). state_in b (xact_place_of x)) (put.others (xact_page_of x) (λ h. other (pages_apart start.base.next start.base.oldest page x window from (omega arith) used.1 (let u = used.2 in omega arith) h))) ∙ old.2.each x used here uncut
                 ] in
                 step (xact_page x == page) refl ∙ sym (ap (λ (p : Pages State). number_of_state (p.shows x)) (after_made old.0 true is));
           },
@@ -175,6 +176,7 @@ module _ (start : Start) (bank faults last cutoff : ℕ) (tells : Bool) (bytes :
       count = count;
       last_is = lasts (nat_lt old_last page) refl;
       cutoff_is = cutoff_more (first_xact_page start) (2 ^ 17) es made_entry cutoff s.cutoff_is;
+      near = s.near;
       shown = shows (nat_lt old_last page) refl;
       course = λ told. leads told (s.course told);
     }

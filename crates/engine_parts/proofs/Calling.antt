@@ -1,5 +1,5 @@
 -- What a call did, from what it did behind the count of its command.
-use Rattle.std.proofs.Common.{false, true, ◌≡◌, ℕ, List, refl, sym, ap, subst, ◌∙◌, Some}
+use Rattle.std.proofs.Common.{false, true, ◌≡◌, ℕ, List, Option, refl, sym, ap, subst, ◌∙◌, Some}
 use Rattle.disk_core.specs.declared.log_disk.LogDisk as logs
 use Rattle.disk_core.specs.declared.page_disk.PageDisk as disks
 use Rattle.hall.specs.declared.hall.Hall.{Hall}
@@ -17,17 +17,20 @@ use Rattle.tx_core.specs.Entries.{history}
 use Rattle.session_levels.specs.Stands as levels
 use Rattle.engine_parts.specs.declared.part.Part.{Part}
 use Rattle.engine_parts.specs.declared.session.Caller.{Caller}
+use Rattle.engine_parts.specs.declared.session.Making.{Making}
 use Rattle.engine_parts.specs.declared.session.Session.{Session}
 use Rattle.engine_parts.specs.declared.session.Stage.{Stage}
 use Rattle.engine_parts.specs.Answers.{Acted, MayAnswer, touches_multis}
 use Rattle.engine_parts.specs.Calls.{IsCounted, MayRun, MayStep, Ran, next_command}
 use Rattle.engine_parts.specs.Holds.{Knowledge}
+use Rattle.engine_parts.specs.Makings.{KeepsMaking, has_more_multis}
 use Rattle.engine_parts.specs.Sessions.{MayCall, by_at, stance_of}
 use Rattle.engine_parts.specs.Stages.{pending_in}
 use Rattle.life_law.specs.Refused.{by_standing, is_by_standing, refused_by}
 use Rattle.engine_parts.specs.Standing.{LeavesStage}
 use Rattle.engine_parts.proofs.Acting.{acted_refused}
 use Rattle.engine_parts.proofs.Going.{ready_next}
+use Rattle.engine_parts.proofs.KeptMaking.{plain_making}
 use Rattle.engine_parts.proofs.Pending.{pending_answer}
 use Rattle.engine_parts.proofs.Beholding.{held_standing}
 use Rattle.engine_parts.proofs.Refusing.{is_pending, pending_stands, refused_events, stands_still}
@@ -58,6 +61,8 @@ module _ {H L P : Type 0} {l : logs.Ghosts L} {p : disks.Ghosts P} (hall : Hall 
         stage = subst (λ (z : Stage). LeavesStage command reply z new.session.stage) c.stage r.stage;
         held = r.held;
         still = λ q by. r.still q by ∙ ap (λ p. (view p).seen) c.pass;
+        making = subst (λ (z : (ℕ × List (List Entry)) × Option Making). KeepsMaking command reply (has_more_multis z.0.0 z.0.1 (view new.pass).seen) z.1 new.session.making)
+            (λ j. ((c.number j, (view (c.pass j)).seen), c.making j)) r.making;
         count = (r.count.0 ∙ counted, r.count.1 ∙ c.number);
       }
 
@@ -72,6 +77,7 @@ module _ {H L P : Type 0} {l : logs.Ghosts L} {p : disks.Ghosts P} (hall : Hall 
     stage = stands_still command r old.session.stage u.session.stage by c.stage;
     held = held_standing (start_of hall) (view u.pass).seen command r u.session.stage by;
     still = λ q is. ap (λ p. (view p).seen) c.pass;
+    making = plain_making command (replies.Refused r) (has_more_multis old.number (view old.pass).seen (view u.pass).seen) old.session.making u.session.making untouched c.making;
     count = (ap (λ z. z.commands) c.levels, c.number);
   }
 

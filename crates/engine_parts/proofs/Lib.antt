@@ -18,6 +18,7 @@ pub mod Answering
 pub mod Refusing
 pub mod Touching
 pub mod Acting
+pub mod KeptMaking
 pub mod Calling
 pub mod Pending
 pub mod Beholding

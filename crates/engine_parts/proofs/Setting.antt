@@ -20,7 +20,7 @@ use Rattle.tx_core.specs.Entries.{Mark}
 use Rattle.tx_core.specs.Pages.{Pages, set_by, xact_store, zeroed, zeroed_in}
 use Rattle.tx_core.specs.Verdict.{state_for}
 use Rattle.slru_bank.specs.Changes.{SetsStates}
-use Rattle.engine_parts.specs.Stand.{IsInUse, XactStands, number_of_state, xact_pages, first_xact_page}
+use Rattle.engine_parts.specs.Stand.{HasPlace, IsInUse, XactStands, number_of_state, xact_pages, first_xact_page}
 use Rattle.engine_parts.proofs.Banking.{last_from_first, pages_push}
 use Rattle.tx_core.specs.FaultsRise.{faults_told}
 use Rattle.engine_parts.proofs.Cutoffs.{cutoff_more}
@@ -96,8 +96,8 @@ made_upto start a es page m = ⊎_elim (λ (q : page ≡ xact_page start.base.ne
         (λ (new : Has (e ∷ []) z). ⊎_elim (λ (q : e ≡ z). subst (λ (d : Entry). page ≤ (xact_pages start a (es ++ d ∷ [])).last) (sym q) (last_takes start a es by page)) (λ n. absurd n) new)
         (has_cases es (e ∷ []) z h))
 
--- an id on a made page is in use, as long as no page was made past the ids in use
-pub in_use : (start : Start) (es : List Entry) (id : ℕ) → (xact_pages start (λ x. None) es).last * 32768 < start.base.next + 2 ^ 29 → WasMade es (xact_page start.base.next) (xact_page id) → IsFullId id → start.base.oldest ≤ id → IsInUse start id
+-- a life has room for an id on a made page, as long as no page was made past those
+pub in_use : (start : Start) (es : List Entry) (id : ℕ) → (xact_pages start (λ x. None) es).last * 32768 < start.base.next + 2 ^ 29 → WasMade es (xact_page start.base.next) (xact_page id) → IsFullId id → start.base.oldest ≤ id → HasPlace start id
 in_use start es id few made full old = let up = made_upto start (λ x. None) es (xact_page id) made in (full, old, omega arith)
 
 pub xact_set : (start : Start) (bank faults faults' last last' cutoff cutoff' : ℕ) (tells : Bool) (bytes bytes' : ℕ → List ℕ) (led led' : List Entry → Type 0) (es : List Entry) (by : By) (state : State) (ids : List ℕ) → XactStands start bank tells faults last cutoff bytes led es → last' ≡ last → cutoff' ≡ cutoff
@@ -115,6 +115,7 @@ xact_set start bank faults faults' last last' cutoff cutoff' tells bytes bytes' 
       count = count;
       last_is = λ made. s.last_is (omega arith) ∙ sym (ap (λ z. z % 2 ^ 17) same);
       cutoff_is = cutoff_more (first_xact_page start) (2 ^ 17) es e cutoff s.cutoff_is;
+      near = s.near;
       shown = λ told made.
           let few : (xact_pages start (λ x. None) es).last * 32768 < start.base.next + 2 ^ 29 = omega arith in
           let old = s.shown told few in
@@ -145,5 +146,5 @@ xact_set start bank faults faults' last last' cutoff cutoff' tells bytes bytes' 
         step true q =
             let page : xact_page_of x ≡ xact_page_of (slice_index ids 0) = eqb-true (xact_page_of x) (xact_page_of (slice_index ids 0)) q in
             subst (λ z. state_in (bytes' z) (xact_place_of x) ≡ state_in (bytes z) (xact_place_of x)) (sym page)
-            (put.same_page (xact_place_of x) (omega arith) (λ j within place. k.none j within (let m = used j within in let u = in_use start es (slice_index ids j) few m.0 m.1 m.2 in apart start.base.next start.base.oldest (slice_index ids j) x window u.1 u.2 used_x.1 used_x.2 (one_page j within ∙ sym page) (sym place))))
+            (put.same_page (xact_place_of x) (omega arith) (λ j within place. k.none j within (let m = used j within in let u = in_use start es (slice_index ids j) few m.0 m.1 m.2 in apart start.base.next start.base.oldest (slice_index ids j) x window u.1 u.2 used_x.1 (let b = used_x.2 in omega arith) (one_page j within ∙ sym page) (sym place))))
         step false q = ap (λ (t : List ℕ). state_in t (xact_place_of x)) (put.others (xact_page_of x) (λ (h : xact_page_of x ≡ xact_page_of (slice_index ids 0)). false≢true (sym q ∙ (ap (λ z. z == xact_page_of (slice_index ids 0)) h ∙ eqb-refl (xact_page_of (slice_index ids 0))))))

@@ -22,7 +22,7 @@ use Rattle.tx_core.specs.Entries.{Link, links_in}
 use Rattle.tx_core.specs.Locks.{subtrans_page, subtrans_lock}
 use Rattle.tx_core.specs.Pages.{Pages, after_entry, parent_for, set_by, subtrans_store, zeroed, zeroed_in}
 use Rattle.store_pages.specs.Layouts.{number_in, word_page_of, word_place_of}
-use Rattle.engine_parts.specs.Stand.{IsInUse, ShowsParents, SubtransStands, number_of_parent, subtrans_pages, first_subtrans_page}
+use Rattle.engine_parts.specs.Stand.{HasPlace, IsInUse, ShowsParents, SubtransStands, number_of_parent, subtrans_pages, first_subtrans_page}
 use Rattle.tx_events.specs.Ids.{low_half}
 use Rattle.engine_parts.proofs.Cutoffs.{cutoff_more}
 use Rattle.tx_core.specs.FaultsRise.{faults_told}
@@ -86,6 +86,7 @@ sub_quiet start bank faults faults' last cutoff tells bytes bytes' led led' es e
       count = count;
       last_is = λ made. s.last_is (omega arith) ∙ sym (ap (λ z. z % 2 ^ 21) l);
       cutoff_is = cutoff_more (first_subtrans_page start) (2 ^ 21) es e cutoff s.cutoff_is;
+      near = s.near;
       shown = λ told made.
           let old = s.shown told (omega arith) in
           record { each = λ x used here uncut. ap (λ (b : List ℕ). number_in b (word_place_of x)) (same told (word_page_of x)) ∙ (old.each x used here uncut ∙ sym (ap (λ (p : Pages ℕ). number_of_parent (p.shows x)) still)) };
@@ -159,7 +160,7 @@ module _ (start : Start) (bank faults last cutoff : ℕ) (tells : Bool) (bytes :
                     ap (λ z. number_in (bytes' z) (word_place_of x)) stored ∙ (ap (λ (b : List ℕ). number_in b (word_place_of x)) put.here ∙ zero_number (word_place_of x))
                 | false ↦ λ q.
                     let other : subtrans_page x ≢ page = λ (h : subtrans_page x ≡ page). false≢true (sym q ∙ (ap (λ z. z == page) h ∙ eqb-refl page)) in
-                    ap (λ (b : List ℕ). number_in b (word_place_of x)) (put.others (word_page_of x) (λ h. other (pages_apart start.base.next start.base.oldest page x window from (omega arith) used.1 used.2 h))) ∙ old.each x used here uncut
+                    ap (λ (b : List ℕ). number_in b (word_place_of x)) (put.others (word_page_of x) (λ h. other (pages_apart start.base.next start.base.oldest page x window from (omega arith) used.1 (let u = used.2 in omega arith) h))) ∙ old.each x used here uncut
               ] in
               step (subtrans_page x == page) refl ∙ sym (ap (λ (p : Pages ℕ). number_of_parent (p.shows x)) (after_made true is));
         }
@@ -173,7 +174,7 @@ module _ (start : Start) (bank faults last cutoff : ℕ) (tells : Bool) (bytes :
 
     -- a page is made, or it was made before
     pub sub_made : faults_told start (subtrans_lock bank) (es ++ made_entry ∷ []) ≤ faults' → (IsTrue tells → led es → led' (es ++ made_entry ∷ [])) → SubtransStands start bank tells faults' last' cutoff bytes' led' (es ++ made_entry ∷ [])
-    sub_made count leads = record { inside = s.inside; count = count; last_is = lasts (nat_lt old_last page) refl; cutoff_is = cutoff_more (first_subtrans_page start) (2 ^ 21) es made_entry cutoff s.cutoff_is; shown = shows (nat_lt old_last page) refl; course = λ told. leads told (s.course told) }
+    sub_made count leads = record { inside = s.inside; count = count; last_is = lasts (nat_lt old_last page) refl; cutoff_is = cutoff_more (first_subtrans_page start) (2 ^ 21) es made_entry cutoff s.cutoff_is; near = s.near; shown = shows (nat_lt old_last page) refl; course = λ told. leads told (s.course told) }
 
 -- ---- a parent is set
 
@@ -200,10 +201,11 @@ module _ (start : Start) (bank faults last cutoff : ℕ) (tells : Bool) (bytes :
         count = count;
         last_is = λ made. s.last_is (omega arith) ∙ sym (ap (λ z. z % 2 ^ 21) same);
         cutoff_is = cutoff_more (first_subtrans_page start) (2 ^ 21) es set_entry cutoff s.cutoff_is;
+        near = s.near;
         shown = λ told made.
             let old = s.shown told (omega arith) in
             let put = sets told in
-            let used_id : IsInUse start id = (full, old_id, omega arith) in
+            let used_id : HasPlace start id = (full, old_id, omega arith) in
             record {
               each = λ x used here uncut.
                   let step : (b : Bool) → (id == x) ≡ b → number_in (bytes' (word_page_of x)) (word_place_of x) ≡ number_of_parent (cond b (Some parent) ((subtrans_pages start es).shows x)) = elim [
@@ -219,12 +221,12 @@ module _ (start : Start) (bank faults last cutoff : ℕ) (tells : Bool) (bytes :
         course = λ told. leads told (s.course told);
       })
     where
-      stays : IsInUse start id → (x : ℕ) → IsInUse start x → SetsEntry (word_page_of id) (low_half id % 2048) (low_half parent) bytes bytes' → id ≢ x → number_in (bytes' (word_page_of x)) (word_place_of x) ≡ number_in (bytes (word_page_of x)) (word_place_of x)
+      stays : HasPlace start id → (x : ℕ) → IsInUse start x → SetsEntry (word_page_of id) (low_half id % 2048) (low_half parent) bytes bytes' → id ≢ x → number_in (bytes' (word_page_of x)) (word_place_of x) ≡ number_in (bytes (word_page_of x)) (word_place_of x)
       stays used_id x used put other = step (word_page_of x == word_page_of id) refl
         where
           step : (b : Bool) → (word_page_of x == word_page_of id) ≡ b → number_in (bytes' (word_page_of x)) (word_place_of x) ≡ number_in (bytes (word_page_of x)) (word_place_of x)
           step true q =
               let page : word_page_of x ≡ word_page_of id = eqb-true (word_page_of x) (word_page_of id) q in
               subst (λ z. number_in (bytes' z) (word_place_of x) ≡ number_in (bytes z) (word_place_of x)) (sym page)
-              (put.same_page (low_half x % 2048) (omega arith) (λ (h : low_half x % 2048 ≡ low_half id % 2048). other (apart start.base.next start.base.oldest id x window used_id.1 used_id.2 used.1 used.2 (sym page) (sym h))))
+              (put.same_page (low_half x % 2048) (omega arith) (λ (h : low_half x % 2048 ≡ low_half id % 2048). other (apart start.base.next start.base.oldest id x window used_id.1 used_id.2 used.1 (let u = used.2 in omega arith) (sym page) (sym h))))
           step false q = ap (λ (t : List ℕ). number_in t (word_place_of x)) (put.others (word_page_of x) (λ (h : word_page_of x ≡ word_page_of id). false≢true (sym q ∙ (ap (λ z. z == word_page_of id) h ∙ eqb-refl (word_page_of id)))))

@@ -31,6 +31,7 @@ use Rattle.tx_core.specs.OwnMultis.{own_multis}
 use Rattle.engine_parts.proofs.Touching.{any_answer, no_multis}
 use Rattle.engine_parts.specs.Calls.{IsCounted, MayRun, Ran, next_command}
 use Rattle.engine_parts.specs.Holds.{Knowledge, Section}
+use Rattle.engine_parts.specs.Makings.{has_more_multis}
 use Rattle.engine_parts.specs.Sessions.{IsAt, IsReady, MayCall, by_at, inner_id, look_by, stance_of}
 use Rattle.engine_parts.specs.Stages.{IsInStage, pending_in}
 use Rattle.engine_parts.specs.Standing.{flushes, moves_end, needs_log}
@@ -38,6 +39,7 @@ use Rattle.engine_parts.specs.Steps.{WentOn}
 use Rattle.engine_parts.proofs.Beholding.{held_unneeded, not_standing}
 use Rattle.engine_parts.proofs.Calling.{may_counted, ran_counted}
 use Rattle.engine_parts.proofs.Going.{stage_later}
+use Rattle.engine_parts.proofs.KeptMaking.{plain_making}
 use Rattle.engine_parts.proofs.Refusing.{keeps_stage}
 use Rattle.engine_parts.proofs.Sectioning.{shared_adds}
 
@@ -91,6 +93,7 @@ module _ {H L P : Type 0} {l : logs.Ghosts L} {p : disks.Ghosts P} (hall : Hall 
         stage = keeps_stage command reply u.session.stage new.session.stage still (ap (λ (z : Session). z.stage) same);
         held = held_unneeded p.tells (start_of hall) (view new.pass).seen (alone (history (view u.pass).seen) (history (view new.pass).seen)) (by_at u.number u.session.levels.commands) (stance_of u.session) u.session.stage new.session.stage command reply unflushed unneeded allowed;
         still = λ q is. not_standing (by_standing reply) q free is;
+        making = plain_making command reply (has_more_multis u.number (view u.pass).seen (view new.pass).seen) u.session.making new.session.making untouched (ap (λ (z : Session). z.making) same);
         count = (ap (λ (z : Session). z.levels.commands) same, number);
       })
 

@@ -18,6 +18,7 @@ use Rattle.engine_parts.specs.declared.part.Part.{Part}
 use Rattle.engine_parts.specs.declared.session.Caller.{Caller}
 use Rattle.engine_parts.specs.declared.session.Stage.{Stage}
 use Rattle.engine_parts.specs.Answers.{Acted}
+use Rattle.engine_parts.specs.Makings.{KeepsMaking, has_more_multis}
 use Rattle.engine_parts.specs.Sessions.{MayCall, by_at, stance_of}
 use Rattle.engine_parts.specs.Stand.{IsDownAt}
 use Rattle.engine_parts.specs.Standing.{HoldsDown, LeavesStage}
@@ -69,4 +70,6 @@ module _ {H L P : Type 0} {l : logs.Ghosts L} {p : disks.Ghosts P} where
     pub held : IsHeldBehind (start_of hall) (view new.pass).seen command reply new.session.stage
     -- a command that is refused by how its session stands enters no lock
     pub still : (r : Refusal) → by_standing reply ≡ Some r → (view new.pass).seen ≡ (view old.pass).seen
+    pub making : KeepsMaking command reply (has_more_multis old.number (view old.pass).seen (view new.pass).seen)
+        old.session.making new.session.making
     pub count : (new.session.levels.commands ≡ number) × (new.number ≡ old.number)

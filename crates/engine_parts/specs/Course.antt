@@ -7,16 +7,17 @@ use Rattle.store_pages.specs.declared.page_rule.PageRule as rules
 use Rattle.store_pages.specs.Layouts.{state_in, xact_page_of, xact_place_of}
 use Rattle.slru_bank.specs.declared.bank.SlruBank.{SlruBank}
 use Rattle.slru_bank.specs.Bank.{PutsPage}
-use Rattle.slru_bank.specs.Calls.{CrashKeeps, IsDurable, SamePages, cutoff_of, last_page, pages_of}
+use Rattle.slru_bank.specs.Calls.{CrashKeeps, CrashMayLack, IsDurable, SamePages, cutoff_of, last_page, pages_of}
 use Rattle.slru_bank.specs.Changes.{SetsStates, ShareAPage}
-use Rattle.tx_events.specs.PageOrder.{Ids, page_precedes}
+use Rattle.slru_bank.specs.Removal.{MayDrop, later_cutoff}
+use Rattle.tx_events.specs.PageOrder.{Ids, is_cut, page_precedes}
 use Rattle.tx_events.specs.declared.event.By.{By}
 use Rattle.tx_core.specs.declared.entry.Entry.{Entry}
 use Rattle.tx_core.specs.declared.entry.Kind.TheVariants as kinds
 use Rattle.tx_core.specs.declared.entry.Start.{Start}
 use Rattle.tx_core.specs.declared.entry.State.{State}
 use Rattle.tx_core.specs.CleanStart.{CleanStart, IsNear}
-use Rattle.tx_core.specs.Entries.{marks_in}
+use Rattle.tx_core.specs.Entries.{cut_in, marks_in}
 use Rattle.tx_core.specs.Laws.{all_set}
 use Rattle.tx_core.specs.Locks.{xact_lock, xact_lock_of, xact_page}
 use Rattle.tx_core.specs.Pages.{zeroed_in}
@@ -42,13 +43,14 @@ module _ {P O : Type 0} {g : disks.Ghosts P} {r : rules.Ghosts O} where
     pub pages : SamePages old new
     pub crash : CrashKeeps old new
 
-  -- an entry that sets no state and makes no page, for no call
+  -- an entry that sets no state, makes no page and cuts none, for no call
   pub record Noted (old new : SlruBank P O g r) (before es : List Entry) : Type 0 where
     pub entry : Entry
     pub entries : es ≡ before ++ entry ∷ []
     pub same : new ≡ old
     pub sets : marks_in entry ≡ []
     pub makes : zeroed_in entry.kind ≡ None
+    pub cuts : cut_in entry.kind ≡ None
     pub other : entry.kind ≡ kinds.Sync → ⊥
 
   -- a page was made, or stood already
@@ -87,10 +89,23 @@ module _ {P O : Type 0} {g : disks.Ghosts P} {r : rules.Ghosts O} where
     pub durable : IsDurable new
     pub crash : CrashKeeps old new
 
+  -- what lies before a page was removed, or some of it, where the volume failed
+  pub record Removed (old new : SlruBank P O g r) (before es : List Entry) : Type 0 where
+    pub entry : Entry
+    pub page : ℕ
+    pub entries : es ≡ before ++ entry ∷ []
+    pub cuts : cut_in entry.kind ≡ Some page
+    pub sets : marks_in entry ≡ []
+    pub makes : zeroed_in entry.kind ≡ None
+    pub cutoff : cutoff_of new ≡ later_cutoff Ids 32768 (cutoff_of old) (page % 2 ^ 17)
+    pub pages : MayDrop (is_cut Ids 32768 (cutoff_of new)) (pages_of old) (pages_of new)
+    pub last : last_page new ≡ last_page old
+    pub crash : CrashMayLack (is_cut Ids 32768 (cutoff_of new)) old new
+
   abbrev pub Step : Start → SlruBank P O g r → SlruBank P O g r → List Entry → List Entry → Type 0
   Step start old new before es =
       Looked old new before es ⊎ (Noted old new before es ⊎ (PageMade old new before es
-      ⊎ (Marked start old new before es ⊎ Synced old new before es)))
+      ⊎ (Marked start old new before es ⊎ (Synced old new before es ⊎ Removed old new before es))))
 
   -- so many steps led to this bank and this list
   abbrev pub Went : Start → ℕ → ℕ → SlruBank P O g r → List Entry → Type 0

@@ -1,11 +1,10 @@
 -- What a command on multixacts may be answered, by the lists as they are then or later.
-use Rattle.std.specs.Prelude.{◌≡◌, ◌<◌, ℕ, Bool, IsTrue, List, Option, Some, None, Contains, slice_get, take}
+use Rattle.std.specs.Prelude.{◌≡◌, ◌<◌, ◌≤◌, ℕ, Bool, IsTrue, List, Contains, Some, slice_get, take}
 use Rattle.std.specs.List.{filter_map}
 use Rattle.notes.specs.Lists.{Grows, at}
 use Rattle.tx_events.specs.declared.event.By.{By}
 use Rattle.tx_events.specs.declared.multi.Member.{Member}
 use Rattle.tx_events.specs.declared.multi.MultiEvent.TheVariants as multis
-use Rattle.tx_events.specs.declared.record.Rec.{Rec}
 use Rattle.tx_events.specs.declared.record.Rec.TheVariants as records
 use Rattle.tx_events.specs.declared.refusal.Refusal.TheVariants as refusals
 use Rattle.tx_events.specs.Multis.{next_made}
@@ -14,6 +13,7 @@ use Rattle.tx_model.specs.declared.reply.Reply.{Reply}
 use Rattle.tx_model.specs.declared.reply.Reply.TheVariants as replies
 use Rattle.tx_model.specs.Replies.{RoundSpan}
 use Rattle.tx_model.specs.Stance.{Stance}
+pub use Rattle.life_law.specs.MultiPlaces.{recorded_by}
 use Rattle.life_law.specs.MultiPlaces.{Recorded}
 use Rattle.life_law.specs.MultiReplies.{MayReplyMulti}
 use Rattle.tx_core.specs.declared.entry.Entry.{Entry}
@@ -26,16 +26,12 @@ use Rattle.engine_parts.specs.Met.{MetFault, MetLogFault}
 use Rattle.engine_parts.specs.Stand.{IsDownAt}
 use Rattle.engine_parts.specs.Standing.{appends, asks_volume, flushes, needs_log, takes_memory}
 
-abbrev pub recorded_by : Rec → Option Recorded
-recorded_by (records.Multi multi offset members) = Some (multi, offset, members)
-recorded_by rec = None
-
 -- the multixacts with which a life begins
 abbrev pub recorded_in : Start → List Recorded
 recorded_in start = filter_map recorded_by start.recorded
 
 -- There was a moment between the command's begin and later at which no offset of the multixact was set, though it was below
--- the next one when the command pinned. Of the base it has no record. Who gave it then, or is at it still, is told where
+-- the next one when the command pinned it or one before it. Of the base it has no record. Who gave it then, or is at it still, is told where
 -- the promises of all commands meet.
 pub record WasNotYet (start : Start) (begun lists : List (List Entry)) (by : By) (multi : ℕ) : Type 0 where
   pub seen : List (List Entry)
@@ -44,6 +40,7 @@ pub record WasNotYet (start : Start) (begun lists : List (List Entry)) (by : By)
   pub pinned : ℕ
   pub asked : ℕ
   pub stands : slice_get (multi_history seen) pinned ≡ Some (multis.Hold by asked)
+  pub from_asked : asked ≤ multi
   pub below : multi < next_made start.base.multi (take pinned (multi_history seen))
   pub unset : (offset : ℕ) → IsOffsetSet start seen multi offset → ⊥
   pub unrecorded : multi < start.base.multi → (offset : ℕ) (members : List Member)

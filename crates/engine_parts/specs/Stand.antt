@@ -7,7 +7,7 @@ use Rattle.tx_events.specs.declared.event.By.{By}
 use Rattle.tx_events.specs.declared.record.Counters.{Counters}
 use Rattle.tx_events.specs.declared.record.Rec.{Rec}
 use Rattle.tx_events.specs.declared.record.Rec.TheVariants as records
-use Rattle.log_bases.specs.LifeBase.{LifeBase, base_after}
+use Rattle.log_bases.specs.LifeBase.{AreBelowNext, LifeBase, base_after}
 use Rattle.multi_store.specs.Generator.{Generator}
 use Rattle.proc_table.specs.Table.{Table}
 use Rattle.wal_core.specs.Kept.{KeepsRecords}
@@ -49,6 +49,7 @@ pub record IsDownAt (start : Start) (es : List Entry) (flushed : ℕ) : Type 0 w
 -- the life begins with, and each checkpoint among them has the counters that they give behind it.
 pub record GivesStart (start : Start) (number : ℕ) (past : List Rec) : Type 0 where
   pub base : LifeBase
+  pub below : AreBelowNext base
   pub gives : base_after base past ≡ record { counters = start.base; committed = start.committed; recorded = start.recorded }
   pub place : start.from ≡ number + length past
   pub some : 1 ≤ length past
@@ -150,9 +151,23 @@ first_xact_page start = xact_page start.base.oldest
 abbrev pub first_subtrans_page : Start → ℕ
 first_subtrans_page start = subtrans_page (id_before start.base.next)
 
--- the ids for which the pages of a life have room
+-- The ids of a life of few ids: it gives fewer than 2,950,000. They lie within half a ring of each of its cutoffs.
 abbrev pub IsInUse : Start → ℕ → Type 0
-IsInUse start x = IsFullId x × (start.base.oldest ≤ x) × (x < start.base.next + 2 ^ 30)
+IsInUse start x = IsFullId x × (start.base.oldest ≤ x) × (x < start.base.next + 2950000)
+
+-- the ids for which the pages of a life have room
+abbrev pub HasPlace : Start → ℕ → Type 0
+HasPlace start x = IsFullId x × (start.base.oldest ≤ x) × (x < start.base.next + 2 ^ 30)
+
+-- A page up to which a bank may be cut: one less than half a ring, by two segments, past that of the oldest id with which
+-- the life began. What a cutoff there cuts each later one cuts too. pg_subtrans may begin one page before.
+abbrev pub IsXactReach : Start → ℕ → Type 0
+IsXactReach start page =
+    (xact_page start.base.oldest ≤ page) × (page + 64 ≤ xact_page start.base.oldest + 2 ^ 16)
+
+abbrev pub IsSubtransReach : Start → ℕ → Type 0
+IsSubtransReach start page =
+    (subtrans_page start.base.oldest ≤ page + 1) × (page + 64 ≤ subtrans_page start.base.oldest + 2 ^ 20)
 
 -- the two bits of a state
 abbrev pub number_of_state : Option State → ℕ
@@ -186,6 +201,7 @@ pub record XactStands (start : Start) (bank : ℕ) (tells : Bool) (faults last c
   pub count : faults_told start (xact_lock bank) es ≤ faults
   pub last_is : AreXactPagesNear start es → last ≡ last_xact_page start es % 2 ^ 17
   pub cutoff_is : IsCutoff (first_xact_page start) (2 ^ 17) es cutoff
+  pub near : (page : ℕ) × (cutoff ≡ page % 2 ^ 17) × IsXactReach start page
   pub shown : IsTrue tells → AreXactPagesNear start es
       → (before : ℕ → Option State) × CleanStart start before
       × ShowsStates start bank cutoff bytes (xact_pages start before es).shows
@@ -215,6 +231,7 @@ pub record SubtransStands (start : Start) (bank : ℕ) (tells : Bool) (faults la
   pub count : faults_told start (subtrans_lock bank) es ≤ faults
   pub last_is : AreSubtransPagesNear start es → last ≡ (subtrans_pages start es).last % 2 ^ 21
   pub cutoff_is : IsCutoff (first_subtrans_page start) (2 ^ 21) es cutoff
+  pub near : (page : ℕ) × (cutoff ≡ page % 2 ^ 21) × IsSubtransReach start page
   pub shown : IsTrue tells → AreSubtransPagesNear start es
       → ShowsParents start bank cutoff bytes (subtrans_pages start es).shows
   pub course : IsTrue tells → led es

@@ -30,7 +30,8 @@ use Rattle.run_law.specs.Turns.{turn_in, turns_in}
 use Rattle.script_gen.specs.Choices.{Choices, behind_transaction, choices, drawn_from}
 use Rattle.script_gen.specs.Counts as all
 use Rattle.script_gen.specs.Generated.{generated, is_round_first, items_from, run_by, session_of, transaction, transaction_items}
-use Rattle.script_gen.proofs.Levels.{few_levels}
+use Rattle.run_law.proofs.Takers.{levels_take}
+use Rattle.script_gen.proofs.Levels.{few_takers}
 use Rattle.script_gen.proofs.Ranges.{IsDrawn, each_item}
 use Rattle.gen_counts.specs.Counts as said
 use Rattle.gen_counts.proofs.FewIds.{given_count, lines_few}
@@ -149,7 +150,7 @@ IsQuietLine f l = IsDrawn l.command → AllByRecursion IsQuiet (events_of l.by f
 
 quiet_lines : (f : Facts) (ss : List Step) → EachPlace ss (λ before step. IsLawfulRound f (flat_map lines_in before) (lines_in step)) → AllByRecursion (IsQuietLine f) (flat_map lines_in ss)
 quiet_lines f ss each = by_line f (AllByRecursion (IsQuietLine f)) tt
-    (λ before l round a lawful. both_all (IsQuietLine f) before (l ∷ []) a ((λ d. own_quiet l.by (stance f.events before l.by.session) l.command l.reply (events_of l.by f.events) d lawful.events), tt))
+    (λ before l round multis a lawful. both_all (IsQuietLine f) before (l ∷ []) a ((λ d. own_quiet l.by (stance f.events before l.by.session) l.command l.reply (events_of l.by f.events) d lawful.events), tt))
     ss each
 
 both_quiet : (f : Facts) (lines : List Line) → AllByRecursion (IsQuietLine f) lines → AllByRecursion IsDrawnTurn (map turn_of lines) → AllByRecursion (λ l. AllByRecursion IsQuiet (events_of l.by f.events)) lines
@@ -255,7 +256,9 @@ counts tells banks seed size r few begins lawful fine =
     let has : AllByRecursion (λ e. has_line lines e ≡ true) r.life.events = recursion_from_All (λ e. IsTrue (has_line lines e)) r.life.events lawful.lawful.no_other in
     let drawn = lines_drawn seed size ss few told in
     let quiet = history_quiet r.life.events lines (both_quiet f lines (quiet_lines f ss each) drawn) has in
-    let ids = few_given f ss script each has told (few_levels seed size few) in
+    let takers = few_takers seed size few in
+    let levels = levels_take (λ (t : ℕ × Command). t.1) (turns_in script) in
+    let ids = few_given f ss script each has told (omega (arith, takers, levels)) in
     let w = wide f (ap (λ c. c.next) begins.base_is) (ap (λ c. c.oldest) begins.base_is) lawful.history ids quiet in
     let goods = all_good f seed size ss w each told (lines_fine lines drawn fine) in
     let commands = commands_count ss script told in

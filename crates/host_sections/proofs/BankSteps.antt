@@ -51,7 +51,7 @@ module _ {P O : Type 0} {g : disks.Ghosts P} {r : rules.Ghosts O} (start : Start
       (told_same (xact_lock bank) s.count) same
       (λ told k.
       let synced : Synced old new es (es ++ sync_by by ∷ []) = record { by = by; entries = refl; last = last; cutoff = cutoff; pages = same told; durable = durable told; crash = crash } in
-      (suc k.0, (old, es, k.1, inr (inr (inr (inr synced))))))
+      (suc k.0, (old, es, k.1, inr (inr (inr (inr (inl synced)))))))
 
   -- its volume failed
   pub xact_failed : IsXactOf start bank old es → IsXactOf start bank new (es ++ fault_by by (faults_of new) ∷ [])
@@ -61,7 +61,7 @@ module _ {P O : Type 0} {g : disks.Ghosts P} {r : rules.Ghosts O} (start : Start
       (told_now (xact_lock bank)) same
       (λ told k.
       let look : Looked old new es es = record { entries = refl; last = last; cutoff = cutoff; pages = same told; crash = crash } in
-      let note : Noted new new es (es ++ e ∷ []) = record { entry = e; entries = refl; same = refl; sets = refl; makes = refl; other = λ sync. no_sync by (faults_of new) sync } in
+      let note : Noted new new es (es ++ e ∷ []) = record { entry = e; entries = refl; same = refl; sets = refl; makes = refl; cuts = refl; other = λ sync. no_sync by (faults_of new) sync } in
       (suc (suc k.0), (new, es, (old, es, k.1, inl look), inr (inl note))))
 
   -- so a bank of pg_subtrans

@@ -27,6 +27,7 @@ use Rattle.life_law.specs.LawfulLife.{facts_of}
 use Rattle.life_law.specs.Laws.{AbortedIdsAreUnrecorded, IsLawful, IsOkOf, OkAbortsAreUnrecorded, OkCommitsAreFlushed, StandsBehind, UncommittedRecordsAreInDoubt, UndoneIdsAreUnrecorded, is_commit, last_commit, lines_of}
 use Rattle.life_law.specs.LifeLog.{IsTransaction}
 use Rattle.life_law.specs.Lines.{IsLawfulLine}
+use Rattle.life_law.specs.MultiPlaces.{multi_span}
 use Rattle.life_law.specs.Pending.{pending_after, pending_from}
 use Rattle.life_law.proofs.Closed.{aborted_unrecorded, undone_unrecorded}
 
@@ -34,7 +35,7 @@ use Rattle.life_law.proofs.Closed.{aborted_unrecorded, undone_unrecorded}
 
 own_events : (r : LifeReport) (before : List Line) (l : Line) → IsLawful r → StandsBehind r.steps before l → HasEvents l.by (stance r.life.events before l.by.session) l.command l.reply (events_of l.by r.life.events)
 own_events r before l w s =
-    let line : IsLawfulLine (facts_of w.tells w.banks r.life r.steps) (span_of r.life.events (flat_map lines_in (take s.round r.steps)) (lines_in s.step)) (flat_map lines_in (take s.round r.steps) ++ take s.place (lines_in s.step)) l = w.life.lawful.each s.round s.step s.told s.place l s.stands in
+    let line : IsLawfulLine (facts_of w.tells w.banks r.life r.steps) (span_of r.life.events (flat_map lines_in (take s.round r.steps)) (lines_in s.step)) (multi_span r.life.multis (flat_map lines_in (take s.round r.steps)) (lines_in s.step)) (flat_map lines_in (take s.round r.steps) ++ take s.place (lines_in s.step)) l = w.life.lawful.each s.round s.step s.told s.place l s.stands in
     subst (λ b. HasEvents l.by (stance r.life.events b l.by.session) l.command l.reply (events_of l.by r.life.events)) (sym s.before_is) line.events
 
 one_event : (h : List Event) (by : By) (e : Event) → events_of by h ≡ e ∷ [] → (p : ℕ) × (slice_get h p ≡ Some e)

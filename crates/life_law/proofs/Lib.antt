@@ -1,5 +1,6 @@
 pub mod Closed
 pub mod Lawful
+pub mod Untouched
 pub mod Worked
 pub mod ByPlace
 pub mod WorkedLater

@@ -32,6 +32,8 @@ use Rattle.life_law.specs.LawfulLife.{facts_of}
 use Rattle.life_law.specs.Laws.{IsLawful}
 use Rattle.life_law.specs.LifeLog.{IsLogOf}
 use Rattle.life_law.specs.Lines.{IsLawfulLine, IsLawfulRound}
+use Rattle.life_law.specs.MultiPlaces.{multi_span}
+use Rattle.life_law.proofs.Untouched.{untouched}
 use Rattle.life_law.specs.Pending.{IsOpenAsTold, pending}
 use Rattle.life_law.specs.Worked.{by_at, line_of, worked_base}
 use Rattle.life_law.specs.WorkedRounds.{WorkedRounds, early_oldest_life, early_stop_life, last_events, last_lines, late_base, old_lines, raised_events, raising_lines, rounds_life, stopped_life, stopped_lines}
@@ -58,7 +60,7 @@ abbrev number_in : Rec → ℕ
 number_in (records.Checkpoint number counters) = number
 number_in rec = 0
 
-its_log : IsLogOf 0 late_base last_events its_recs 1 62
+its_log : IsLogOf 0 late_base last_events [] its_recs 1 62
 its_log = record {
   rest = [];
   split = refl;
@@ -66,6 +68,7 @@ its_log = record {
   within = omega arith;
   each = λ rec k. absurd (contains_has [] rec k);
   once = λ i j id a b e f s t. absurd cc;
+  multi_once = λ i j multi a b e f s t. absurd cc;
   numbered = own_number;
   committed = filed;
   count = omega arith;
@@ -127,9 +130,9 @@ its_turns (suc n) = record {
 }
 
 first_round : IsLawfulRound its_facts [] last_lines
-first_round = places (λ earlier. IsLawfulLine its_facts (span_of last_events [] last_lines) earlier) last_lines (
-  record { number = refl; events = refl; standing = refl; reply = refl },
-  (record { number = refl; events = (refl, refl); standing = refl; reply = (λ e. cc, its_warning) }, tt),
+first_round = places (λ earlier. IsLawfulLine its_facts (span_of last_events [] last_lines) (multi_span [] [] last_lines) earlier) last_lines (
+  record { number = refl; events = refl; multi_events = refl; standing = refl; members = refl; logged = tt; reply = refl },
+  (record { number = refl; events = (refl, refl); multi_events = refl; standing = refl; members = refl; logged = tt; reply = (λ e. cc, its_warning) }, tt),
 )
 
 one_zero : {A : Type 0} (x y : ℕ) → x ≡ 1 → y ≡ 0 → x ≡ y → A
@@ -145,9 +148,9 @@ it_stopped = record {
 }
 
 second_round : IsLawfulRound its_facts last_lines stopped_lines
-second_round = places (λ earlier. IsLawfulLine its_facts (span_of last_events last_lines stopped_lines) (last_lines ++ earlier)) stopped_lines (
-  record { number = refl; events = refl; standing = refl; reply = refl },
-  (record { number = refl; events = inl refl; standing = refl; reply = (omega arith, it_stopped) }, tt),
+second_round = places (λ earlier. IsLawfulLine its_facts (span_of last_events last_lines stopped_lines) (multi_span [] last_lines stopped_lines) (last_lines ++ earlier)) stopped_lines (
+  record { number = refl; events = refl; multi_events = refl; standing = refl; members = refl; logged = tt; reply = refl },
+  (record { number = refl; events = inl refl; multi_events = refl; standing = refl; members = refl; logged = tt; reply = (omega arith, it_stopped) }, tt),
 )
 
 abbrev its_steps : List Asked
@@ -173,7 +176,7 @@ it_is_lawful = record {
       left = refl;
       flushed = refl;
     };
-    multis = refl;
+    multis = untouched its_facts stopped_life.steps refl (refl, (refl, (refl, (refl, tt))));
     log = its_log;
     opened = its_open;
     log_fails_once = omega arith;
@@ -184,7 +187,7 @@ it_is_lawful = record {
 
 -- a line of the first round
 first_line : (base : Counters) (h : List Event) (first second : List Line) (w : IsLawful (rounds_life base h first second)) (place : ℕ) (l : Line) → slice_get first place ≡ Some l →
-    IsLawfulLine (facts_of w.tells w.banks (rounds_life base h first second).life (rounds_life base h first second).steps) (span_of h [] first) (take place first) l
+    IsLawfulLine (facts_of w.tells w.banks (rounds_life base h first second).life (rounds_life base h first second).steps) (span_of h [] first) (multi_span [] [] first) (take place first) l
 first_line base h first second w place l at = w.life.lawful.each 0 (steps.Round 1 first) refl place l at
 
 -- before the id was given, the limit wasn't reached

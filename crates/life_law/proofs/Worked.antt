@@ -32,8 +32,10 @@ use Rattle.life_law.specs.Facts.{Facts}
 use Rattle.life_law.specs.Checkpoints.{IsLawfulCheckpoint}
 use Rattle.life_law.specs.LawfulLife.{facts_of}
 use Rattle.life_law.specs.Laws.{IsLawful}
-use Rattle.life_law.specs.LifeLog.{IsAmong, IsLogOf, IsRecordOf, ends_top, IsTransaction}
+use Rattle.life_law.specs.LifeLog.{IsAmong, IsLogOf, IsMultisRecord, IsRecordOf, ends_top, IsTransaction}
 use Rattle.life_law.specs.Lines.{IsLawfulLine, IsLawfulRound}
+use Rattle.life_law.specs.MultiPlaces.{multi_span}
+use Rattle.life_law.proofs.Untouched.{untouched}
 use Rattle.life_law.specs.Pending.{IsOpenAsTold, pending}
 use Rattle.life_law.specs.Worked.{WorkedLives, bank_fault, both_records, by_at, commit_pending, first_lines, giving_lines, idless_lines, its_name, life_with, line_of, log_down, log_fault, no_memory, second_lines, short_life, special_lines, worked_base, worked_events, worked_life}
 use Rattle.tx_events.specs.Events.{by_of, given_by}
@@ -99,16 +101,17 @@ abbrev number_in : Rec → ℕ
 number_in (records.Checkpoint number counters) = number
 number_in rec = 0
 
-its_log : IsLogOf 0 worked_base worked_events (recs_with both_records) 2 80
+its_log : IsLogOf 0 worked_base worked_events [] (recs_with both_records) 2 80
 its_log = record {
   rest = both_records;
   split = refl;
   begun = omega arith;
   within = omega arith;
-  each = λ rec k. ⊎_elim (λ (e : records.Commit 4 [] ≡ rec). subst (IsRecordOf worked_base worked_events) e ended)
-      (λ t. ⊎_elim (λ (e : records.Commit 3 [] ≡ rec). subst (IsRecordOf worked_base worked_events) e opened) (λ none. absurd none) t)
+  each = λ rec k. ⊎_elim (λ (e : records.Commit 4 [] ≡ rec). subst (IsRecordOf worked_base worked_events []) e ended)
+      (λ t. ⊎_elim (λ (e : records.Commit 3 [] ≡ rec). subst (IsRecordOf worked_base worked_events []) e opened) (λ none. absurd none) t)
       (contains_has both_records rec k);
   once = λ i j id a b e f s t. apart i j id (top_at i a id e s) (top_at j b id f t);
+  multi_once = λ i j multi a b e f s t. absurd (no_multi i a multi e s);
   numbered = own_number;
   committed = filed;
   count = omega arith;
@@ -139,6 +142,15 @@ its_log = record {
         let same : 3 ≡ id = subst (λ r. ends_top r id) is s in
         inr (refl, sym same)
     top_at (suc (suc i)) a id e s = absurd cc
+
+    no_multi : (i : ℕ) (a : Rec) (multi : ℕ) → slice_get both_records i ≡ Some a → IsMultisRecord a multi → ⊥
+    no_multi zero a multi e s =
+        let is : a ≡ records.Commit 4 [] = cc in
+        subst (λ r. IsMultisRecord r multi) is s
+    no_multi (suc zero) a multi e s =
+        let is : a ≡ records.Commit 3 [] = cc in
+        subst (λ r. IsMultisRecord r multi) is s
+    no_multi (suc (suc i)) a multi e s = absurd cc
 
     apart : (i j id : ℕ) → IsTopAt i id → IsTopAt j id → i ≡ j
     apart i j id k l = ⊎_elim
@@ -204,15 +216,15 @@ its_turns (suc n) = record {
 }
 
 first_round : IsLawfulRound its_facts [] first_lines
-first_round = places (λ earlier. IsLawfulLine its_facts (span_of worked_events [] first_lines) earlier) first_lines (
-  record { number = refl; events = refl; standing = refl; reply = refl },
+first_round = places (λ earlier. IsLawfulLine its_facts (span_of worked_events [] first_lines) (multi_span [] [] first_lines) earlier) first_lines (
+  record { number = refl; events = refl; multi_events = refl; standing = refl; members = refl; logged = tt; reply = refl },
   (
-    record { number = refl; events = (refl, refl); standing = refl; reply = (λ e. cc, not_warned (by_at 0 2)) },
+    record { number = refl; events = (refl, refl); multi_events = refl; standing = refl; members = refl; logged = tt; reply = (λ e. cc, not_warned (by_at 0 2)) },
     (
-      record { number = refl; events = refl; standing = refl; reply = refl },
+      record { number = refl; events = refl; multi_events = refl; standing = refl; members = refl; logged = tt; reply = refl },
       (
-        record { number = refl; events = (refl, refl); standing = refl; reply = (λ e. cc, not_warned (by_at 1 2)) },
-        (record { number = refl; events = refl; standing = refl; reply = λ e. cc }, tt),
+        record { number = refl; events = (refl, refl); multi_events = refl; standing = refl; members = refl; logged = tt; reply = (λ e. cc, not_warned (by_at 1 2)) },
+        (record { number = refl; events = refl; multi_events = refl; standing = refl; members = refl; logged = tt; reply = λ e. cc }, tt),
       ),
     ),
   ),
@@ -222,11 +234,11 @@ abbrev its_second : List Line
 its_second = second_lines log_fault commit_pending (log_down 2)
 
 second_round : IsLawfulRound its_facts first_lines its_second
-second_round = places (λ earlier. IsLawfulLine its_facts (span_of worked_events first_lines its_second) (first_lines ++ earlier)) its_second (
-  record { number = refl; events = refl; standing = refl; reply = refl },
+second_round = places (λ earlier. IsLawfulLine its_facts (span_of worked_events first_lines its_second) (multi_span [] first_lines its_second) (first_lines ++ earlier)) its_second (
+  record { number = refl; events = refl; multi_events = refl; standing = refl; members = refl; logged = tt; reply = refl },
   (
-    record { number = refl; events = refl; standing = refl; reply = tt },
-    (record { number = refl; events = refl; standing = refl; reply = (refl, refl, refl) }, tt),
+    record { number = refl; events = refl; multi_events = refl; standing = refl; members = refl; logged = tt; reply = tt },
+    (record { number = refl; events = refl; multi_events = refl; standing = refl; members = refl; logged = tt; reply = (refl, refl, refl) }, tt),
   ),
 )
 
@@ -254,7 +266,7 @@ it_is_lawful = record {
       left = refl;
       flushed = refl;
     };
-    multis = refl;
+    multis = untouched its_facts worked_life.steps refl (refl, (refl, (refl, (refl, (refl, (refl, (refl, (refl, tt))))))));
     log = its_log;
     opened = its_open;
     log_fails_once = once;
@@ -268,7 +280,7 @@ it_is_lawful = record {
 
 -- a line of the second round
 second_line : (answer saved again : Reply) (recs : List Rec) (w : IsLawful (life_with answer saved again recs)) (place : ℕ) (l : Line) → slice_get (second_lines answer saved again) place ≡ Some l →
-    IsLawfulLine (facts_of w.tells w.banks (life_with answer saved again recs).life (life_with answer saved again recs).steps) (span_of worked_events first_lines (second_lines answer saved again)) (first_lines ++ take place (second_lines answer saved again)) l
+    IsLawfulLine (facts_of w.tells w.banks (life_with answer saved again recs).life (life_with answer saved again recs).steps) (span_of worked_events first_lines (second_lines answer saved again)) (multi_span [] first_lines (second_lines answer saved again)) (first_lines ++ take place (second_lines answer saved again)) l
 second_line answer saved again recs w place l at = w.life.lawful.each 1 (steps.Round 2 (second_lines answer saved again)) refl place l at
 
 -- the record of session 1 stands among the first two
@@ -291,7 +303,7 @@ not_twice l = absurd (omega (arith, l))
 
 -- a line of the one round
 short_line : (h : List Event) (lines : List Line) (w : IsLawful (short_life h lines)) (place : ℕ) (l : Line) → slice_get lines place ≡ Some l →
-    IsLawfulLine (facts_of w.tells w.banks (short_life h lines).life (short_life h lines).steps) (span_of h [] lines) (take place lines) l
+    IsLawfulLine (facts_of w.tells w.banks (short_life h lines).life (short_life h lines).steps) (span_of h [] lines) (multi_span [] [] lines) (take place lines) l
 short_line h lines w place l at = w.life.lawful.each 0 (steps.Round 1 lines) refl place l at
 
 -- savepoints that were given no ids have no event

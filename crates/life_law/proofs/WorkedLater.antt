@@ -28,13 +28,17 @@ use Rattle.tx_model.specs.Asked.{Asked}
 use Rattle.tx_model.specs.Lines.{has_line, span_of}
 use Rattle.tx_model.specs.Replies.{IsWarned}
 use Rattle.tx_model.specs.Rounds.{StandFirst, lines_in}
-use Rattle.life_law.specs.Checkpoints.{IsLawfulCheckpoint, IsNonePending}
+use Rattle.life_law.specs.Checkpoints.{IsCommitPending, IsLawfulCheckpoint, IsNonePending}
 use Rattle.life_law.specs.Dumps.{IsLawfulBetween}
 use Rattle.life_law.specs.Facts.{Facts}
 use Rattle.life_law.specs.LawfulLife.{facts_of}
 use Rattle.life_law.specs.Laws.{IsLawful}
-use Rattle.life_law.specs.LifeLog.{IsAmong, IsLogOf, IsRecordOf, IsTransaction, ends_top}
+use Rattle.life_law.specs.LifeLog.{IsAmong, IsLogOf, IsMultisRecord, IsRecordOf, IsTransaction, ends_top}
 use Rattle.life_law.specs.Lines.{IsLawfulLine, IsLawfulRound}
+use Rattle.life_law.specs.MultiPlaces.{multi_span}
+use Rattle.life_law.specs.MultiStanding as making
+use Rattle.life_law.specs.MultiStanding.{unfinished}
+use Rattle.life_law.proofs.Untouched.{untouched}
 use Rattle.life_law.specs.Pending.{IsOpenAsTold, pending}
 use Rattle.life_law.specs.Worked.{by_at, worked_base}
 use Rattle.life_law.specs.WorkedCheckpoints.{WorkedCheckpoints, checked_counters, checked_events, checked_life, ending_lines, written_lines}
@@ -88,16 +92,17 @@ abbrev number_in : Rec → ℕ
 number_in (records.Checkpoint number counters) = number
 number_in rec = 0
 
-its_log : IsLogOf 0 worked_base checked_events its_recs 3 140
+its_log : IsLogOf 0 worked_base checked_events [] its_recs 3 140
 its_log = record {
   rest = behind_first;
   split = refl;
   begun = omega arith;
   within = omega arith;
-  each = λ rec k. ⊎_elim (λ (e : records.Checkpoint 1 checked_counters ≡ rec). subst (IsRecordOf worked_base checked_events) e (1, omega arith, refl))
-      (λ t. ⊎_elim (λ (e : records.Commit 3 [] ≡ rec). subst (IsRecordOf worked_base checked_events) e ended) (λ none. absurd none) t)
+  each = λ rec k. ⊎_elim (λ (e : records.Checkpoint 1 checked_counters ≡ rec). subst (IsRecordOf worked_base checked_events []) e (1, omega arith, 0, omega arith, refl))
+      (λ t. ⊎_elim (λ (e : records.Commit 3 [] ≡ rec). subst (IsRecordOf worked_base checked_events []) e ended) (λ none. absurd none) t)
       (contains_has behind_first rec k);
   once = λ i j id a b e f s t. last_at i a id e s ∙ sym (last_at j b id f t);
+  multi_once = λ i j multi a b e f s t. absurd (no_multi i a multi e s);
   numbered = own_number;
   committed = filed;
   count = omega arith;
@@ -113,6 +118,15 @@ its_log = record {
         absurd (subst (λ r. ends_top r id) is s)
     last_at (suc zero) a id e s = refl
     last_at (suc (suc i)) a id e s = absurd cc
+
+    no_multi : (i : ℕ) (a : Rec) (multi : ℕ) → slice_get behind_first i ≡ Some a → IsMultisRecord a multi → ⊥
+    no_multi zero a multi e s =
+        let is : a ≡ records.Checkpoint 1 checked_counters = cc in
+        subst (λ r. IsMultisRecord r multi) is s
+    no_multi (suc zero) a multi e s =
+        let is : a ≡ records.Commit 3 [] = cc in
+        subst (λ r. IsMultisRecord r multi) is s
+    no_multi (suc (suc i)) a multi e s = absurd cc
 
     own_number : (place number : ℕ) (counters : Counters) → slice_get its_recs place ≡ Some (records.Checkpoint number counters) → number ≡ 0 + place
     own_number zero number counters e =
@@ -173,10 +187,23 @@ its_open (suc n) =
 pending_first : (n : ℕ) → (0 == n) ≡ false → pending its_recs checked_events written_lines n ≡ None
 pending_first n q = rw q refl
 
-none_pending : IsNonePending its_facts written_lines
-none_pending zero e = no_refusal refusals.CommitPending e
-none_pending (suc n) e =
+none_committing : (n : ℕ) → IsCommitPending its_facts written_lines n → ⊥
+none_committing zero e = no_refusal refusals.CommitPending e
+none_committing (suc n) e =
     no_refusal refusals.CommitPending (sym (pending_first (suc n) (below_not 0 (suc n) (omega arith))) ∙ e)
+
+nothing_unfinished : (n : ℕ) → (0 == n) ≡ false → unfinished [] written_lines n ≡ making.none
+nothing_unfinished n q = rw q refl
+
+none_sure : making.none ≡ making.sure → ⊥
+none_sure e = cc
+
+none_making : (n : ℕ) → unfinished [] written_lines n ≢ making.sure
+none_making zero e = none_sure e
+none_making (suc n) e = none_sure (sym (nothing_unfinished (suc n) (below_not 0 (suc n) (omega arith))) ∙ e)
+
+none_pending : IsNonePending its_facts written_lines
+none_pending = record { commits = none_committing; multis = none_making }
 
 behind_writes : StandFirst checked_events written_lines
 behind_writes = record {
@@ -200,17 +227,17 @@ its_turns (suc (suc (suc n))) = record {
 }
 
 first_round : IsLawfulRound its_facts [] written_lines
-first_round = places (λ earlier. IsLawfulLine its_facts (span_of checked_events [] written_lines) earlier) written_lines (
-  record { number = refl; events = refl; standing = refl; reply = refl },
-  (record { number = refl; events = (refl, refl); standing = refl; reply = (λ e. cc, not_warned (by_at 0 2)) }, tt),
+first_round = places (λ earlier. IsLawfulLine its_facts (span_of checked_events [] written_lines) (multi_span [] [] written_lines) earlier) written_lines (
+  record { number = refl; events = refl; multi_events = refl; standing = refl; members = refl; logged = tt; reply = refl },
+  (record { number = refl; events = (refl, refl); multi_events = refl; standing = refl; members = refl; logged = tt; reply = (λ e. cc, not_warned (by_at 0 2)) }, tt),
 )
 
 no_lines : IsLawfulRound its_facts written_lines []
-no_lines = places (λ earlier. IsLawfulLine its_facts (span_of checked_events written_lines []) (written_lines ++ earlier)) [] tt
+no_lines = places (λ earlier. IsLawfulLine its_facts (span_of checked_events written_lines []) (multi_span [] written_lines []) (written_lines ++ earlier)) [] tt
 
 second_round : IsLawfulRound its_facts written_lines ending_lines
-second_round = places (λ earlier. IsLawfulLine its_facts (span_of checked_events written_lines ending_lines) (written_lines ++ earlier)) ending_lines (
-  record { number = refl; events = refl; standing = refl; reply = λ e. cc },
+second_round = places (λ earlier. IsLawfulLine its_facts (span_of checked_events written_lines ending_lines) (multi_span [] written_lines ending_lines) (written_lines ++ earlier)) ending_lines (
+  record { number = refl; events = refl; multi_events = refl; standing = refl; members = refl; logged = tt; reply = λ e. cc },
   tt,
 )
 
@@ -238,7 +265,7 @@ it_is_lawful = record {
       left = inl (tt, [], refl, refl);
       flushed = inl (tt, [], refl, refl);
     };
-    multis = refl;
+    multis = untouched its_facts checked_life.steps refl (refl, (refl, (refl, tt)));
     log = its_log;
     opened = its_open;
     log_fails_once = omega arith;
@@ -273,5 +300,5 @@ worked_checkpoints = record {
   stale = λ w. ⊎_elim (λ h. other_next h.1 h.2) (λ n. not_done n.0) w.life.checkpoints.left;
   renumbered = λ w. two_one (w.life.log.numbered 1 2 checked_counters refl);
   kept = λ w. ⊎_elim (λ h. h.0) (λ n. nothing_left checked_counters [] (sym n.1)) w.life.checkpoints.left;
-  hasty = λ w. w.life.checkpoints.each 1 (steps.Checkpoint replies.Done) refl 0 refl;
+  hasty = λ w. (w.life.checkpoints.each 1 (steps.Checkpoint replies.Done) refl).commits 0 refl;
 }

@@ -15,6 +15,8 @@ use Rattle.tx_model.specs.Rounds.{lines_in}
 use Rattle.life_law.specs.Dumps.{events_behind}
 use Rattle.life_law.specs.Facts.{Facts}
 use Rattle.life_law.specs.LifeLog.{counters_behind}
+use Rattle.life_law.specs.MultiPlaces.{multis_behind}
+use Rattle.life_law.specs.MultiStanding.{none, sure, unfinished}
 use Rattle.life_law.specs.Pending.{pending}
 use Rattle.life_law.specs.Replies.{IsBank}
 
@@ -22,15 +24,22 @@ use Rattle.life_law.specs.Replies.{IsBank}
 abbrev pub IsCommitPending : Facts → List Line → ℕ → Type 0
 IsCommitPending f before session = pending f.recs f.events before session ≡ Some refusals.CommitPending
 
-abbrev pub IsNonePending : Facts → List Line → Type 0
-IsNonePending f before = (session : ℕ) → IsCommitPending f before session → ⊥
+-- no session must be in the midst of a commit or of a multixact
+pub record IsNonePending (f : Facts) (before : List Line) : Type 0 where
+  pub commits : (session : ℕ) → IsCommitPending f before session → ⊥
+  pub multis : (session : ℕ) → unfinished f.multis before session ≢ sure
 
 -- What a checkpoint may be answered behind the rounds with these lines. It names the least session that is in the midst
--- of a commit, or there is none. A log that is down tells the number up to which it is flushed.
+-- of a commit, else the least that may be of a multixact, or there is none. A log that is down tells the number up to
+-- which it is flushed.
 abbrev pub MayCheckpoint : Facts → List Line → Reply → Type 0
 MayCheckpoint f before replies.Done = IsNonePending f before
 MayCheckpoint f before (replies.Pending session refusals.CommitPending) =
     IsCommitPending f before session × ((s : ℕ) → s < session → IsCommitPending f before s → ⊥)
+MayCheckpoint f before (replies.Pending session refusals.MultiPending) =
+    (unfinished f.multis before session ≢ none)
+    × ((s : ℕ) → s < session → unfinished f.multis before s ≢ sure)
+    × ((s : ℕ) → IsCommitPending f before s → ⊥)
 MayCheckpoint f before (replies.Refused (refusals.DiskFault lock)) = IsNonePending f before × IsBank f.banks lock
 MayCheckpoint f before (replies.Refused refusals.LogFault) = IsNonePending f before
 MayCheckpoint f before (replies.Refused (refusals.LogDown at)) =
@@ -66,7 +75,8 @@ abbrev pub LeaveCheckpoints : Facts → List Line → List Step → List Counter
 LeaveCheckpoints f before [] left = left ≡ []
 LeaveCheckpoints f before (steps.Checkpoint reply ∷ more) left =
     (MayHaveRecord reply × (rest : List Counters)
-    × (left ≡ counters_behind f.base (events_behind f.events before) ∷ rest) × LeaveCheckpoints f before more rest)
+    × (left ≡ counters_behind f.base (events_behind f.events before) (multis_behind f.multis before) ∷ rest)
+    × LeaveCheckpoints f before more rest)
     ⊎ ((reply ≢ replies.Done) × LeaveCheckpoints f before more left)
 LeaveCheckpoints f before (step ∷ more) left = LeaveCheckpoints f (before ++ lines_in step) more left
 

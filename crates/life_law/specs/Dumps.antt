@@ -9,10 +9,10 @@ use Rattle.tx_events.specs.declared.record.Rec.TheVariants as records
 use Rattle.tx_events.specs.declared.refusal.Lock.TheVariants as locks
 use Rattle.tx_events.specs.declared.refusal.Refusal.TheVariants as refusals
 use Rattle.tx_events.specs.Horizon.{oldest_xmin}
-use Rattle.tx_events.specs.PageOrder.{Ids, is_cut}
+use Rattle.tx_events.specs.PageOrder.{Ids, Multis, Offsets, is_cut}
 use Rattle.tx_events.specs.Places.{EachPlace}
-use Rattle.store_pages.specs.Layouts.{subtrans_cutoff, xact_cutoff}
-use Rattle.tx_events.specs.Pages.{parents_per_page, xacts_per_page}
+use Rattle.store_pages.specs.Layouts.{member_cutoff, offset_cutoff, subtrans_cutoff, xact_cutoff}
+use Rattle.tx_events.specs.Pages.{members_per_page, offsets_per_page, parents_per_page, xacts_per_page}
 use Rattle.tx_model.specs.declared.reply.Reply.{Reply}
 use Rattle.tx_model.specs.declared.reply.Reply.TheVariants as replies
 use Rattle.tx_model.specs.declared.report.DumpOf.{DumpOf}
@@ -38,11 +38,34 @@ abbrev pub IsSubtransCutoff : Counters → List Event → ℕ → Type 0
 IsSubtransCutoff base h cutoff =
     (place : ℕ) × (place ≤ length h) × (cutoff ≡ subtrans_cutoff (oldest_xmin base.next (take place h)))
 
+-- the oldest multixact with which the life begins, or one that a truncation tells; and the same of offsets
+abbrev pub IsOldestMulti : Counters → List Rec → ℕ → Type 0
+IsOldestMulti base recs oldest =
+    (oldest ≡ base.oldest_multi) ⊎ ((id offset : ℕ) × Contains recs (records.Truncate id oldest offset))
+
+abbrev pub IsOldestOffset : Counters → List Rec → ℕ → Type 0
+IsOldestOffset base recs oldest =
+    (oldest ≡ base.oldest_offset) ⊎ ((id multi : ℕ) × Contains recs (records.Truncate id multi oldest))
+
+-- the offsets are kept from the page of the multixact before an oldest one on
+abbrev pub IsOffsetCutoff : Counters → List Rec → ℕ → Type 0
+IsOffsetCutoff base recs cutoff = (oldest : ℕ) × IsOldestMulti base recs oldest × (cutoff ≡ offset_cutoff oldest)
+
+-- and the members from that of an oldest offset on
+abbrev pub IsMemberCutoff : Counters → List Rec → ℕ → Type 0
+IsMemberCutoff base recs cutoff = (oldest : ℕ) × IsOldestOffset base recs oldest × (cutoff ≡ member_cutoff oldest)
+
 abbrev pub is_xact_cut : ℕ → ℕ → Bool
 is_xact_cut cutoff page = is_cut Ids xacts_per_page cutoff page
 
 abbrev pub is_subtrans_cut : ℕ → ℕ → Bool
 is_subtrans_cut cutoff page = is_cut Ids parents_per_page cutoff page
+
+abbrev pub is_offset_cut : ℕ → ℕ → Bool
+is_offset_cut cutoff page = is_cut Multis offsets_per_page cutoff page
+
+abbrev pub is_member_cut : ℕ → ℕ → Bool
+is_member_cut cutoff page = is_cut Offsets members_per_page cutoff page
 
 abbrev pub AreBytes : List ℕ → Type 0
 AreBytes bytes = AllByRecursion (λ b. b < 256) bytes
@@ -66,6 +89,20 @@ MayDump banks base recs h (dumps.Subtrans page) size (replies.Bytes bytes) =
 MayDump banks base recs h (dumps.Subtrans page) size (replies.Cut cutoff) =
     IsSubtransCutoff base h cutoff × (is_subtrans_cut cutoff page ≡ true)
 MayDump banks base recs h (dumps.Subtrans page) size (replies.Refused (refusals.DiskFault (locks.Subtrans bank))) =
+    (bank < banks) × (bank ≡ page % banks)
+MayDump banks base recs h (dumps.Offsets page) size (replies.Bytes bytes) =
+    AreBytes bytes × (length bytes ≡ size)
+    × (cutoff : ℕ) × IsOffsetCutoff base recs cutoff × (is_offset_cut cutoff page ≡ false)
+MayDump banks base recs h (dumps.Offsets page) size (replies.Cut cutoff) =
+    IsOffsetCutoff base recs cutoff × (is_offset_cut cutoff page ≡ true)
+MayDump banks base recs h (dumps.Offsets page) size (replies.Refused (refusals.DiskFault (locks.Offsets bank))) =
+    (bank < banks) × (bank ≡ page % banks)
+MayDump banks base recs h (dumps.Members page) size (replies.Bytes bytes) =
+    AreBytes bytes × (length bytes ≡ size)
+    × (cutoff : ℕ) × IsMemberCutoff base recs cutoff × (is_member_cut cutoff page ≡ false)
+MayDump banks base recs h (dumps.Members page) size (replies.Cut cutoff) =
+    IsMemberCutoff base recs cutoff × (is_member_cut cutoff page ≡ true)
+MayDump banks base recs h (dumps.Members page) size (replies.Refused (refusals.DiskFault (locks.Members bank))) =
     (bank < banks) × (bank ≡ page % banks)
 MayDump banks base recs h what size reply = ⊥
 

@@ -2,6 +2,7 @@
 use Rattle.std.specs.Prelude.{ℕ, ◌+◌, ◌||◌, Bool, true, false, List}
 use Rattle.std.specs.List.{count_by, flat_map, list_any}
 use Rattle.tx_events.specs.declared.event.Event.{Event}
+use Rattle.tx_events.specs.declared.multi.MultiEvent.{MultiEvent}
 use Rattle.tx_events.specs.declared.record.Counters.{Counters}
 use Rattle.tx_events.specs.declared.record.Rec.{Rec}
 use Rattle.tx_events.specs.declared.refusal.Refusal.TheVariants as refusals
@@ -11,17 +12,20 @@ use Rattle.tx_model.specs.declared.report.Line.{Line}
 use Rattle.tx_model.specs.declared.report.Step.{Step}
 use Rattle.tx_model.specs.declared.report.Step.TheVariants as steps
 use Rattle.tx_model.specs.Rounds.{lines_in}
+use Rattle.life_law.specs.MultiPlaces.{Recorded}
 
--- Whether the page volumes told what they hold, how many banks each store has, what the life begins from, its history
--- and its log, with the number of its first record, and whether a command of the life was answered that the log's volume
--- failed.
+-- Whether the page volumes told what they hold, how many banks each store has, what the life begins from, its two
+-- histories and its log, with the number of its first record, and whether a command of the life was answered that the
+-- log's volume failed.
 pub record Facts : Type 0 where
   pub tells : Bool
   pub banks : ℕ
   pub from : ℕ
   pub base : Counters
   pub committed : List ℕ
+  pub recorded : List Recorded
   pub events : List Event
+  pub multis : List MultiEvent
   pub recs : List Rec
   pub flushed : ℕ
   pub log_failed : Bool

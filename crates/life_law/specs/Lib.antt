@@ -8,10 +8,12 @@ pub mod MultiStanding
 pub mod Facts
 pub mod DidCommit
 pub mod Replies
+pub mod Answering
 pub mod Lines
 pub mod Dumps
 pub mod LifeLog
 pub mod Checkpoints
+pub mod LawfulMultis
 pub mod LawfulLife
 pub mod Laws
 pub mod Worked

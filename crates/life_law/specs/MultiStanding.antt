@@ -1,8 +1,10 @@
 -- What a session has pending of its multixacts, by its lines.
-use Rattle.std.specs.Prelude.{ℕ, Bool, true, false, List, [], ◌∷◌, length, nat_lt}
-use Rattle.std.specs.List.{filter}
+use Rattle.std.specs.Prelude.{ℕ, ◌&&◌, Bool, true, false, List, [], ◌∷◌, length, nat_lt}
+use Rattle.std.specs.List.{filter, list_any}
+use Rattle.tx_events.specs.declared.event.By.{By}
 use Rattle.tx_events.specs.declared.multi.MultiEvent.{MultiEvent}
 use Rattle.tx_events.specs.declared.refusal.Refusal.TheVariants as refusals
+use Rattle.tx_events.specs.Events.{same_by}
 use Rattle.tx_model.specs.declared.command.Command.{Command}
 use Rattle.tx_model.specs.declared.command.Command.TheVariants as commands
 use Rattle.tx_model.specs.declared.reply.Reply.{Reply}
@@ -52,3 +54,11 @@ unfinished_from h old (l ∷ lines) =
 -- what is unfinished of a session after the lines before
 abbrev pub unfinished : List MultiEvent → List Line → ℕ → Unfinished
 unfinished h before session = unfinished_from h none (filter (is_line_of session) before)
+
+-- whether the command was answered `ok` with a multixact
+abbrev pub gave_multi : List Line → By → Bool
+gave_multi lines by = list_any (λ l. same_by l.by by && is_multi l.reply) lines
+  where
+    is_multi : Reply → Bool
+    is_multi (replies.Multi multi offset warn) = true
+    is_multi reply = false

@@ -1,11 +1,16 @@
--- The refusals that go by how a session stands alone: by its levels, its snapshots, and an end that is pending.
-use Rattle.std.specs.Prelude.{ℕ, Bool, true, false, List, [], ◌∷◌, Option, None, Some, is_some, is_none, length, nat_lt, nat_le, ◌==◌}
+-- The refusals that go by how a session stands alone: by its levels, its snapshots, and an end that is pending; and those
+-- that go by what is asked alone.
+use Rattle.std.specs.Prelude.{ℕ, Bool, true, false, List, [], ◌∷◌, Option, None, Some, is_some, is_none, length, nat_lt, nat_le, ◌==◌, ◌||◌}
 use Rattle.std.specs.Bool.{then_some}
+use Rattle.std.specs.List.{count_by}
 use Rattle.std.specs.Option.{option_or}
+use Rattle.tx_events.specs.declared.multi.Mode.{Mode}
+use Rattle.tx_events.specs.declared.multi.Mode.TheVariants as modes
 use Rattle.tx_events.specs.declared.refusal.Refusal.{Refusal}
 use Rattle.tx_events.specs.declared.refusal.Refusal.TheVariants as refusals
 use Rattle.tx_model.specs.declared.command.Command.{Command}
 use Rattle.tx_model.specs.declared.command.Command.TheVariants as commands
+use Rattle.tx_model.specs.declared.command.Pair.{Pair}
 use Rattle.tx_model.specs.declared.reply.Reply.{Reply}
 use Rattle.tx_model.specs.declared.reply.Reply.TheVariants as replies
 use Rattle.tx_model.specs.Replies.{most_levels}
@@ -79,3 +84,30 @@ by_standing _ = None
 abbrev pub is_commit_pending : Option Refusal → Bool
 is_commit_pending (Some refusals.CommitPending) = true
 is_commit_pending pending = false
+
+-- ---- the refusals that the members of a multixact bring by themselves
+
+abbrev pub is_updater_pair : Pair → Bool
+is_updater_pair p = is_update p.mode
+  where
+    is_update : Mode → Bool
+    is_update modes.NoKeyUpd = true
+    is_update modes.Upd = true
+    is_update mode = false
+
+-- 1 to 64 members, at most one of them an updater
+abbrev pub refused_by_members : Command → Option Refusal
+refused_by_members (commands.Multi pairs) =
+    first_of (then_some (length pairs == 0 || nat_lt 64 (length pairs)) refusals.MemberCount
+    ∷ then_some (nat_lt 1 (count_by is_updater_pair pairs)) refusals.TwoUpdaters ∷ [])
+refused_by_members command = None
+
+abbrev pub is_by_members : Refusal → Bool
+is_by_members refusals.MemberCount = true
+is_by_members refusals.TwoUpdaters = true
+is_by_members refusal = false
+
+-- the refusal of a reply that goes by them
+abbrev pub by_members : Reply → Option Refusal
+by_members (replies.Refused refusal) = then_some (is_by_members refusal) refusal
+by_members reply = None

@@ -24,7 +24,7 @@ lacks_id s = list_any is_none s.levels
 -- Whether a command asks the volume behind this lock, of a session that stands so and of which this end is pending: an
 -- end does where the transaction has an id, an undo where its savepoint has one, and a write asks pg_xact where a level
 -- lacks one. An id's parent is recorded before its commit is, by a write that needs no more ids too. Of a special id
--- nothing is asked.
+-- nothing is asked. A trim asks all four stores.
 abbrev pub may_ask : Command → Stance → Option Refusal → Lock → Bool
 may_ask commands.Write s pending (locks.Xact bank) = lacks_id s
 may_ask commands.Write s pending (locks.Subtrans bank) = true
@@ -37,6 +37,17 @@ may_ask (commands.See name x) s pending (locks.Subtrans bank) = nat_le 3 x.numbe
 may_ask (commands.Status x) s pending (locks.Xact bank) = nat_le 3 x
 may_ask (commands.Did x) s pending (locks.Xact bank) = nat_le 3 x.number
 may_ask (commands.Did x) s pending (locks.Subtrans bank) = nat_le 3 x.number
+may_ask (commands.Multi members) s pending (locks.Offsets bank) = true
+may_ask (commands.Multi members) s pending (locks.Members bank) = true
+may_ask (commands.SeeMulti name multi) s pending (locks.Xact bank) = true
+may_ask (commands.SeeMulti name multi) s pending (locks.Subtrans bank) = true
+may_ask (commands.SeeMulti name multi) s pending (locks.Offsets bank) = true
+may_ask (commands.SeeMulti name multi) s pending (locks.Members bank) = true
+may_ask (commands.MultiFreeze multi) s pending (locks.Offsets bank) = true
+may_ask commands.Trim s pending (locks.Xact bank) = true
+may_ask commands.Trim s pending (locks.Subtrans bank) = true
+may_ask commands.Trim s pending (locks.Offsets bank) = true
+may_ask commands.Trim s pending (locks.Members bank) = true
 may_ask command s pending lock = false
 
 -- the lock is that of a bank of a store, which has so many
@@ -59,17 +70,29 @@ may_lack_memory commands.Commit s pending = is_unrecorded s pending
 may_lack_memory (commands.Snap name) s pending = true
 may_lack_memory (commands.Status x) s pending = nat_le 3 x
 may_lack_memory (commands.Freeze oldest) s pending = true
+may_lack_memory (commands.Multi members) s pending = true
+may_lack_memory (commands.SeeMulti name multi) s pending = true
+may_lack_memory (commands.MultiFreeze multi) s pending = true
+may_lack_memory commands.Trim s pending = true
 may_lack_memory command s pending = false
 
 -- whether it must append a record, and so may find the log full
 abbrev pub may_append : Command → Stance → Option Refusal → Bool
 may_append commands.Commit s pending = is_unrecorded s pending
+may_append (commands.Multi members) s pending = true
+may_append commands.Trim s pending = true
 may_append command s pending = false
 
--- whether it must have its record on disk, and so may meet the fault of the log's volume, and a log that is down
+-- whether it must have its record on disk, and so may meet the fault of the log's volume
+abbrev pub may_flush : Command → Stance → Option Refusal → Bool
+may_flush commands.Commit s pending = is_unrecorded s pending || is_commit_pending pending
+may_flush commands.Trim s pending = true
+may_flush command s pending = false
+
+-- whether it may find a log that is down
 abbrev pub may_need_log : Command → Stance → Option Refusal → Bool
-may_need_log commands.Commit s pending = is_unrecorded s pending || is_commit_pending pending
-may_need_log command s pending = false
+may_need_log (commands.Multi members) s pending = true
+may_need_log command s pending = may_flush command s pending
 
 -- whether it asks for a verdict
 abbrev pub is_told_verdict : Command → Bool
@@ -85,7 +108,7 @@ IsLawfulReply f round by s pending command (replies.Refused refusals.Memory) = I
 IsLawfulReply f round by s pending command (replies.Refused (refusals.DiskFault lock)) =
     IsTrue (may_ask command s pending lock) × IsBank f.banks lock
 IsLawfulReply f round by s pending command (replies.Refused refusals.LogFault) =
-    IsTrue (may_need_log command s pending)
+    IsTrue (may_flush command s pending)
 IsLawfulReply f round by s pending command (replies.Refused refusals.Full) = IsTrue (may_append command s pending)
 IsLawfulReply f round by s pending command (replies.Refused (refusals.LogDown at)) =
     IsTrue (may_need_log command s pending) × (at ≡ f.flushed) × IsTrue f.log_failed

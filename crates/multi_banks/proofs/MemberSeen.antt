@@ -23,6 +23,8 @@ use Rattle.tx_events.specs.Multis.{free_offset, oldest_offset}
 use Rattle.tx_events.specs.declared.multi.Member.{Member}
 use Rattle.tx_events.specs.declared.multi.Mode.{Mode}
 use Rattle.tx_events.specs.declared.multi.Mode.TheVariants as modes
+use Rattle.tx_events.specs.declared.multi.MultiEvent.TheVariants as multis
+use Rattle.tx_events.specs.declared.event.By.{By}
 use Rattle.tx_events.specs.declared.record.Rec.TheVariants as records
 use Rattle.tx_core.specs.declared.entry.Entry.{Entry}
 use Rattle.tx_core.specs.declared.entry.Kind.TheVariants as kinds
@@ -42,11 +44,11 @@ use Rattle.recoverable.proofs.BytesShow.{in_id, last_some, member_bytes_show, sl
 use Rattle.engine_parts.specs.Parts.{IsMembersOf}
 use Rattle.engine_parts.specs.Shelf.{ArePagesNear, IsReadNow, shows_on}
 use Rattle.engine_parts.specs.Shelves.{member_shelf, slot_held, word_held}
-use Rattle.multi_banks.specs.Members.{IsRecordedMember, IsSlotRead, SharePage}
+use Rattle.multi_banks.specs.Members.{IsGap, IsRecordedMember, IsSlotRead, SharePage}
 use Rattle.multi_banks.proofs.Adding.{place_within, share_lock, share_stored}
 use Rattle.multi_banks.proofs.Coursing.{same_last}
 use Rattle.multi_banks.proofs.Later.{share_fits}
-use Rattle.multi_banks.proofs.OffsetSeen.{word_of_bytes}
+use Rattle.multi_banks.proofs.OffsetSeen.{word_of_bytes, word_zero}
 use Rattle.multi_banks.proofs.Seeing.{filter_map_has}
 use Rattle.multi_banks.proofs.Uncut.{member_held}
 
@@ -242,6 +244,97 @@ module _ (start : Start) (lists : List (List Entry)) (x bank : ℕ) (base : IsBa
       record { from = omega arith; to = omega arith })
       has
 
+  -- the id of one that stands is a full one
+  member_full : (before : ℕ → Option StoredBytes) (member : Member) → CleanMembers start before → HasMember member → 1 ≤ low_half member.id
+  member_full before member clean has = ⊎_elim
+      (λ (set : IsSlotSet start lists x member). set_full member set)
+      (λ (m : IsRecordedMember start x member).
+      let full : 3 ≤ low_half member.id = (clean.in_order.fit m.multi m.first m.members m.stands m.kept).1 member.id (has_contains (ids_of m.members) member.id (ids_has m.members member (place_has m.members m.place member m.among))) in
+      omega (arith, full))
+      has
+
+  -- ---- where a multixact's members end at an offset of low half 0
+
+  record GapAt (before : ℕ → Option StoredBytes) : Type 0 where
+    from : start.base.oldest_offset ≤ x
+    near : x < start.base.offset + 2 ^ 30
+    unset : (slot : SetSlot) → Has slots slot → slot.offset ≡ x → ⊥
+    zero_bytes : (i : ℕ) → i < 4 → byte_held (before x) i ≡ 0
+
+  -- one that begins there would begin at a low half 0
+  begins_there : (slot : SetSlot) (s : SlotOf lists slot) → low_half x ≡ 0 → s.first ≡ x → ⊥
+  begins_there slot s low same =
+      let r = s.recorded in
+      let stored = ((ordered start.base base (multi_history lists) (multis_are_legal start lists k)).given r.by s.multi s.first s.members (contains_has (multi_history lists) _ r.given)).2 in
+      let here : 1 ≤ low_half x = subst (λ z. 1 ≤ low_half z) same stored in
+      omega (arith, here, low)
+
+  gap_at : (before : ℕ → Option StoredBytes) → CleanMembers start before → AreFewMultis lists → IsGap start lists x → GapAt before
+  gap_at before clean few gap = ⊎_elim given recorded gap.before
+    where
+      low_base : start.base.oldest_offset ≤ start.base.offset
+      low_base = base.oldest_offset
+
+      given : (by : By) × (multi : ℕ) × Contains (multi_history lists) (multis.Gen by multi gap.first gap.members) → GapAt before
+      given g =
+          let o = ordered start.base base (multi_history lists) (multis_are_legal start lists k) in
+          let there = contains_has (multi_history lists) _ g.2 in
+          let w = o.given g.0 g.1 gap.first gap.members there in
+          let w0 = w.0 in
+          let w1 = w.1 in
+          let end = gap.end in
+          let low = low_base in
+          let past : start.base.offset ≤ x = omega arith in
+          let upto = free_upto start.base (multi_history lists) (multis_are_legal start lists k) in
+          let near : x < start.base.offset + 2 ^ 30 = omega arith in
+          record {
+            from = omega arith;
+            near = near;
+            unset = λ slot has same.
+                let s = slot_given slot has in
+                let l = lies slot s in
+                let inside = l.inside in
+                let behind = s.behind in
+                let r = s.recorded in
+                ⊎_elim
+                (λ (q : (s.multi < g.1) × (s.first + length s.members ≤ gap.first)). let z = q.1 in omega (arith, inside, same, end, z))
+                (λ rest. ⊎_elim
+                (λ (q : (g.1 < s.multi) × (gap.first + length gap.members ≤ s.first)). let z = q.1 in begins_there slot s gap.low (let here : s.first ≡ x = omega (arith, behind, same, end, z) in here))
+                (λ (q : (s.multi ≡ g.1) × (s.first ≡ gap.first) × (s.members ≡ gap.members)).
+                let long : length s.members ≡ length gap.members = ap (λ (t : List Member). length t) q.2 in
+                let first = q.1 in omega (arith, inside, same, end, long, first))
+                rest)
+                (o.apart r.by g.0 s.multi g.1 s.first gap.first s.members gap.members (contains_has (multi_history lists) _ r.given) there);
+            zero_bytes = λ i lt. clean.clean x i past near lt;
+          }
+
+      recorded : (multi : ℕ) × (start.base.oldest_multi ≤ multi) × Contains start.recorded (records.Multi multi gap.first gap.members) → GapAt before
+      recorded g =
+          let w = clean.in_order.within g.0 gap.first gap.members g.2 g.1 in
+          let w0 = w.0 in
+          let w1 = w.1 in
+          let end = gap.end in
+          record {
+            from = omega arith;
+            near = omega arith;
+            unset = λ slot has same.
+                let s = slot_given slot has in
+                let l = lies slot s in
+                let from = l.from in
+                let behind = s.behind in
+                begins_there slot s gap.low (let here : s.first ≡ x = omega (arith, from, behind, same, end, w1) in here);
+            zero_bytes = λ i lt. subst (λ z. byte_held (before z) i ≡ 0) end (clean.gap g.0 gap.first gap.members g.2 g.1 (subst (λ z. low_half z ≡ 0) (sym end) gap.low) i lt);
+          }
+
+  gap_word : (before : ℕ → Option StoredBytes) → GapAt before → word_held (last_or (before x) (filter_map (slot_bytes_for x) slots)) ≡ 0
+  gap_word before g = by_said (filter_map (slot_bytes_for x) slots) refl
+    where
+      by_said : (xs : List StoredBytes) → filter_map (slot_bytes_for x) slots ≡ xs → word_held (last_or (before x) (filter_map (slot_bytes_for x) slots)) ≡ 0
+      by_said [] q = ap (λ (xs : List StoredBytes). word_held (last_or (before x) xs)) q ∙ word_zero (before x) g.zero_bytes
+      by_said (y ∷ ys) q =
+          let r = has_filter_map (slot_bytes_for x) slots y (subst (λ (xs : List StoredBytes). Has xs y) (sym q) (inl refl)) in
+          absurd (g.unset r.0 r.1 (slot_at x y r.0 r.2).0)
+
   held : (before : ℕ → Option StoredBytes) (member : Member) → CleanMembers start before → HasMember member → slot_held (last_or (before x) (filter_map (slot_bytes_for x) slots)) ≡ (mode_number member.mode, low_half member.id)
   held before member clean has = ⊎_elim
       (λ (set : IsSlotSet start lists x member).
@@ -250,10 +343,13 @@ module _ (start : Start) (lists : List (List Entry)) (x bank : ℕ) (base : IsBa
       (λ (m : IsRecordedMember start x member). held_start before member clean m)
       has
 
+bank_at : (start : Start) (x bank : ℕ) → members_lock_of start x ≡ members_lock bank → member_page_of x % start.banks ≡ bank
+bank_at start x bank q = omega arith
+
 module _ {P O : Type 0} {g : disks.Ghosts P} {r : rules.Ghosts O} where
   member_seen : (start : Start) (lists : List (List Entry)) (bank : ℕ) (store : SlruBank P O g r) (x : ℕ) (slot : Slot) → IsBase start.base → EngineInvariant start lists → IsMembersOf start bank store (at lists (members_lock bank)) → members_lock_of start x ≡ members_lock bank → IsTrue g.tells → AreFewMultis lists
-      → oldest_offset start.base.oldest_offset (multi_history lists) ≤ x → slot ≡ slot_of (slice_index (pages_of store (member_page_of x)) (mode_place_of x)) (number_in (pages_of store (member_page_of x)) (member_place_of x)) → (member : Member) → IsSlotSet start lists x member ⊎ IsRecordedMember start x member → 1 ≤ low_half member.id → slot ≡ found.Is (record { number = low_half member.id }) member.mode
-  member_seen start lists bank store x slot base k s here told few announced is member has full =
+      → oldest_offset start.base.oldest_offset (multi_history lists) ≤ x → slot ≡ slot_of (slice_index (pages_of store (member_page_of x)) (mode_place_of x)) (number_in (pages_of store (member_page_of x)) (member_place_of x)) → (member : Member) → IsSlotSet start lists x member ⊎ IsRecordedMember start x member → slot ≡ found.Is (record { number = low_half member.id }) member.mode
+  member_seen start lists bank store x slot base k s here told few announced is member has =
       let es = at lists (members_lock bank) in
       let old = s.stands.shown told (members_near start lists bank k few) in
       let bounds = in_use start lists x bank base k here old.0 member old.1 has in
@@ -261,6 +357,7 @@ module _ {P O : Type 0} {g : disks.Ghosts P} {r : rules.Ghosts O} where
       let to = bounds.to in
       let upto = free_upto start.base (multi_history lists) (multis_are_legal start lists k) in
       let near : x < start.base.offset + 2 ^ 30 = omega arith in
+      let full = member_full start lists x bank base k here old.0 member old.1 has in
       let now : IsReadNow (member_shelf start) es (pages_of store) (shows_on (member_shelf start) old.0 es x) x = old.2.each x (record { from = from; to = near }) (bank_at start x bank here) in
       let shows : shows_on (member_shelf start) old.0 es x ≡ last_or (old.0 x) (filter_map (slot_bytes_for x) (flat_map slots_in es)) =
       subst (λ (t : List Entry). (pages_after stored_members start.base.offset old.0 t).shows x ≡ last_or (old.0 x) (filter_map (slot_bytes_for x) (flat_map slots_in t))) (take-length es) (member_bytes_show start lists old.0 (members_lock bank) (length es) x k old.1.behind near) in
@@ -270,17 +367,35 @@ module _ {P O : Type 0} {g : disks.Ghosts P} {r : rules.Ghosts O} where
       is ∙ (ap (λ (z : ℕ × ℕ). slot_of z.0 z.1) both ∙ slot_made member.mode (low_half member.id) full))
       (λ gone. absurd (member_held start lists bank k base few x announced to gone.1))
       now
-    where
-      bank_at : (start : Start) (x bank : ℕ) → members_lock_of start x ≡ members_lock bank → member_page_of x % start.banks ≡ bank
-      bank_at start x bank q = omega arith
+
+  -- a slot that is skipped holds none, also where its page may be gone
+  gap_seen : (start : Start) (lists : List (List Entry)) (bank : ℕ) (store : SlruBank P O g r) (x : ℕ) (slot : Slot) → IsBase start.base → EngineInvariant start lists → IsMembersOf start bank store (at lists (members_lock bank)) → members_lock_of start x ≡ members_lock bank → IsTrue g.tells → AreFewMultis lists
+      → slot ≡ slot_of (slice_index (pages_of store (member_page_of x)) (mode_place_of x)) (number_in (pages_of store (member_page_of x)) (member_place_of x)) → IsGap start lists x → slot ≡ found.Unused
+  gap_seen start lists bank store x slot base k s here told few is gap =
+      let es = at lists (members_lock bank) in
+      let old = s.stands.shown told (members_near start lists bank k few) in
+      let bounds = gap_at start lists x bank base k here old.0 old.1 few gap in
+      let near = bounds.near in
+      let now : IsReadNow (member_shelf start) es (pages_of store) (shows_on (member_shelf start) old.0 es x) x = old.2.each x (record { from = bounds.from; to = near }) (bank_at start x bank here) in
+      let shows : shows_on (member_shelf start) old.0 es x ≡ last_or (old.0 x) (filter_map (slot_bytes_for x) (flat_map slots_in es)) =
+      subst (λ (t : List Entry). (pages_after stored_members start.base.offset old.0 t).shows x ≡ last_or (old.0 x) (filter_map (slot_bytes_for x) (flat_map slots_in t))) (take-length es) (member_bytes_show start lists old.0 (members_lock bank) (length es) x k old.1.behind near) in
+      let mode = slice_index (pages_of store (member_page_of x)) (mode_place_of x) in
+      let number = number_in (pages_of store (member_page_of x)) (member_place_of x) in
+      let unused : number ≡ 0 → slot ≡ found.Unused = λ zero. is ∙ ap (λ z. slot_of mode z) zero in
+      ⊎_elim
+      (λ (e : (mode, number) ≡ slot_held (shows_on (member_shelf start) old.0 es x)).
+      unused (ap (λ (z : ℕ × ℕ). z.1) e ∙ (ap word_held shows ∙ gap_word start lists x bank base k here old.0 bounds)))
+      (λ gone. unused (ap (λ (z : ℕ × ℕ). z.1) gone.0))
+      now
 
   slot_seen : (start : Start) (lists : List (List Entry)) (bank : ℕ) (store : SlruBank P O g r) (x : ℕ) (slot : Slot) → IsBase start.base → EngineInvariant start lists → IsMembersOf start bank store (at lists (members_lock bank)) → members_lock_of start x ≡ members_lock bank → IsTrue g.tells → AreFewMultis lists
       → oldest_offset start.base.oldest_offset (multi_history lists) ≤ x → slot ≡ slot_of (slice_index (pages_of store (member_page_of x)) (mode_place_of x)) (number_in (pages_of store (member_page_of x)) (member_place_of x)) → IsSlotRead start lists x slot
   slot_seen start lists bank store x slot base k s here told few announced is =
       let seen = member_seen start lists bank store x slot base k s here told few announced is in
       record {
-        set = λ member set. seen member (inl set) (set_full start lists x bank base k here member set);
-        recorded = λ member m full. seen member (inr m) full;
+        set = λ member set. seen member (inl set);
+        recorded = λ member m. seen member (inr m);
+        gap = λ gap. gap_seen start lists bank store x slot base k s here told few is gap;
       }
 
   pub slots_seen : (start : Start) (lists : List (List Entry)) (bank : ℕ) (store : SlruBank P O g r) (offset count : ℕ) → IsBase start.base → EngineInvariant start lists → IsMembersOf start bank store (at lists (members_lock bank)) → members_lock_of start offset ≡ members_lock bank → 1 ≤ count → SharePage offset count → IsTrue g.tells

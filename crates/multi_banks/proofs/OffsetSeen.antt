@@ -37,7 +37,7 @@ use Rattle.engine_parts.specs.Parts.{IsOffsetsOf}
 use Rattle.engine_parts.specs.Shelf.{ArePagesNear, IsReadNow, shows_on}
 use Rattle.engine_parts.specs.Shelves.{offset_shelf, word_held}
 use Rattle.engine_parts.proofs.OffsetShelf.{word_made}
-use Rattle.multi_banks.specs.Offsets.{HasNoOffset, HasOffset, IsOffsetFound, IsOffsetRead}
+use Rattle.multi_banks.specs.Offsets.{HasNoOffset, HasOffset, IsOffsetFound, IsOffsetRead, WasTold}
 use Rattle.multi_banks.proofs.Coursing.{same_last}
 use Rattle.multi_banks.proofs.Seeing.{filter_map_has, recorded_or_not}
 use Rattle.multi_banks.proofs.Uncut.{offset_held}
@@ -54,6 +54,14 @@ word_of_bytes o n each =
     let b2 = each 2 (omega arith) in
     let b3 = each 3 (omega arith) in
     word_bytes o ∙ ((λ j. b0 j + 256 * (b1 j + 256 * (b2 j + 256 * b3 j))) ∙ sym (word_made n))
+
+pub word_zero : (o : Option StoredBytes) → ((i : ℕ) → i < 4 → byte_held o i ≡ 0) → word_held o ≡ 0
+word_zero o each =
+    let b0 = each 0 (omega arith) in
+    let b1 = each 1 (omega arith) in
+    let b2 = each 2 (omega arith) in
+    let b3 = each 3 (omega arith) in
+    word_bytes o ∙ (λ j. b0 j + 256 * (b1 j + 256 * (b2 j + 256 * b3 j)))
 
 -- what a value says of a multixact: where it is 0 no offset stands, and else one of this low half
 record Says (start : Start) (lists : List (List Entry)) (multi number : ℕ) : Type 0 where
@@ -118,7 +126,7 @@ module _ (start : Start) (lists : List (List Entry)) (multi bank : ℕ) (base : 
       let unset : (offset : ℕ) → IsOffsetSet start lists multi offset → ⊥ = λ offset s. let t = set_here offset s in never t.0 t.1 t.2 in
       let held : (offset : ℕ) (members : List Member) → Contains start.recorded (records.Multi multi offset members) → word_held (before multi) ≡ low_half offset = λ offset members c. word_of_bytes (before multi) offset (clean.recorded multi offset members c from) in
       record {
-        none = λ zero. record { unset = unset; unstored = λ offset members c. sym (held offset members c) ∙ zero };
+        none = λ zero. record { unset = unset; unrecorded = λ offset members c. let z : low_half offset ≡ 0 = sym (held offset members c) ∙ zero in let s = clean.in_order.stored multi offset members c from in omega (arith, z, s) };
         some = λ other. ⊎_elim
             (λ (r : (offset : ℕ) × (members : List Member) × Has start.recorded (records.Multi multi offset members)).
             let c = has_contains start.recorded (records.Multi multi r.0 r.1) r.2 in (r.0, held r.0 r.1 c, inr (r.1, c)))
@@ -147,7 +155,7 @@ module _ (start : Start) (lists : List (List Entry)) (multi bank : ℕ) (base : 
   none_past : (before : ℕ → Option StoredBytes) → CleanOffsets start before → next_made start.base.multi (multi_history lists) < multi → start.base.multi ≤ next_made start.base.multi (multi_history lists) → HasNoOffset start lists multi
   none_past before clean past low = record {
     unset = λ offset s. let b = set_below offset s in omega (arith, b, past);
-    unstored = λ offset members c. let b = clean.before multi offset members c in absurd (omega (arith, b, past, low));
+    unrecorded = λ offset members c. let b = clean.before multi offset members c in omega (arith, b, past, low);
   }
 
 found_of : (start : Start) (lists : List (List Entry)) (multi number : ℕ) (found : Option ℕ) → found ≡ offset_of number → (number ≡ 0 → HasNoOffset start lists multi) → (number ≢ 0 → (offset : ℕ) × (number ≡ low_half offset) × HasOffset start lists multi offset) → IsOffsetFound start lists multi found
@@ -169,6 +177,12 @@ offsets_near start lists bank k few =
     subst (λ z. z ≤ offset_page (start.base.multi + 2 ^ 29)) (sym same) up
 
 module _ {P O : Type 0} {g : disks.Ghosts P} {r : rules.Ghosts O} where
+  -- what the pages told of the life's begin
+  pub begun_seen : (start : Start) (lists : List (List Entry)) (bank : ℕ) (store : SlruBank P O g r) → EngineInvariant start lists → IsOffsetsOf start bank store (at lists (offsets_lock bank)) → IsTrue g.tells → AreFewMultis lists → WasTold start
+  begun_seen start lists bank store k s told few =
+      let clean = (s.stands.shown told (offsets_near start lists bank k few)).1 in
+      record { told = clean.told; below = clean.before; full = clean.full; in_order = clean.in_order }
+
   pub offset_seen : (start : Start) (lists : List (List Entry)) (bank : ℕ) (store : SlruBank P O g r) (multi : ℕ) (found : Option ℕ) → IsBase start.base → EngineInvariant start lists → IsOffsetsOf start bank store (at lists (offsets_lock bank)) → offsets_lock_of start multi ≡ offsets_lock bank → IsTrue g.tells
       → found ≡ offset_of (number_in (pages_of store (word_page_of multi)) (word_place_of multi)) → oldest_multi start.base.oldest_multi (multi_history lists) ≤ multi → IsOffsetRead start lists multi found
   offset_seen start lists bank store multi found base k s here told is announced full from to few =

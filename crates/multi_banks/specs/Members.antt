@@ -1,8 +1,9 @@
 -- What a bank of members says of the slots of a page, by the bank's list, in a life of few.
-use Rattle.std.specs.Prelude.{◌≡◌, ℕ, ◌+◌, ◌<◌, ◌≤◌, List, [], ◌∷◌, Some, Contains, slice_get}
+use Rattle.std.specs.Prelude.{◌≡◌, ℕ, ◌+◌, ◌<◌, ◌≤◌, ◌⊎◌, List, [], ◌∷◌, Some, Contains, length, slice_get}
 use Rattle.tx_events.specs.Ids.{low_half}
 use Rattle.tx_events.specs.declared.event.By.{By}
 use Rattle.tx_events.specs.declared.multi.Member.{Member}
+use Rattle.tx_events.specs.declared.multi.MultiEvent.TheVariants as multis
 use Rattle.tx_events.specs.declared.record.Rec.TheVariants as records
 use Rattle.multi_members.specs.declared.slot.Slot.{Slot}
 use Rattle.multi_members.specs.declared.slot.Slot.TheVariants as found
@@ -11,7 +12,7 @@ use Rattle.tx_core.specs.declared.entry.Change.TheVariants as changes
 use Rattle.tx_core.specs.declared.entry.Entry.{Entry}
 use Rattle.tx_core.specs.declared.entry.Start.{Start}
 use Rattle.tx_core.specs.Locks.{member_page_in_full}
-use Rattle.tx_core.specs.MultiEntries.{AreFewMultis, IsSlotSet}
+use Rattle.tx_core.specs.MultiEntries.{AreFewMultis, IsSlotSet, multi_history}
 
 -- members are set one behind another, from an offset on
 abbrev pub slots_set : By → ℕ → List Member → List Change
@@ -34,13 +35,27 @@ pub record IsRecordedMember (start : Start) (offset : ℕ) (member : Member) : T
   pub among : slice_get members place ≡ Some member
   pub at : first + place ≡ offset
 
--- A slot that was read holds the member that stands there: its mode, and the low half of its id. An id of low half 0 is
--- stored as none; no full id has it.
+-- a multixact has these members, by its event or by its record from before the life, of one from the first oldest one on
+abbrev pub HasMembersFrom : Start → List (List Entry) → ℕ → List Member → Type 0
+HasMembersFrom start lists first members =
+    ((by : By) × (multi : ℕ) × Contains (multi_history lists) (multis.Gen by multi first members))
+    ⊎ ((multi : ℕ) × (start.base.oldest_multi ≤ multi) × Contains start.recorded (records.Multi multi first members))
+
+-- The members of a multixact end at an offset of low half 0. No multixact begins there, so the slot is skipped.
+pub record IsGap (start : Start) (lists : List (List Entry)) (offset : ℕ) : Type 0 where
+  pub low : low_half offset ≡ 0
+  pub first : ℕ
+  pub members : List Member
+  pub before : HasMembersFrom start lists first members
+  pub end : first + length members ≡ offset
+
+-- a slot that was read holds the member that stands there: its mode, and the low half of its id; where one is skipped, none
 pub record IsSlotRead (start : Start) (lists : List (List Entry)) (offset : ℕ) (slot : Slot) : Type 0 where
   pub set : (member : Member) → IsSlotSet start lists offset member
       → slot ≡ found.Is (record { number = low_half member.id }) member.mode
-  pub recorded : (member : Member) → IsRecordedMember start offset member → 1 ≤ low_half member.id
+  pub recorded : (member : Member) → IsRecordedMember start offset member
       → slot ≡ found.Is (record { number = low_half member.id }) member.mode
+  pub gap : IsGap start lists offset → slot ≡ found.Unused
 
 -- these slots were read from an offset on
 abbrev pub AreSlotsRead : Start → List (List Entry) → ℕ → List Slot → Type 0

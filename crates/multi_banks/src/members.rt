@@ -181,6 +181,7 @@ pub fn read_members<R: Passing, L: LogDisk, P: PageDisk>(
         (view caller.new.pass).seen) ≤ offset
         → OnOk result ((slots : List Slot) × (into.new.items ≡ into.old.items ++ slots) × (length slots ≡ count)
         × AreSlotsRead (start_of hall.now) (view caller.new.pass).seen offset slots) }
+    ensures long { OnOk result (length into.new.items ≡ length into.old.items + count) }
     ensures none { OnErr result (into.new.items ≡ into.old.items) }
     ensures room { vec_capacity into.new ≡ vec_capacity into.old }
     ensures fault { result ≡ Err DiskFault → MetFault (view caller.new.pass).seen (members_lock bank)

@@ -72,7 +72,7 @@ may_freeze base h new by multi (freezings.Raised offset) i = frozen_next base h 
 may_freeze base h new by multi (freezings.Pinned held) i = (is_pinned base h new by (low_half multi) held i.0).known
 
 pub told_freeze : (start : Start) (h : List MultiEvent) (new : Generator) (by : By) (multi : ℕ) (f : Freezing) → IsFrozenAs (generator_of start.base h) new by multi f → ToldOf start (frozen_event by multi f)
-told_freeze start h new by multi (freezings.Raised offset) i = λ told below.
+told_freeze start h new by multi (freezings.Raised offset) i = λ told rec among below.
     let up = made_more start.base.multi [] h (h, refl) in
     absurd (between multi start.base.multi (next_made start.base.multi h) below up i.0)
   where

@@ -8,6 +8,7 @@ use Rattle.tx_events.specs.declared.event.By.{By}
 use Rattle.tx_events.specs.declared.multi.Member.{Member}
 use Rattle.tx_events.specs.declared.multi.MultiEvent.{MultiEvent}
 use Rattle.tx_events.specs.declared.record.Counters.{Counters}
+use Rattle.tx_events.specs.declared.record.Rec.{Rec}
 use Rattle.tx_events.specs.declared.record.Rec.TheVariants as records
 use Rattle.tx_events.specs.declared.refusal.Refusal.{Refusal}
 use Rattle.tx_events.specs.declared.refusal.Refusal.TheVariants as refusals
@@ -69,10 +70,10 @@ read_old base h low l =
     let below : nat_lt h.multi base.multi ≡ true = grind (arith, nat_tests) in
     ap (λ b. cond b (first_from base.oldest_offset low) (unwrap_or h.start 0)) below
 
-pub recorded_there : (start : Start) (lists : List (List Entry)) (h : Held) (low offset : ℕ) → IsOffsetTold start lists h.multi low → offset ≡ offset_read start.base h low → IsTrue start.told → AreFewMultis lists → h.multi < start.base.multi
+pub recorded_there : (start : Start) (lists : List (List Entry)) (h : Held) (low offset : ℕ) → IsOffsetTold start lists h.multi low → offset ≡ offset_read start.base h low → IsTrue start.told → (rec : Rec) → Contains start.recorded rec → AreFewMultis lists → h.multi < start.base.multi
     → (members : List Member) × Contains start.recorded (records.Multi h.multi offset members)
-recorded_there start lists h low offset read is told few below =
-    let r = read told few below in
+recorded_there start lists h low offset read is told rec among few below =
+    let r = read told rec among few below in
     let same : offset ≡ r.0 = is ∙ (read_old start.base h low below ∙ only_from start.base.oldest_offset low r.0 r.1 r.2 r.3) in
     subst (λ x. (members : List Member) × Contains start.recorded (records.Multi h.multi x members)) (sym same) r.4
 

@@ -6,6 +6,7 @@ use Rattle.tx_events.specs.declared.multi.Member.{Member}
 use Rattle.tx_events.specs.declared.multi.MultiEvent.{MultiEvent}
 use Rattle.tx_events.specs.declared.multi.MultiEvent.TheVariants as events
 use Rattle.tx_events.specs.declared.record.Counters.{Counters}
+use Rattle.tx_events.specs.declared.record.Rec.{Rec}
 use Rattle.tx_events.specs.declared.record.Rec.TheVariants as records
 use Rattle.tx_events.specs.declared.refusal.Refusal.{Refusal}
 use Rattle.tx_events.specs.declared.refusal.Refusal.TheVariants as refusals
@@ -34,11 +35,11 @@ first_from from low = from + (low + 2 ^ 32 - from % 2 ^ 32) % 2 ^ 32
 abbrev pub offset_read : Counters → Held → ℕ → ℕ
 offset_read base h low = cond (nat_lt h.multi base.multi) (first_from base.oldest_offset low) (unwrap_or h.start 0)
 
--- What was read of a multixact that the life began with, in a life of few over stores that tell: the half of the offset in
--- its record.
+-- What was read of a multixact that the life began with, in a life of few over stores that tell, where it began with a
+-- recorded one: the half of the offset in its record.
 abbrev pub IsOffsetTold : Start → List (List Entry) → ℕ → ℕ → Type 0
 IsOffsetTold start lists multi low =
-    IsTrue start.told → AreFewMultis lists → multi < start.base.multi
+    IsTrue start.told → (rec : Rec) → Contains start.recorded rec → AreFewMultis lists → multi < start.base.multi
     → (offset : ℕ) × (low ≡ low_half offset) × (start.base.oldest_offset ≤ offset) × (offset < start.base.oldest_offset + 2 ^ 32)
     × ((members : List Member) × Contains start.recorded (records.Multi multi offset members))
 

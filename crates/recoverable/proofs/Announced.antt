@@ -3,6 +3,7 @@ use Rattle.std.proofs.Common.{Contains, List, arith, ⊎_elim, ℕ, ◌<◌, ◌
 use Rattle.tx_events.specs.declared.event.By.{By}
 use Rattle.tx_events.specs.declared.multi.Member.{Member}
 use Rattle.tx_events.specs.declared.multi.MultiEvent.TheVariants as multis
+use Rattle.tx_events.specs.declared.record.Rec.{Rec}
 use Rattle.tx_events.specs.declared.record.Rec.TheVariants as records
 use Rattle.tx_events.proofs.Membership.{Has, contains_has}
 use Rattle.tx_events.specs.Base.{IsBase}
@@ -18,7 +19,8 @@ use Rattle.tx_core.proofs.MultiOrder.{Ordered, ordered}
 
 -- where a multixact of the base is announced as the oldest one, it is announced with its offset
 abbrev pub AreRaisesTold : Start → List (List Entry) → Type 0
-AreRaisesTold start lists = (by : By) (multi offset : ℕ) → Contains (multi_history lists) (multis.Raise by multi offset) → multi < start.base.multi
+AreRaisesTold start lists =
+    (rec : Rec) → Contains start.recorded rec → (by : By) (multi offset : ℕ) → Contains (multi_history lists) (multis.Raise by multi offset) → multi < start.base.multi
     → (members : List Member) × Contains start.recorded (records.Multi multi offset members)
 
 module _ (start : Start) (lists : List (List Entry)) (k : EngineInvariant start lists) (is : IsBase start.base) where
@@ -48,7 +50,7 @@ module _ (start : Start) (lists : List (List Entry)) (k : EngineInvariant start 
       let z = q.1 in let w = in_order.within multi offset members among from in let w0 = w.0 in (omega arith, omega arith))
       (λ (q : (b : By) × Contains (multi_history lists) (multis.Raise b m o)).
       let r = order.raised q.0 m o (contains_has (multi_history lists) (multis.Raise q.0 m o) q.1) in
-      let tells = told q.0 m o q.1 (omega arith) in
+      let tells = told (records.Multi multi offset members) among q.0 m o q.1 (omega arith) in
       let down = raised_from start.base (multi_history lists) q.0 m o (multis_are_legal start lists k) q.1 in
       (r.0, in_order.order m multi o offset tells.0 members tells.1 among down le))
       announced

@@ -7,8 +7,8 @@ use Rattle.disk_core.specs.declared.page_disk.PageDisk as disks
 use Rattle.disk_core.specs.Media.{EachCrashed, LogCrashed, PagesCrashed}
 use Rattle.disk_core.specs.Pages.{Pages}
 use Rattle.disk_core.specs.Volume.{Volume}
-use Rattle.recoverable.specs.Volumes.{ImageFits, Left}
-use Rattle.recoverable.specs.Clusters.{CrashKeepsFit, IsLeft}
+use Rattle.recoverable.specs.Volumes.{ImageFits}
+use Rattle.recoverable.specs.Clusters.{AreLeft, CrashKeepsFit}
 
 module _ {P : Type 0} (R : P → P → Type 0) where
   as_long : (xs ys : List P) → EachCrashed R xs ys → length ys ≡ length xs
@@ -29,19 +29,19 @@ module _ {L P : Type 0} (l : logs.Ghosts L) (p : disks.Ghosts P) where
   abbrev page_crashed : P → P → Type 0
   page_crashed = PagesCrashed p.pages p.images p.faults
 
-  -- what a further crash leaves this one might have left
-  left_before : (old new : L) (xact xact' : List P) (left : Left) → LogCrashed l.reads l.images l.faults old new → EachCrashed page_crashed xact xact' → IsLeft l p new xact' left → IsLeft l p old xact left
-  left_before old new xact xact' left log pages is = record {
-    log_image = subst (λ (v : Volume). l.images old v) (sym (log.only left.log is.log_image)) log.image;
-    states = λ bank disk at.
-        let now = became page_crashed xact xact' pages bank disk at in
-        subst (λ (c : Pages). p.images disk c) (sym (now.2.only (left.xact bank) (is.states bank now.0 now.1))) now.2.image;
-    no_offsets = is.no_offsets;
-    no_members = is.no_members;
-  }
+  -- what a further crash leaves of the volumes of a store, this one might have left
+  stores_before : (xs ys : List P) (left : ℕ → Pages) → EachCrashed page_crashed xs ys → AreLeft l p ys left → AreLeft l p xs left
+  stores_before xs ys left pages is bank disk at =
+      let now = became page_crashed xs ys pages bank disk at in
+      subst (λ (c : Pages). p.images disk c) (sym (now.2.only (left bank) (is bank now.0 now.1))) now.2.image
 
   pub crash_keeps_fit : CrashKeepsFit l p
-  crash_keeps_fit kept old new xact xact' log pages fit = record {
+  crash_keeps_fit kept old new xact xact' offsets offsets' members members' log states firsts slots fit = record {
     list = fit.list;
-    each = λ left is. subst (λ (n : ℕ). ImageFits n kept left) (sym (as_long page_crashed xact xact' pages)) (fit.each left (left_before old new xact xact' left log pages is));
+    each = λ left is. subst (λ (n : ℕ). ImageFits n kept left) (sym (as_long page_crashed xact xact' states)) (fit.each left (record {
+      log_image = subst (λ (v : Volume). l.images old v) (sym (log.only left.log is.log_image)) log.image;
+      states = stores_before xact xact' left.xact states is.states;
+      offsets_are = stores_before offsets offsets' left.offsets firsts is.offsets_are;
+      members_are = stores_before members members' left.members slots is.members_are;
+    }));
   }

@@ -19,7 +19,6 @@ pub mod WorkedLife
 pub mod WorkedRestored
 pub mod LogSteps
 pub mod LogEnds
-pub mod NoneRecorded
 pub mod WorkedBank
 pub mod NewBegins
 pub mod Settled

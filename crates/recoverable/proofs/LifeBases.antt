@@ -14,9 +14,9 @@ use Rattle.tx_events.specs.declared.record.Rec.TheVariants as records
 use Rattle.tx_events.proofs.Membership.{Has, contains_has, has_cases, has_contains, has_flat_map, has_place}
 use Rattle.tx_events.proofs.PlaceLemmas.{by_place, each_place_start}
 use Rattle.tx_events.proofs.SnapshotBounds.{given_from}
-use Rattle.tx_events.specs.After.{after_record, after_records}
+use Rattle.tx_events.specs.After.{after_record, after_records, ids_of}
 use Rattle.tx_events.specs.Base.{IsBase}
-use Rattle.tx_events.specs.Multis.{AreLegalMultis, InBase, MultiMayCome, first_member, next_made}
+use Rattle.tx_events.specs.Multis.{AreLegalMultis, AreMembers, InBase, IsNextMade, MultiMayCome, first_member, next_made}
 use Rattle.tx_events.specs.Places.{EachPlace}
 use Rattle.tx_core.specs.declared.entry.Entry.{Entry}
 use Rattle.tx_core.specs.declared.entry.Start.{Start}
@@ -34,7 +34,7 @@ use Rattle.recoverable.proofs.FitsXact.{named_given}
 use Rattle.recoverable.proofs.LogBases.{base_from, committed_below, life_recs, multi_below, next_grows, oldest_multi_grows, offset_grows, multi_grows, recorded_split}
 use Rattle.recoverable.proofs.MultiChain.{Chained, chained, free_upto, next_later, next_upto}
 use Rattle.tx_core.proofs.MultiOrder.{Ordered, ordered}
-use Rattle.recoverable.proofs.OffsetsFit.{appended_gen}
+use Rattle.recoverable.proofs.OffsetsFit.{appended_full, appended_gen}
 use Rattle.recoverable.proofs.Stretches.{map_get}
 
 max_upto : (a b n : ℕ) → a ≤ n → b ≤ n → max a b ≤ n
@@ -52,6 +52,7 @@ record Came (start : Start) (lists : List (List Entry)) (before : List Rec) (rec
   oldest : (number : ℕ) (c : Counters) → rec ≡ records.Checkpoint number c → IsMultiAnnounced start lists c.oldest_multi c.oldest_offset
   cut : (oldest multi offset : ℕ) → rec ≡ records.Truncate oldest multi offset → IsMultiAnnounced start lists multi offset
   named : (top : ℕ) (subs : List ℕ) → rec ≡ records.Commit top subs → (x : ℕ) → Contains (top ∷ subs) x → 3 ≤ x
+  full : (m x : ℕ) (ms : List Member) → rec ≡ records.Multi m x ms → (id : ℕ) → Contains (ids_of ms) id → IsFullId id
 
 -- a full id is none of the special ones
 full_from : (n : ℕ) → IsFullId n → 3 ≤ n
@@ -74,7 +75,15 @@ came start lists k is_base p rec here =
           let from = given_from start.base (history lists) k.events.legal x given_x in
           let least = full_from start.base.next is_base.full in
           omega arith;
+      full = λ m x ms q. appended_full start lists p g.0.0 m x ms k (stands ∙ ap (λ (z : Rec). Some (g.0.0, z)) q);
     }
+
+-- what is given has as many members as may be
+gen_fit : (start : Start) (lists : List (List Entry)) (by : By) (m x : ℕ) (ms : List Member) → EngineInvariant start lists → Has (multi_history lists) (multis.Gen by m x ms) → AreMembers ms
+gen_fit start lists by m x ms k there =
+    let p = has_place (multi_history lists) (multis.Gen by m x ms) there in
+    let rule : IsNextMade start.base (take p.0 (multi_history lists)) m x ms = multis_are_legal start lists k p.0 (multis.Gen by m x ms) p.1 in
+    rule.fit
 
 -- how a multixact lies to what is announced, and to what was given: no offset of an earlier one is past its own
 record Lying (start : Start) (lists : List (List Entry)) (m x : ℕ) (ms : List Member) : Type 0 where
@@ -102,7 +111,7 @@ module _ (start : Start) (lists : List (List Entry)) (k : EngineInvariant start 
       record {
         from = w0;
         announced = λ multi offset a le.
-            (announced_old start lists k is.counters m x ms is.in_order (λ by n y raised before. raises_told start lists by n y k told raised before) old from below multi offset a le).1;
+            (announced_old start lists k is.counters m x ms is.in_order (λ rec among by n y raised before. raises_told start lists by n y k told rec among raised before) old from below multi offset a le).1;
         places = λ multi offset p le.
             let whole : AreLegalMultis start.base (InBase start.base) (take p.0 (multi_history lists) ++ drop p.0 (multi_history lists)) = subst (AreLegalMultis start.base (InBase start.base)) (sym (take-append-drop p.0 (multi_history lists))) legal in
             let c = chained start.base full (take p.0 (multi_history lists)) (each_place_start (MultiMayCome start.base (InBase start.base)) (take p.0 (multi_history lists)) (drop p.0 (multi_history lists)) whole) in
@@ -259,6 +268,46 @@ module _ (start : Start) (lists : List (List Entry)) (k : EngineInvariant start 
           let b = (below m x ms c).1 in omega arith;
       stored = λ m x ms c le. let low = from_oldest in
           ⊎_elim (λ old. is.in_order.stored m x ms old (omega arith)) (λ gen. chain.stored gen.0 m x ms gen.1) (known m x ms c);
+      apart = λ m n x y ms ns c d le up. let low = from_oldest in ⊎_elim
+          (λ old. ⊎_elim
+          (λ older. is.in_order.apart m n x y ms ns old older (omega arith) up)
+          (λ gen. let w = (is.multis m x ms old).1 in let g = (order.given gen.0 n y ns gen.1).0 in omega arith)
+          (known n y ns d))
+          (λ gen. let g1 = (chain.given gen.0 m x ms gen.1).1 in ⊎_elim
+          (λ old. let w0 = (is.multis n y ns old).0 in absurd (omega arith))
+          (λ other. ⊎_elim
+          (λ (q : (m < n) × (x + length ms ≤ y)). q.1)
+          (λ r. ⊎_elim
+          (λ (q : (n < m) × (y + length ns ≤ x)). let z = q.0 in absurd (omega arith))
+          (λ (q : (m ≡ n) × (x ≡ y) × (ms ≡ ns)). let z = q.0 in absurd (omega arith))
+          r)
+          (order.apart gen.0 other.0 m n x y ms ns gen.1 other.1))
+          (known n y ns d))
+          (known m x ms c);
+      once = λ m x y ms ns c d le. let low = from_oldest in ⊎_elim
+          (λ old. ⊎_elim
+          (λ older. is.in_order.once m x y ms ns old older (omega arith))
+          (λ gen. let w0 = (is.multis m x ms old).0 in let g1 = (chain.given gen.0 m y ns gen.1).1 in absurd (omega arith))
+          (known m y ns d))
+          (λ gen. let g1 = (chain.given gen.0 m x ms gen.1).1 in ⊎_elim
+          (λ old. let w0 = (is.multis m y ns old).0 in absurd (omega arith))
+          (λ other. ⊎_elim
+          (λ (q : (m < m) × (x + length ms ≤ y)). let z = q.0 in absurd (omega arith))
+          (λ r. ⊎_elim
+          (λ (q : (m < m) × (y + length ns ≤ x)). let z = q.0 in absurd (omega arith))
+          (λ (q : (m ≡ m) × (x ≡ y) × (ms ≡ ns)). (q.1, q.2))
+          r)
+          (order.apart gen.0 other.0 m m x y ms ns gen.1 other.1))
+          (known m y ns d))
+          (known m x ms c);
+      fit = λ m x ms c le. let low = from_oldest in ⊎_elim
+          (λ old. is.in_order.fit m x ms (has_contains start.recorded (records.Multi m x ms) old) (omega arith))
+          (λ new.
+          let p = has_place recs (records.Multi m x ms) new in
+          let here = each p.0 (records.Multi m x ms) p.1 in
+          let gen = here.gen m x ms refl in
+          (gen_fit start lists gen.0 m x ms k gen.1, here.full m x ms refl))
+          (recorded_split start recs (records.Multi m x ms) c);
     }
 
     normal : (x : ℕ) → Has (committed_in recs) x → 3 ≤ x
@@ -298,4 +347,5 @@ list_fits start lists log k told full is f =
           (subst (λ (t : List Rec). EachPlace t (Came start lists)) (sym (take-append-drop j (life_recs lists))) (came start lists k is.counters)) in
           subst IsLifeBase (sym (base_from start lists log n f (omega arith))) (life_base_after start lists k told full is (take j (life_recs lists)) each);
       whole = λ n first. whole_in start lists log n k f first;
+      below = f.below;
     }

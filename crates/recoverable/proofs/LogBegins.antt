@@ -48,6 +48,7 @@ log_of start log from next may list settled =
       base = sym (ap (base_after log.base) all) ∙ settled.kept (log_end log) list.upto (omega arith);
       some = omega arith;
       whole = λ n first lt. list.whole n first;
+      below = list.below;
       begun = omega arith;
       upto = list.upto;
       flushed = λ to stands. absurd (contains_has [] (record { by = stands.0; kind = kinds.Flush to }) stands.1);

@@ -30,6 +30,7 @@ log_ends start lists log kept begun =
       whole = λ n first low counters stands.
           let here = sym (get_front log.recs (recs_in es) (n - log.first) (omega (arith, long, from, first, low))) ∙ stands in
           ap (λ (t : List Rec). after_records log.base.counters t) (take-append-le (n + 1 - log.first) log.recs (recs_in es) (omega (arith, long, from, first, low))) ∙ begun.whole n first low counters here;
+      below = begun.below;
       begun = last.from;
       upto = (let within = last.within in omega (arith, within, size, all, long, from));
       flushed = last.greatest;

@@ -68,6 +68,7 @@ module _ (start : Start) (es : List Entry) (log : KeptLog) (f : LogOf start es l
           base = f.base;
           some = f.some;
           whole = whole_more rec;
+          below = f.below;
           begun = f.begun;
           upto = omega arith;
           flushed = λ to h. ⊎_elim (f.flushed to) (λ (q : kinds.Append rec ≡ kinds.Flush to). absurd cc) (kinds_of e (kinds.Flush to) h);
@@ -83,6 +84,7 @@ module _ (start : Start) (es : List Entry) (log : KeptLog) (f : LogOf start es l
           base = f.base;
           some = f.some;
           whole = f.whole;
+          below = f.below;
           begun = omega arith;
           upto = high;
           flushed = λ upto h. ⊎_elim
@@ -99,6 +101,7 @@ module _ (start : Start) (es : List Entry) (log : KeptLog) (f : LogOf start es l
           base = f.base;
           some = f.some;
           whole = f.whole;
+          below = f.below;
           begun = f.begun;
           upto = f.upto;
           flushed = λ to h. ⊎_elim (f.flushed to) (λ q. absurd (never to q)) (kinds_of e (kinds.Flush to) h);

@@ -283,7 +283,7 @@ module _ (start : Start) (lists : List (List Entry)) (log : KeptLog) (k : Engine
 
 pub members_fit : MembersFitLaw
 members_fit start lists shown log bank n c k is told clean f beginning few inside follows tails = record {
-  recorded = members_shown start lists log k is f few shown bank n c clean (λ by multi offset raised old. raises_told start lists by multi offset k told raised old) beginning inside follows;
+  recorded = members_shown start lists log k is f few shown bank n c clean (λ rec among by multi offset raised old. raises_told start lists by multi offset k told rec among raised old) beginning inside follows;
   no_gap = no_gap start lists log k is f few shown bank c clean follows;
   tails = tails;
 }

@@ -4,7 +4,7 @@ use Rattle.std.specs.List.{slice_get}
 use Rattle.tx_events.proofs.Membership.{contains_has}
 use Rattle.tx_core.specs.declared.entry.Start.{Start}
 use Rattle.tx_core.specs.declared.entry.State.TheVariants as states
-use Rattle.log_bases.specs.LifeBase.{AreInOrder, LifeBase, base_after}
+use Rattle.log_bases.specs.LifeBase.{AreBelowNext, AreInOrder, LifeBase, base_after}
 use Rattle.tx_events.specs.declared.record.Counters.{Counters}
 use Rattle.tx_events.specs.declared.record.Rec.TheVariants as records
 use Rattle.tx_core.specs.declared.entry.Kind.TheVariants as kinds
@@ -27,6 +27,9 @@ in_order start none = record {
   behind = λ m n x y ms ns c. absurd (none_in start.recorded _ none c);
   last = λ m x ms c. absurd (none_in start.recorded _ none c);
   stored = λ m x ms c. absurd (none_in start.recorded _ none c);
+  apart = λ m n x y ms ns c. absurd (none_in start.recorded _ none c);
+  once = λ m x y ms ns c. absurd (none_in start.recorded _ none c);
+  fit = λ m x ms c. absurd (none_in start.recorded _ none c);
 }
 
 pub new_begins : NewBegins
@@ -50,7 +53,10 @@ new_begins start told full base committed recorded = record {
     clean = λ x low high. refl;
   };
   offsets = record {
+    told = told;
+    full = λ m x ms c. full;
     before = λ m x ms c. absurd (none_in start.recorded _ recorded c);
+    in_order = in_order start recorded;
     recorded = λ m x ms c. absurd (none_in start.recorded _ recorded c);
     other = λ m full old below never. refl;
     clean = λ x low high. refl;
@@ -80,18 +86,19 @@ new_whole start number n low high counters stands =
     counters_of e = cc
 
 -- it is the log of the life that begins behind it
-pub new_log_of : (start : Start) (number : ℕ) → start.from ≡ number + 1 → LogOf start [] (new_log start number)
-new_log_of start number next = record {
+pub new_log_of : (start : Start) (number : ℕ) → start.from ≡ number + 1 → AreBelowNext (life_base start) → LogOf start [] (new_log start number)
+new_log_of start number next below = record {
   before = (new_log start number).recs;
   recs = refl;
   from = next;
   base = checkpoint_settles (life_base start) number;
   some = omega arith;
   whole = λ n low high. new_whole start number n low (omega arith);
+  below = below;
   begun = omega arith;
   upto = omega arith;
   flushed = λ to stands. absurd (contains_has [] (record { by = stands.0; kind = kinds.Flush to }) stands.1);
 }
 
 pub new_log_begins : NewLogBegins
-new_log_begins start number v next has = (new_log_of start number next, record { kept = number; opens = has; forgotten = inl (omega arith) })
+new_log_begins start number v next below has = (new_log_of start number next below, record { kept = number; opens = has; forgotten = inl (omega arith) })

@@ -1,7 +1,8 @@
 -- Each image of a bank of offsets has the offsets of recorded multixacts.
 use Rattle.std.proofs.Common.{Contains, List, Option, Some, [], ap, arith, inr, length, length-append, refl, subst, sym, take, true, ℕ, ⊎_elim, ◌++◌, ◌+◌, ◌-◌, ◌/◌, ◌%◌, ◌<◌, ◌^◌, ◌∙◌, ◌≡◌, ◌≤◌, ◌⊎◌}
 use Rattle.std.specs.List.{filter, filter_map, flat_map, slice_get}
-use Rattle.tx_events.specs.Ids.{low_half}
+use Rattle.tx_events.specs.After.{ids_of}
+use Rattle.tx_events.specs.Ids.{IsFullId, low_half}
 use Rattle.store_pages.specs.Layouts.{multi_before, word_page_of}
 use Rattle.tx_events.specs.PageOrder.{Multis, is_cut}
 use Rattle.tx_events.specs.PageWindow.{multi_is_kept}
@@ -164,6 +165,14 @@ appended_gen start lists place by multi offset members k stands =
     let need = upheld_has (NeedsNamed start) lists log_lock (record { by = by; kind = kinds.Append (records.Multi multi offset members) }) k.log.named logged in
     let gen : IsGenOf lists by.session multi offset members = need.1.0 in
     (gen.0, contains_has (multi_history lists) (multis.Gen gen.0 multi offset members) gen.2)
+
+-- and its members are full ids
+pub appended_full : (start : Start) (lists : List (List Entry)) (place : ℕ) (by : By) (multi offset : ℕ) (members : List Member) → EngineInvariant start lists → slice_get (records_of lists) place ≡ Some (by, records.Multi multi offset members)
+    → (id : ℕ) → Contains (ids_of members) id → IsFullId id
+appended_full start lists place by multi offset members k stands =
+    let logged = logged_at start lists place by (records.Multi multi offset members) stands in
+    let need = upheld_has (NeedsNamed start) lists log_lock (record { by = by; kind = kinds.Append (records.Multi multi offset members) }) k.log.named logged in
+    need.1.2
 
 -- the log ends behind the records from before the life
 pub life_end : (start : Start) (lists : List (List Entry)) (log : KeptLog) → LogFollows start lists log → start.from ≤ log_end log

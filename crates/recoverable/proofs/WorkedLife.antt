@@ -5,7 +5,9 @@ use Rattle.tx_events.specs.Ids.{low_half, next_multi}
 use Rattle.disk_core.specs.Pages.{page_bytes, zero_page}
 use Rattle.store_pages.specs.Layouts.{bits_at, state_in, xact_page_of, xact_place_of}
 use Rattle.tx_events.proofs.Membership.{contains_has, has_contains}
+use Rattle.tx_events.specs.After.{ids_of}
 use Rattle.tx_events.specs.Base.{IsBase}
+use Rattle.tx_events.specs.Multis.{AreMembers}
 use Rattle.tx_events.specs.declared.multi.Member.{Member}
 use Rattle.tx_events.specs.declared.multi.Mode.TheVariants.{ForUpd, Sh}
 use Rattle.tx_events.specs.declared.record.Rec.TheVariants as records
@@ -64,6 +66,15 @@ in_order = record {
       absurd (omega arith);
   last = λ m x ms c le next. let e = long m x ms c in let e1 = e.1 in let e2 = e.2 in omega arith;
   stored = λ m x ms c le. let e1 = (long m x ms c).1 in omega arith;
+  apart = λ m n x y ms ns c d le up. let e0 = (long m x ms c).0 in let f0 = (long n y ns d).0 in absurd (omega arith);
+  once = λ m x y ms ns c d le. (sym (only m x ms c).1 ∙ (only m y ns d).1, sym (only m x ms c).2 ∙ (only m y ns d).2);
+  fit = λ m x ms c le. let same = (only m x ms c).2 in (
+    subst AreMembers same (record { some = omega arith; most = omega arith; updaters = omega arith }),
+    λ id among. ⊎_elim
+        (λ (e : 3 ≡ id). omega arith)
+        (λ rest. ⊎_elim (λ (e : 4 ≡ id). omega arith) (λ none. absurd none) rest)
+        (contains_has (3 ∷ 4 ∷ []) id (subst (λ (t : List Member). Contains (ids_of t) id) (sym same) among)),
+  );
 }
 
 -- from a base whose committed ids are below the next one
@@ -91,6 +102,7 @@ list = record {
       (λ (e : k ≡ 5). subst (λ n. IsLifeBase (base_at log n)) (sym e) (life_base (3 ∷ 4 ∷ []) below_two))
       (either k from upto);
   whole = λ n first. whole n;
+  below = λ multi offset members among. absurd (contains_has [] (records.Multi multi offset members) among);
 }
   where
     whole : (n : ℕ) → IsWholeAt log n

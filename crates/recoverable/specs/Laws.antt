@@ -19,7 +19,7 @@ use Rattle.tx_core.specs.EngineInvariant.{EngineInvariant}
 use Rattle.tx_core.specs.Entries.{history, recs_in, Stands}
 use Rattle.notes.specs.Lists.{at}
 use Rattle.tx_core.specs.Locks.{log_lock, members_lock, offsets_lock, xact_lock}
-use Rattle.log_bases.specs.LifeBase.{IsLifeBase, LifeBase, base_after}
+use Rattle.log_bases.specs.LifeBase.{AreBelowNext, IsLifeBase, LifeBase, base_after}
 use Rattle.recoverable.specs.Fit.{KeptLog, MayBegin, XactFits, base_at, log_end}
 use Rattle.recoverable.specs.Volumes.{IsWholeAt, ListFits}
 use Rattle.recoverable.specs.XactImages.{Follows}
@@ -38,7 +38,7 @@ HasKind es kind = (by : By) × Contains es (record { by = by; kind = kind })
 
 -- A log's records are those from before the life, which give its base, and those that the list appends. At least one is
 -- from before, and all of these are on disk when the life begins; so is what the list flushed. The checkpoints from
--- before have the counters that the log gives behind them.
+-- before have the counters that the log gives behind them, and the multixacts that its base names lie below this base's.
 pub record LogOf (start : Start) (es : List Entry) (log : KeptLog) : Type 0 where
   pub before : List Rec
   pub recs : log.recs ≡ before ++ recs_in es
@@ -46,6 +46,7 @@ pub record LogOf (start : Start) (es : List Entry) (log : KeptLog) : Type 0 wher
   pub base : base_after log.base before ≡ life_base start
   pub some : log.first < start.from
   pub whole : (n : ℕ) → log.first ≤ n → n < start.from → IsWholeAt log n
+  pub below : AreBelowNext log.base
   pub begun : start.from ≤ log.flushed
   pub upto : log.flushed ≤ log_end log
   pub flushed : (to : ℕ) → HasKind es (kinds.Flush to) → to ≤ log.flushed

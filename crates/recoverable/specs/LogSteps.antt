@@ -10,8 +10,7 @@ use Rattle.notes.specs.Lists.{at}
 use Rattle.tx_core.specs.EngineInvariant.{EngineInvariant}
 use Rattle.tx_core.specs.Entries.{appended, flushed_to, recs_in}
 use Rattle.tx_core.specs.Locks.{log_lock}
-use Rattle.tx_core.specs.MultiEntries.{multi_history}
-use Rattle.recoverable.specs.Fit.{KeptLog, base_at, log_end}
+use Rattle.recoverable.specs.Fit.{KeptLog, log_end}
 use Rattle.recoverable.specs.Laws.{IsBeginningOf, LogFollows, LogOf}
 
 -- with a record more, and on disk up to a number
@@ -48,8 +47,3 @@ log_behind start lists log = record log {
 abbrev pub LogEnds : Type 0
 LogEnds = (start : Start) (lists : List (List Entry)) (log : KeptLog) → EngineInvariant start lists → LogOf start [] log
     → LogFollows start lists (log_behind start lists log)
-
--- And where no multixact was recorded before it, and none was made in it, no base that its log may give has one.
-abbrev pub NoneRecorded : Type 0
-NoneRecorded = (start : Start) (lists : List (List Entry)) (log : KeptLog) → EngineInvariant start lists → LogFollows start lists log
-    → start.recorded ≡ [] → multi_history lists ≡ [] → (n : ℕ) → (base_at log n).recorded ≡ []

@@ -8,7 +8,7 @@ use Rattle.tx_events.specs.declared.record.Rec.TheVariants as records
 use Rattle.disk_core.specs.Pages.{Pages}
 use Rattle.disk_core.specs.Volume.{Volume}
 use Rattle.wal_core.specs.Opening.{History, next_number, opened}
-use Rattle.log_bases.specs.LifeBase.{IsLifeBase, LifeBase}
+use Rattle.log_bases.specs.LifeBase.{AreBelowNext, IsLifeBase, LifeBase}
 use Rattle.recoverable.specs.Fit.{KeptLog, MayBegin, XactFits, base_at, log_end, recs_below}
 use Rattle.recoverable.specs.Bytes.{slot_byte}
 use Rattle.recoverable.specs.FitMultis.{MembersFit, OffsetsFit, member_at, offset_at}
@@ -49,12 +49,13 @@ IsWholeAt log n = (counters : Counters) → slice_get log.recs (n - log.first) �
     → (base_at log (n + 1)).counters ≡ counters
 
 -- From what is on disk on, each prefix of the list gives what a life may start from. And wherever an image may begin,
--- what it gives is what the whole list gives.
+-- what it gives is what the whole list gives. The multixacts that the base before the list names lie below its counters.
 pub record ListFits (log : KeptLog) : Type 0 where
   pub from : log.first ≤ log.flushed
   pub upto : log.flushed ≤ log_end log
   pub bases : (k : ℕ) → log.flushed ≤ k → k ≤ log_end log → IsLifeBase (base_at log k)
   pub whole : (n : ℕ) → log.first ≤ n → IsWholeAt log n
+  pub below : AreBelowNext log.base
 
 -- volumes fit where each image of them does: any of the log's with any of each page volume's
 pub record VolumesFit (banks : ℕ) (log : KeptLog) (images : Left → Type 0) : Type 0 where

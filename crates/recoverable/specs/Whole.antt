@@ -21,7 +21,7 @@ use Rattle.tx_core.specs.MultiEntries.{multi_history}
 use Rattle.recoverable.specs.Bytes.{ImageHasZeroTails, StoredBytes}
 use Rattle.recoverable.specs.Fit.{KeptLog, MayBegin}
 use Rattle.recoverable.specs.Laws.{IsBeginningOf, LogFollows, LogOf, life_base}
-use Rattle.log_bases.specs.LifeBase.{IsLifeBase}
+use Rattle.log_bases.specs.LifeBase.{AreBelowNext, IsLifeBase}
 use Rattle.recoverable.specs.MemberImages.{CleanMembers, MembersFollow}
 use Rattle.recoverable.specs.OffsetImages.{CleanOffsets, OffsetsFollow}
 use Rattle.recoverable.specs.Volumes.{EndsSettled, ImageFits, Left, ListFits, VolumesFit}
@@ -134,8 +134,8 @@ new_log start number = record {
   flushed = number + 1;
 }
 
--- So is that log, and each image that has its record.
+-- So is that log, and each image that has its record, of a base whose multixacts lie below its counters.
 abbrev pub NewLogBegins : Type 0
-NewLogBegins = (start : Start) (number : ℕ) (v : Volume) → start.from ≡ number + 1
+NewLogBegins = (start : Start) (number : ℕ) (v : Volume) → start.from ≡ number + 1 → AreBelowNext (life_base start)
     → (let log = new_log start number in HasFlushed log.first log.recs number log.flushed v
     → LogOf start [] log × LogImage start [] log v)

@@ -3,7 +3,7 @@ ghost use Rattle.recoverable.specs.Stored.{OffsetBytesShow, MemberBytesShow};
 ghost use Rattle.recoverable.specs.Volumes.{RecoverySettles, RefusalKeeps};
 ghost use Rattle.recoverable.specs.Clusters.{CrashKeepsFit};
 ghost use Rattle.recoverable.specs.Whole.{ImageFitsLaw, LogBegins, NewBegins, NewLogBegins, VolumesFitLaw};
-ghost use Rattle.recoverable.specs.LogSteps.{LogEnds, LogGoesOn, NoneRecorded};
+ghost use Rattle.recoverable.specs.LogSteps.{LogEnds, LogGoesOn};
 ghost use Rattle.recoverable.specs.WorkedLife.{AreRefused, IsRestored, IsWorked};
 ghost use Rattle.recoverable.specs.WorkedBank.{WorkedBank};
 
@@ -66,8 +66,7 @@ pub fn volumes_fit<L: LogDisk, P: PageDisk>()
     ensures { VolumesFitLaw L.images P.images }
 {}
 
-/// Volumes of a cluster without multixacts that fit a log before a crash fit it behind the crash: so a recovery may begin
-/// from them.
+/// Volumes of a cluster that fit a log before a crash fit it behind the crash: so a recovery may begin from them.
 pub fn crash_keeps_fit<L: LogDisk, P: PageDisk>()
     ensures { CrashKeepsFit L.LogDisk P.PageDisk }
 {}
@@ -99,11 +98,6 @@ pub fn log_goes_on()
 /// And at a life's end it has the records that the list appended, on disk up to the last flush.
 pub fn log_ends()
     ensures { LogEnds }
-{}
-
-/// Where no multixact was recorded before a life, and none was made in it, no base that its log may give has one.
-pub fn none_recorded()
-    ensures { NoneRecorded }
 {}
 
 /// A worked life: what a crash left of a small log and its pages fits, and wrong volumes don't; a recovery may leave

@@ -1,7 +1,6 @@
 -- What a life begins from, by the records of the lives before it.
 use Rattle.std.specs.Prelude.{◌≡◌, ℕ, ◌+◌, ◌-◌, ◌≤◌, List, [], ◌∷◌, ◌++◌, Option, Some, None, length, take}
 use Rattle.std.specs.List.{filter_map, flat_map, fold}
-use Rattle.tx_events.specs.declared.multi.Member.{Member}
 use Rattle.tx_events.specs.declared.record.Counters.{Counters}
 use Rattle.tx_events.specs.declared.record.Rec.{Rec}
 use Rattle.tx_events.specs.declared.record.Rec.TheVariants as records
@@ -9,16 +8,12 @@ use Rattle.tx_events.specs.After.{after_records}
 use Rattle.tx_events.specs.Base.{IsBase}
 use Rattle.tx_model.specs.declared.report.Life.{Life}
 use Rattle.tx_model.specs.declared.report.LifeReport.{LifeReport}
-pub use Rattle.life_law.specs.MultiPlaces.{Recorded}
+pub use Rattle.life_law.specs.MultiPlaces.{Recorded, recorded_by}
 
 -- the ids that the record commits
 abbrev pub committed_by : Rec → List ℕ
 committed_by (records.Commit top subs) = top ∷ subs
 committed_by _ = []
-
-abbrev pub recorded_by : Rec → Option Recorded
-recorded_by (records.Multi multi offset members) = Some (multi, offset, members)
-recorded_by _ = None
 
 -- what a life begins from: counters, committed ids and recorded multixacts
 pub record Begun : Type 0 where

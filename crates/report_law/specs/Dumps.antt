@@ -1,5 +1,5 @@
 -- The rules of a dump's line.
-use Rattle.std.specs.Prelude.{◌≡◌, ℕ, ◌+◌, ◌/◌, ◌%◌, ◌^◌, ◌<◌, ◌≤◌, ◌⊎◌, Bool, true, false, cond, List, [], Some, IfSome, length, slice_get, unwrap_or, Contains}
+use Rattle.std.specs.Prelude.{◌≡◌, ℕ, ◌+◌, ◌/◌, ◌%◌, ◌^◌, ◌<◌, ◌≤◌, Bool, true, false, cond, List, [], Some, IfSome, length, slice_get, unwrap_or, Contains}
 use Rattle.std.specs.List.{count_by, list_any}
 use Rattle.tx_events.specs.Ids.{low_half}
 use Rattle.tx_events.specs.Modes.{mode_number}
@@ -10,7 +10,6 @@ use Rattle.tx_events.specs.declared.multi.Member.{Member}
 use Rattle.tx_events.specs.declared.multi.MultiEvent.TheVariants as multis
 use Rattle.tx_events.specs.declared.record.Counters.{Counters}
 use Rattle.tx_events.specs.declared.record.Rec.{Rec}
-use Rattle.tx_events.specs.declared.record.Rec.TheVariants as records
 use Rattle.tx_events.specs.declared.refusal.Lock.{Lock}
 use Rattle.tx_events.specs.declared.refusal.Lock.TheVariants as locks
 use Rattle.tx_events.specs.declared.refusal.Refusal.TheVariants as refusals
@@ -29,17 +28,11 @@ use Rattle.tx_model.specs.declared.report.Step.TheVariants as steps
 use Rattle.store_pages.specs.Layouts.{member_cutoff, offset_cutoff, word_place_of, xact_cutoff}
 use Rattle.tx_events.specs.Pages.{id_at, member_page, member_place, members_per_page, mode_at, offset_page, offsets_per_page, parents_per_page, subtrans_page, xact_page, xact_place, xacts_per_page}
 use Rattle.life_law.specs.Dumps.{IsOldest, IsSubtransCutoff, events_behind}
+pub use Rattle.life_law.specs.Dumps.{IsOldestMulti, IsOldestOffset}
 use Rattle.report_law.specs.Places.{has_multi_line}
 use Rattle.report_law.specs.Steps.{AreJudged, Judged, gave_multi, lines_of}
 
 -- ---- cut pages
-
--- the oldest multixact with which the life begins, or one that a truncation tells; and the same of offsets
-abbrev pub IsOldestMulti : Counters → List Rec → ℕ → Type 0
-IsOldestMulti base recs oldest = (oldest ≡ base.oldest_multi) ⊎ ((id offset : ℕ) × Contains recs (records.Truncate id oldest offset))
-
-abbrev pub IsOldestOffset : Counters → List Rec → ℕ → Type 0
-IsOldestOffset base recs oldest = (oldest ≡ base.oldest_offset) ⊎ ((id multi : ℕ) × Contains recs (records.Truncate id multi oldest))
 
 -- the page is cut by this cutoff, which the store may have behind these events
 abbrev pub IsCutBy : Counters → List Rec → List Event → DumpOf → ℕ → Type 0

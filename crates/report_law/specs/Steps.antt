@@ -1,21 +1,18 @@
 -- The rules of a report's reply lines: those of commands, of checkpoints and of dumps.
-use Rattle.std.specs.Prelude.{◌≡◌, ℕ, ◌+◌, ◌-◌, ◌<◌, ◌≤◌, ◌↔◌, ◌⊎◌, ◌==◌, ◌&&◌, ◌||◌, IsTrue, Bool, true, false, List, [], ◌∷◌, ◌++◌, Option, Some, None, IfSome, length, take, drop, Contains, nat_lt}
-use Rattle.std.specs.Bool.{then_some}
-use Rattle.std.specs.List.{AllByRecursion, count_by, flat_map, list_any}
+use Rattle.std.specs.Prelude.{◌≡◌, ℕ, ◌+◌, ◌-◌, ◌<◌, ◌≤◌, ◌↔◌, ◌⊎◌, IsTrue, Bool, true, false, List, ◌++◌, Option, Some, None, IfSome, length, take, drop, Contains}
+use Rattle.std.specs.List.{AllByRecursion, count_by, flat_map}
 use Rattle.tx_events.specs.Nearest.{near_id}
 use Rattle.tx_events.specs.declared.event.By.{By}
 use Rattle.tx_events.specs.declared.event.Event.{Event}
 use Rattle.tx_events.specs.declared.multi.MultiEvent.{MultiEvent}
 use Rattle.tx_events.specs.declared.multi.MultiEvent.TheVariants as multi_events
 use Rattle.tx_events.specs.declared.multi.Member.{Member}
-use Rattle.tx_events.specs.declared.multi.Mode.{Mode}
-use Rattle.tx_events.specs.declared.multi.Mode.TheVariants as modes
 use Rattle.tx_events.specs.declared.record.Counters.{Counters}
 use Rattle.tx_events.specs.declared.record.Rec.{Rec}
 use Rattle.tx_events.specs.declared.record.Rec.TheVariants as records
 use Rattle.tx_events.specs.declared.refusal.Refusal.{Refusal}
 use Rattle.tx_events.specs.declared.refusal.Refusal.TheVariants as refusals
-use Rattle.tx_events.specs.Events.{by_of, events_of, same_by}
+use Rattle.tx_events.specs.Events.{by_of, events_of}
 use Rattle.tx_events.specs.History.{next_given}
 use Rattle.tx_events.specs.Horizon.{oldest_id, oldest_xmin}
 use Rattle.tx_events.specs.Limits.{stop_limit}
@@ -23,7 +20,6 @@ use Rattle.tx_events.specs.Snapshots.{snapshot_data, snapshot_xmax}
 use Rattle.tx_events.specs.Visible.{is_visible}
 use Rattle.tx_model.specs.declared.command.Command.{Command}
 use Rattle.tx_model.specs.declared.command.Command.TheVariants as commands
-use Rattle.tx_model.specs.declared.command.Pair.{Pair}
 use Rattle.tx_model.specs.declared.reply.Reply.{Reply}
 use Rattle.tx_model.specs.declared.reply.Reply.TheVariants as replies
 use Rattle.tx_model.specs.declared.reply.Status.{Status}
@@ -37,7 +33,10 @@ use Rattle.tx_model.specs.Rounds.{lines_in}
 use Rattle.tx_model.specs.Stance.{Stance, lacking, snap_of, top_level}
 use Rattle.life_law.specs.DidCommit.{IsRecorded, special_did}
 use Rattle.life_law.specs.Pending.{pending}
-use Rattle.life_law.specs.Refused.{by_standing, first_of, refused_by}
+use Rattle.life_law.specs.Refused.{by_standing, refused_by}
+pub use Rattle.life_law.specs.Refused.{by_members, is_by_members, is_updater_pair, refused_by_members}
+pub use Rattle.life_law.specs.LawfulMultis.{is_ok_trim}
+pub use Rattle.life_law.specs.MultiStanding.{gave_multi}
 use Rattle.report_law.specs.Answers.{AreLogFaults, HasNoRoom, can_append, can_ask, can_flush, can_lack_memory, goes_by_places, longest_record}
 use Rattle.report_law.specs.Begun.{Begun}
 use Rattle.report_law.specs.MultiLines.{AreVerdicts, HasMultiEvents, IsHeldBack, IsMemberStop, IsMultiBackward, IsMultiFuture, IsMultiStop, IsMultiTooOld, IsMultiWarned, IsNotGiven, IsNotYet, IsOldMember, IsPinnedOrNext, MayCarry, of_records}
@@ -148,23 +147,8 @@ abbrev pub is_truncation : Rec → Bool
 is_truncation (records.Truncate oldest multi offset) = true
 is_truncation rec = false
 
-abbrev pub is_ok_trim : Line → Bool
-is_ok_trim l = trimmed l.command l.reply
-  where
-    trimmed : Command → Reply → Bool
-    trimmed commands.Trim replies.Done = true
-    trimmed command reply = false
-
 abbrev pub flushed_recs : Life → List Rec
 flushed_recs life = take (life.flushed - life.from) life.recs
-
--- whether the command was answered `ok` with a multixact
-abbrev pub gave_multi : List Line → By → Bool
-gave_multi lines by = list_any (λ l. same_by l.by by && is_multi l.reply) lines
-  where
-    is_multi : Reply → Bool
-    is_multi (replies.Multi multi offset warn) = true
-    is_multi reply = false
 
 -- ---- a command's reply
 
@@ -222,30 +206,6 @@ IsLawfulByHistory j before round multi_round by s (commands.MultiFreeze multi) (
 IsLawfulByHistory j before round multi_round by s (commands.MultiFreeze multi) (replies.Refused (refusals.NotYet next)) =
     IsNotYet j.begun.counters j.begun.recorded j.life.multis multi_round (gave_multi (lines_of j)) by next
 IsLawfulByHistory j before round multi_round by s command reply = MayReply j.begun.counters j.begun.committed j.life.events round by s command reply
-
-abbrev pub is_updater_pair : Pair → Bool
-is_updater_pair p = is_update p.mode
-  where
-    is_update : Mode → Bool
-    is_update modes.NoKeyUpd = true
-    is_update modes.Upd = true
-    is_update mode = false
-
--- the refusal that the members of a multixact bring by themselves
-abbrev pub refused_by_members : Command → Option Refusal
-refused_by_members (commands.Multi pairs) =
-    first_of (then_some (length pairs == 0 || nat_lt 64 (length pairs)) refusals.MemberCount
-    ∷ then_some (nat_lt 1 (count_by is_updater_pair pairs)) refusals.TwoUpdaters ∷ [])
-refused_by_members command = None
-
-abbrev pub is_by_members : Refusal → Bool
-is_by_members refusals.MemberCount = true
-is_by_members refusals.TwoUpdaters = true
-is_by_members refusal = false
-
-abbrev pub by_members : Reply → Option Refusal
-by_members (replies.Refused refusal) = then_some (is_by_members refusal) refusal
-by_members reply = None
 
 -- Want of memory may come before any other refusal.
 abbrev pub unless_memory : Reply → Option Refusal → Option Refusal

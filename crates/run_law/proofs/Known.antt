@@ -10,7 +10,6 @@ use Rattle.std.specs.Option.{is_some}
 use Rattle.std.specs.Str.{bytes_eq}
 use Rattle.tx_events.specs.Names.{is_name}
 use Rattle.tx_model.specs.declared.command.Command.{Command}
-use Rattle.life_law.specs.Commands.{makes_level}
 use Rattle.script_lines.specs.declared.directive.Directive.{Directive}
 use Rattle.script_lines.specs.declared.directive.Directive.TheVariants as directives
 use Rattle.script_lines.specs.declared.header.Header.{Header}
@@ -28,7 +27,7 @@ use Rattle.session_lang.specs.declared.script.Item.TheVariants as items
 use Rattle.session_lang.specs.declared.script.Script.{Script}
 use Rattle.session_lang.specs.Lines.{lines_of}
 use Rattle.session_lang.specs.Script.{at_line, body_line, command_line, end_header, header_line, header_words, is_dot, is_full, is_header_line, is_passed, item_of, names_with, no_front, place_of, read_line, read_lines, read_script, script_of, with_directive, with_turn, words_line}
-use Rattle.run_law.specs.Turns.{levels_in, turn_in, turns_in}
+use Rattle.run_law.specs.Turns.{takers_in, takes_number, turn_in, turns_in}
 use Rattle.run_law.proofs.Commands.{HasRoom, command_room}
 use Rattle.run_law.proofs.Sizes.{lines_size, size_of, words_size}
 use Rattle.run_law.proofs.Steps.{behind, either_holds, no_fault, not_false, of_ok, then_holds, went}
@@ -66,12 +65,12 @@ or_four : (o : Option ℕ) → IfSome o AreBanks → AreBanks (unwrap_or o 4)
 or_four None b = (omega arith, omega arith)
 or_four (Some n) b = b
 
--- ---- the commands that make a level
+-- ---- the commands that take a number
 
-levels_push : (before : List Item) (k : ℕ) (c : Command) → levels_in (before ++ items.Run k c ∷ []) ≡ levels_in before + cond (makes_level c) 1 0
-levels_push before k c =
-    ap (count_by (λ (t : ℕ × Command). makes_level t.1)) (filter_map-append turn_in before (items.Run k c ∷ []))
-    ∙ sum_by_push (λ (t : ℕ × Command). cond (makes_level t.1) 1 0) (turns_in before) (k, c)
+takers_push : (before : List Item) (k : ℕ) (c : Command) → takers_in (before ++ items.Run k c ∷ []) ≡ takers_in before + cond (takes_number c) 1 0
+takers_push before k c =
+    ap (count_by (λ (t : ℕ × Command). takes_number t.1)) (filter_map-append turn_in before (items.Run k c ∷ []))
+    ∙ sum_by_push (λ (t : ℕ × Command). cond (takes_number t.1) 1 0) (turns_in before) (k, c)
 
 no_turn : (d : Directive) → turns_in (item_of d ∷ []) ≡ []
 no_turn directives.Round = refl
@@ -79,21 +78,21 @@ no_turn directives.Checkpoint = refl
 no_turn (directives.Crash how) = refl
 no_turn (directives.Dump what at size) = refl
 
-levels_end : (before : List Item) (d : Directive) → levels_in (before ++ item_of d ∷ []) ≡ levels_in before
-levels_end before d =
-    ap (count_by (λ (t : ℕ × Command). makes_level t.1))
+takers_end : (before : List Item) (d : Directive) → takers_in (before ++ item_of d ∷ []) ≡ takers_in before
+takers_end before d =
+    ap (count_by (λ (t : ℕ × Command). takes_number t.1))
     (filter_map-append turn_in before (item_of d ∷ []) ∙ ap (λ t. turns_in before ++ t) (no_turn d) ∙ append-nil (turns_in before))
 
 -- ---- lines
 
--- The line of a command that makes a level has six bytes: a session of one letter, a blank and `save`. With its end it
--- has seven. n is how many bytes were read, with the end of the last line.
+-- The line of a command that takes a number has six bytes at least: a session of one letter, a blank and `save`. With its
+-- end it has seven. n is how many bytes were read, with the end of the last line.
 record Reads (n : ℕ) (f : Front) : Type 0 where
-  levels : 7 * levels_in f.items ≤ n
+  takers : 7 * takers_in f.items ≤ n
   banks : HasBanks f.header
 
 reads_up : (m n : ℕ) (f : Front) → Reads m f → m ≤ n → Reads n f
-reads_up m n f r l = record { levels = let a = r.levels in omega arith; banks = r.banks }
+reads_up m n f r l = record { takers = let a = r.takers in omega arith; banks = r.banks }
 
 has_letter : (name : List ℕ) → is_name name ≡ true → 1 ≤ length name
 has_letter [] e = absurd (false≢true e)
@@ -108,10 +107,10 @@ with_run f k name command = record f { names = names_with f.names k name; items 
 
 run_reads : (n : ℕ) (f : Front) (k : ℕ) (name : List ℕ) (ws : List (List ℕ)) (c : Command) → Reads n f → is_name name ≡ true → HasRoom ws c → Reads (n + size_of (name ∷ ws)) (with_run f k name c)
 run_reads n f k name ws c r i room = record {
-  levels =
-      let before = r.levels in
-      let more = levels_push f.items k c in
-      let line = seven (makes_level c) (length name) (size_of ws) room (has_letter name i) in
+  takers =
+      let before = r.takers in
+      let more = takers_push f.items k c in
+      let line = seven (takes_number c) (length name) (size_of ws) room (has_letter name i) in
       omega arith;
   banks = r.banks;
 }
@@ -125,7 +124,7 @@ command_reads n f name ws r =
     (λ c room. either_holds after (is_full f (place_of f.names name)) (Err kinds.Limit) (Ok (with_run f (place_of f.names name) name c)) (λ _. tt) (λ _. run_reads n f (place_of f.names name) name ws c r (not_false (is_name name) e) room)))
 
 directive_reads : (n : ℕ) (f : Front) (d : Directive) → Reads n f → Reads n (with_directive f d)
-directive_reads n f d r = record { levels = let a = r.levels in let same = levels_end f.items d in omega arith; banks = r.banks }
+directive_reads n f d r = record { takers = let a = r.takers in let same = takers_end f.items d in omega arith; banks = r.banks }
 
 words_read : (n : ℕ) (f : Front) (ws : List (List ℕ)) → Reads n f → IfOk (words_line f ws) (Reads (n + size_of ws))
 words_read n f [] r = reads_up n (n + 0) f r (omega arith)
@@ -150,7 +149,7 @@ header_words_read : (n : ℕ) (f : Front) (number : ℕ) (ws : List (List ℕ)) 
 header_words_read n f number [] r = r
 header_words_read n f number (w ∷ ws) r =
     then_holds HasBanks (Reads n) (header_with f.header w ws) (λ h. Ok (record f { header = h; header_end = number })) (header_banks f.header w ws r.banks)
-    (λ h b. record { levels = r.levels; banks = b })
+    (λ h b. record { takers = r.takers; banks = b })
 
 header_reads : (n : ℕ) (f : Front) (number : ℕ) (line : List ℕ) → Reads n f → IfOk (header_line f number line) (Reads (n + (length line + 1)))
 unfolding header_line
@@ -165,7 +164,7 @@ at_line_reads n number (Err k) g = tt
 end_reads : (n : ℕ) (f : Front) → Reads n f → IfOk (end_header f) (Reads n)
 end_reads n f r =
     either_holds (Reads n) (f.late || is_base (base_of f.header)) (Ok (record f { late = true })) (Err (f.header_end, kinds.Base))
-    (λ _. record { levels = r.levels; banks = r.banks }) (λ _. tt)
+    (λ _. record { takers = r.takers; banks = r.banks }) (λ _. tt)
 
 line_reads : (n : ℕ) (f : Front) (number : ℕ) (line : List ℕ) → Reads n f → IfOk (read_line f number line) (Reads (n + (length line + 1)))
 unfolding read_line
@@ -183,16 +182,16 @@ lines_read n most f number (line ∷ lines) l r =
 
 begins : Reads 0 no_front
 unfolding no_front no_header
-begins = record { levels = omega arith; banks = tt }
+begins = record { takers = omega arith; banks = tt }
 
 -- ---- a script
 
 pub record IsKnown (s : Script) : Type 0 where
   pub banks : AreBanks s.banks
-  pub few : levels_in s.items < 2900000
+  pub few : takers_in s.items < 2900000
 
 front_known : (f : Front) → Reads 16777217 f → IsKnown (script_of f)
-front_known f r = record { banks = or_four f.header.banks r.banks; few = let a = r.levels in omega arith }
+front_known f r = record { banks = or_four f.header.banks r.banks; few = let a = r.takers in omega arith }
 
 pub script_known : (bytes : List ℕ) (s : Script) → read_script bytes ≡ Ok s → IsKnown s
 unfolding read_script

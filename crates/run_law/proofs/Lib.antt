@@ -3,6 +3,7 @@ pub mod Sizes
 pub mod Commands
 pub mod Known
 pub mod PartSums
+pub mod Takers
 pub mod AllTurns
 pub mod Lives
 pub mod RunLives

@@ -7,7 +7,6 @@ use Rattle.tx_model.specs.declared.report.How.{How}
 use Rattle.tx_model.specs.declared.report.LifeReport.{LifeReport}
 use Rattle.tx_model.specs.declared.report.Report.{Report}
 use Rattle.tx_model.specs.Rounds.{BeginsLog}
-use Rattle.life_law.specs.Commands.{makes_level}
 use Rattle.life_law.specs.LawfulLife.{IsLawfulLife}
 use Rattle.session_lang.specs.declared.script.Item.{Item}
 use Rattle.session_lang.specs.declared.script.Item.TheVariants as items
@@ -15,7 +14,7 @@ use Rattle.session_lang.specs.declared.script.Script.{Script}
 use Rattle.session_lang.specs.Rounds.{asked_of, crash_in}
 use Rattle.run_law.specs.Lives.{AreLivesOf, BeginRun, IsFirstPart, LifePart, parts_from, parts_of}
 use Rattle.run_law.specs.Tool.{IsReportOf}
-use Rattle.run_law.specs.Turns.{HasFewLevels, MayRun, MayStand, levels_in, turn_in, turns_in}
+use Rattle.run_law.specs.Turns.{HasFewTakers, MayRun, MayStand, takers_in, takes_number, turn_in, turns_in}
 use Rattle.run_law.proofs.PartSums.{count_join}
 
 abbrev pub no_crash : List Item → Type 0
@@ -89,14 +88,14 @@ module _ (script its : List Item) (crash : Option How) (rest : List Item) (f : I
       (λ (b : (how : How) × (crash ≡ Some how) × (script ≡ its ++ items.Crash how ∷ rest)).
       let m = ap length b.2 in let n = length-append its (items.Crash b.0 ∷ rest) in omega (arith, m, n)) f.split
 
-  levels_sum : (xs ys : List Item) → levels_in (xs ++ ys) ≡ levels_in xs + levels_in ys
-  levels_sum xs ys = ap (count_by (λ (t : ℕ × Command). makes_level t.1)) (filter_map-append turn_in xs ys) ∙ count_join (λ (t : ℕ × Command). makes_level t.1) (turns_in xs) (turns_in ys)
+  takers_sum : (xs ys : List Item) → takers_in (xs ++ ys) ≡ takers_in xs + takers_in ys
+  takers_sum xs ys = ap (count_by (λ (t : ℕ × Command). takes_number t.1)) (filter_map-append turn_in xs ys) ∙ count_join (λ (t : ℕ × Command). takes_number t.1) (turns_in xs) (turns_in ys)
 
-  pub parts_levels : HasFewLevels script → HasFewLevels its × HasFewLevels rest
-  parts_levels few = ⊎_elim
-      (λ (a : (crash ≡ None) × (script ≡ its) × (rest ≡ [])). let m = ap levels_in a.1 in let n = ap levels_in a.2 in (omega (arith, m, few), omega (arith, n)))
+  pub parts_takers : HasFewTakers script → HasFewTakers its × HasFewTakers rest
+  parts_takers few = ⊎_elim
+      (λ (a : (crash ≡ None) × (script ≡ its) × (rest ≡ [])). let m = ap takers_in a.1 in let n = ap takers_in a.2 in (omega (arith, m, few), omega (arith, n)))
       (λ (b : (how : How) × (crash ≡ Some how) × (script ≡ its ++ items.Crash how ∷ rest)).
-      let m = ap levels_in b.2 in let n = levels_sum its (items.Crash b.0 ∷ rest) in (omega (arith, m, n, few), omega (arith, m, n, few))) f.split
+      let m = ap takers_in b.2 in let n = takers_sum its (items.Crash b.0 ∷ rest) in (omega (arith, m, n, few), omega (arith, m, n, few))) f.split
 
 may_run : (n : ℕ) (x : Item) → MayStand n x → crash_in x ≡ None → MayRun n x
 may_run n (items.Crash how) m e = absurd (some_none how e)

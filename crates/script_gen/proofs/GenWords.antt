@@ -7,8 +7,11 @@ use Rattle.script_lines.specs.declared.kind.Kind.TheVariants as kinds
 use Rattle.script_lines.specs.Arguments.{number_in, some_number}
 use Rattle.script_lines.specs.Kinds.{◌>>=◌}
 use Rattle.script_lines.specs.LineWords.{number_of}
+use Rattle.run_law.specs.Tool.{IsRun}
+use Rattle.script_gen.specs.declared.task.Task.TheVariants as tasks
 use Rattle.script_gen.specs.declared.words.Asked.{Asked}
 use Rattle.script_gen.specs.Laws.{most_transactions}
+use Rattle.script_gen.specs.Tasks.{IsAccepted}
 use Rattle.script_gen.specs.Words.{IsGen, greatest_seed, known, number_up_to}
 
 from_le : (m n : ℕ) → nat_le m n ≡ true → m ≤ n
@@ -57,3 +60,8 @@ three_words f [] a b c n p q r = absurd (omega (arith, n))
 three_words f (x ∷ []) a b c n p q r = absurd (omega (arith, n))
 three_words f (x ∷ y ∷ []) a b c n p q r = absurd (omega (arith, n))
 three_words f (x ∷ y ∷ z ∷ w ∷ xs) a b c n p q r = absurd (omega (arith, n))
+
+-- neither word is accepted
+pub none_asked : (words : List (List ℕ)) → (IsRun words → ⊥) → ((seed size : ℕ) → IsGen words seed size → ⊥) → IsAccepted words → ⊥
+none_asked words run gen (tasks.Run, is) = run is
+none_asked words run gen (tasks.Gen seed size, is) = gen seed size is

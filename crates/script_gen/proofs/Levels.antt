@@ -1,24 +1,25 @@
--- How many commands make a level, and what each item of a script is.
+-- How many commands take a number, and what each item of a script is.
 use Rattle.std.proofs.Common.{◌≡◌, ℕ, ◌+◌, ◌<◌, ◌≤◌, min, List, [], ◌∷◌, ◌++◌, length, refl, ap, arith, Bool, true, false, cond, ◌∙◌}
 use Rattle.std.specs.List.{All, AllByRecursion, count_by, flat_map, sum_by}
 use Rattle.std.proofs.lemmas.List.Elements.{All-cons, All-nil, filter_map-append}
 use Rattle.std.proofs.lemmas.List.Sums.{sum_by-append, sum_by-cons}
+use Rattle.tx_events.specs.Names.{is_name}
 use Rattle.tx_model.specs.declared.command.Command.{Command}
 use Rattle.tx_model.specs.declared.command.Command.TheVariants as commands
 use Rattle.session_lang.specs.declared.script.Item.{Item}
 use Rattle.session_lang.specs.declared.script.Item.TheVariants as items
-use Rattle.life_law.specs.Commands.{has_command, makes_level}
-use Rattle.run_law.specs.Turns.{MayRun, levels_in, turn_in, turns_in}
+use Rattle.session_lang.specs.Plain.{IsInRange}
+use Rattle.run_law.specs.Turns.{MayRun, has_command, takers_in, takes_number, turn_in, turns_in}
 use Rattle.script_gen.specs.Choices.{Choices, choices, drawn_from}
 use Rattle.script_gen.specs.Generated.{end_command, is_round_first, items_from, look_commands, run_by, savepoint_commands, session_names, session_of, transaction, transaction_items}
 use Rattle.script_gen.proofs.Bounds.{all_few, few_savepoints, most_savepoints}
 use Rattle.script_gen.proofs.Ranges.{IsDrawn, each_item}
 use Rattle.script_gen.proofs.Sessions.{names_count}
 
--- ---- levels
+-- ---- commands that take a number
 
 level : Command → ℕ
-level c = cond (makes_level c) 1 0
+level c = cond (takes_number c) 1 0
 
 levels : List Command → ℕ
 levels all = sum_by level all
@@ -53,28 +54,28 @@ transaction_levels c =
     let e = no_end c.aborted in
     omega arith
 
-levels_join : (xs ys : List Item) → levels_in (xs ++ ys) ≡ levels_in xs + levels_in ys
+levels_join : (xs ys : List Item) → takers_in (xs ++ ys) ≡ takers_in xs + takers_in ys
 levels_join xs ys =
-    ap (count_by (λ (t : ℕ × Command). makes_level t.1)) (filter_map-append turn_in xs ys)
-    ∙ sum_by-append (λ (t : ℕ × Command). cond (makes_level t.1) 1 0) (turns_in xs) (turns_in ys)
+    ap (count_by (λ (t : ℕ × Command). takes_number t.1)) (filter_map-append turn_in xs ys)
+    ∙ sum_by-append (λ (t : ℕ × Command). cond (takes_number t.1) 1 0) (turns_in xs) (turns_in ys)
 
-run_levels : (k : ℕ) (all : List Command) → levels_in (run_by k all) ≡ levels all
+run_levels : (k : ℕ) (all : List Command) → takers_in (run_by k all) ≡ levels all
 unfolding levels level
 run_levels k [] = refl
 run_levels k (c ∷ all) =
     let i = run_levels k all in
-    let a = sum_by-cons (λ (t : ℕ × Command). cond (makes_level t.1) 1 0) (k, c) (turns_in (run_by k all)) in
+    let a = sum_by-cons (λ (t : ℕ × Command). cond (takes_number t.1) 1 0) (k, c) (turns_in (run_by k all)) in
     let b = sum_by-cons level c all in
     omega arith
 
-no_round_levels : (b : Bool) → levels_in (cond b (items.Round ∷ []) []) ≡ 0
+no_round_levels : (b : Bool) → takers_in (cond b (items.Round ∷ []) []) ≡ 0
 no_round_levels true = refl
 no_round_levels false = refl
 
 most_levels : ℕ → ℕ
 most_levels i = i + most_savepoints i
 
-few_more : (i s : ℕ) → levels_in (transaction_items i (choices i s)) + most_levels i ≤ most_levels (i + 1)
+few_more : (i s : ℕ) → takers_in (transaction_items i (choices i s)) + most_levels i ≤ most_levels (i + 1)
 unfolding most_levels
 few_more i s =
     let c = choices i s in
@@ -85,9 +86,9 @@ few_more i s =
     let f = few_savepoints i s in
     omega arith
 
-pub few_levels : (seed size : ℕ) → size ≤ 100000 → levels_in (items_from 0 (drawn_from 0 size seed)) < 2900000
+pub few_takers : (seed size : ℕ) → size ≤ 100000 → takers_in (items_from 0 (drawn_from 0 size seed)) < 2900000
 unfolding most_levels
-few_levels seed size l = let n = all_few levels_in most_levels levels_join refl few_more 0 size seed in omega arith
+few_takers seed size l = let n = all_few takers_in most_levels levels_join refl few_more 0 size seed in omega arith
 
 -- ---- each item
 
@@ -108,8 +109,21 @@ drawn_runs (commands.DropSnap name) d = refl
 drawn_runs (commands.See name x) d = refl
 drawn_runs c d = absurd d
 
+pub drawn_in_range : (c : Command) → IsDrawn c → IsInRange c
+drawn_in_range commands.Begin d = tt
+drawn_in_range commands.Save d = tt
+drawn_in_range commands.Write d = tt
+drawn_in_range commands.Release d = tt
+drawn_in_range commands.Undo d = tt
+drawn_in_range commands.Commit d = tt
+drawn_in_range commands.Abort d = tt
+drawn_in_range (commands.Snap name) d = ap is_name d
+drawn_in_range (commands.DropSnap name) d = ap is_name d
+drawn_in_range (commands.See name x) d = (ap is_name d.0, let m = d.2 in omega arith)
+drawn_in_range c d = absurd d
+
 pub items_run : (seed size : ℕ) → size ≤ 100000 → All (MayRun (length (session_names size))) (items_from 0 (drawn_from 0 size seed))
 items_run seed size few =
     let n = names_count size in
     all_places (MayRun (length (session_names size))) (items_from 0 (drawn_from 0 size seed))
-    (each_item (MayRun (length (session_names size))) size few tt (λ i c l d. (drawn_runs c d, let low : session_of i < min size 4 = omega arith in omega arith)) 0 size seed (omega arith))
+    (each_item (MayRun (length (session_names size))) size few tt (λ i c l d. ((drawn_runs c d, drawn_in_range c d), let low : session_of i < min size 4 = omega arith in omega arith)) 0 size seed (omega arith))

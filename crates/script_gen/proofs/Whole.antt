@@ -10,14 +10,14 @@ use Rattle.tx_model.specs.declared.command.Command.{Command}
 use Rattle.tx_model.specs.declared.command.Command.TheVariants as commands
 use Rattle.script_lines.proofs.Bases.{passes_base}
 use Rattle.script_lines.specs.Header.{base_of, is_base, no_header}
-use Rattle.session_lang.specs.Plain.{IsInRange, IsItem}
+use Rattle.session_lang.specs.Plain.{IsItem}
 use Rattle.session_lang.proofs.PlainText.{plain_text_read}
 use Rattle.run_law.proofs.Lives.{all_may_stand}
 use Rattle.script_gen.specs.Choices.{drawn_from}
 use Rattle.script_gen.specs.Generated.{generated, items_from, session_names}
 use Rattle.script_gen.specs.Laws.{GeneratedScriptsAreSound, GeneratedScriptsRun, GeneratedTextsAreRead, generated_text}
 use Rattle.script_gen.proofs.Bounds.{few_items}
-use Rattle.script_gen.proofs.Levels.{all_places, few_levels, items_run}
+use Rattle.script_gen.proofs.Levels.{all_places, drawn_in_range, few_takers, items_run}
 use Rattle.script_gen.proofs.Ranges.{IsDrawn, each_item}
 use Rattle.script_gen.proofs.RoundSizes.{rounds_short}
 use Rattle.script_gen.proofs.Sessions.{names_count, sessions_numbered}
@@ -55,19 +55,6 @@ names_differ size = all_names (IsDistinct same_name) size tt (tt, tt) ((refl, tt
 
 -- ---- ranges
 
-drawn_in_range : (c : Command) → IsDrawn c → IsInRange c
-drawn_in_range commands.Begin d = tt
-drawn_in_range commands.Save d = tt
-drawn_in_range commands.Write d = tt
-drawn_in_range commands.Release d = tt
-drawn_in_range commands.Undo d = tt
-drawn_in_range commands.Commit d = tt
-drawn_in_range commands.Abort d = tt
-drawn_in_range (commands.Snap name) d = ap is_name d
-drawn_in_range (commands.DropSnap name) d = ap is_name d
-drawn_in_range (commands.See name x) d = (ap is_name d.0, let m = d.2 in omega arith)
-drawn_in_range c d = absurd d
-
 items_in_range : (seed size : ℕ) → size ≤ 100000 → AllByRecursion IsItem (items_from 0 (drawn_from 0 size seed))
 items_in_range seed size few = each_item IsItem size few tt (λ i c l d. drawn_in_range c d) 0 size seed (omega arith)
 
@@ -100,7 +87,7 @@ scripts_run seed size l =
       runnable = record { base = base_is; items = all_may_stand (length (session_names size)) (items_from 0 (drawn_from 0 size seed)) all; sessions = omega arith; few = omega arith };
       items = all;
       banks = refl;
-      few = few_levels seed size l;
+      few = few_takers seed size l;
     }
 
 pub texts_are_read : GeneratedTextsAreRead

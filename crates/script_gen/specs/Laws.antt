@@ -5,7 +5,7 @@ use Rattle.report_text.specs.Words.{line_text}
 use Rattle.session_lang.specs.Plain.{IsItem, item_words}
 use Rattle.session_lang.specs.Reading.{IsSound}
 use Rattle.session_lang.specs.Script.{read_script}
-use Rattle.run_law.specs.Turns.{HasFewLevels, IsRunnable, MayRun}
+use Rattle.run_law.specs.Turns.{HasFewTakers, IsRunnable, MayRun}
 use Rattle.script_gen.specs.Draws.{state_behind}
 use Rattle.script_gen.specs.Generated.{generated}
 
@@ -24,12 +24,12 @@ GeneratedScriptsAreSound =
     → IsSound (generated seed size) × AllByRecursion IsItem (generated seed size).items
 
 -- Sessions can run it, in one life: it has no command and no directive that the run hasn't, no crash, and few enough
--- commands that make a level.
+-- commands that take a number.
 pub record MayRunWhole (seed size : ℕ) : Type 0 where
   pub runnable : IsRunnable (generated seed size)
   pub items : All (MayRun (length (generated seed size).names)) (generated seed size).items
   pub banks : (generated seed size).banks ≡ 4
-  pub few : HasFewLevels (generated seed size).items
+  pub few : HasFewTakers (generated seed size).items
 
 abbrev pub GeneratedScriptsRun : Type 0
 GeneratedScriptsRun = (seed size : ℕ) → size ≤ most_transactions → MayRunWhole seed size

@@ -6,3 +6,4 @@ pub mod Counts
 pub mod Laws
 pub mod Words
 pub mod Summaries
+pub mod Tasks

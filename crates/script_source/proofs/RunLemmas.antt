@@ -32,7 +32,7 @@ all_pass (x ∷ script) l = pass_step x script (has_item x) refl (omega arith) (
 may_stand : (n : ℕ) (script : List Item) → ((k : ℕ) → is_in k (sessions_in script) ≡ true → k < n) → AllByRecursion IsItem script → AllByRecursion (λ item. has_item item ≡ true) script → AllByRecursion (MayStand n) script
 may_stand n [] f i r = tt
 may_stand n (items.Run s c ∷ script) f i r = (
-  (r.0, f s (ap (λ b. b || is_in s (sessions_in script)) (eqb-refl s))),
+  ((r.0, i.0), f s (ap (λ b. b || is_in s (sessions_in script)) (eqb-refl s))),
   may_stand n script (λ k e. f k (or_right (k == s) (is_in k (sessions_in script)) e)) i.1 r.1,
 )
 may_stand n (items.Round ∷ script) f i r = (tt, may_stand n script f i.1 r.1)

@@ -1,9 +1,8 @@
 //! The lines of a script that the run doesn't have yet.
 ghost use Rattle.std.specs.Prelude.{◌≡◌, ◌≤◌, IfOk, get_or, length};
 ghost use Rattle.std.specs.List.{prefix_len};
-ghost use Rattle.life_law.specs.Commands.{has_command};
 ghost use Rattle.session_lang.specs.declared.script.Item.TheVariants as variants;
-ghost use Rattle.run_law.specs.Turns.{has_dump, has_item};
+ghost use Rattle.run_law.specs.Turns.{has_command, has_dump, has_item};
 
 use session_lang::{Item, Items};
 use tx_model::{Command, DumpOf, Memory};
@@ -25,8 +24,11 @@ fn has_command(command: &Command) -> bool
         | Command::See { .. }
         | Command::Status { .. }
         | Command::Did { .. }
-        | Command::Freeze { .. } => true,
-        _ => false,
+        | Command::Freeze { .. }
+        | Command::Trim
+        | Command::Multi { .. }
+        | Command::SeeMulti { .. }
+        | Command::MultiFreeze { .. } => true,
     }
 }
 
@@ -34,8 +36,11 @@ fn has_dump(what: &DumpOf) -> bool
     ensures { result ≡ has_dump what.now }
 {
     match what {
-        DumpOf::Log | DumpOf::Xact { .. } | DumpOf::Subtrans { .. } => true,
-        _ => false,
+        DumpOf::Log
+        | DumpOf::Xact { .. }
+        | DumpOf::Subtrans { .. }
+        | DumpOf::Offsets { .. }
+        | DumpOf::Members { .. } => true,
     }
 }
 

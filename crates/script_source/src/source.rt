@@ -2,7 +2,7 @@
 ghost use Rattle.std.specs.Prelude.{◌≡◌, ◌≤◌, IfErr, IfOk, Ok, length};
 ghost use Rattle.session_lang.specs.Script.{read_script};
 ghost use Rattle.run_law.specs.Refusals.{refusal_text};
-ghost use Rattle.run_law.specs.Turns.{HasFewLevels, IsRunnable};
+ghost use Rattle.run_law.specs.Turns.{HasFewTakers, IsRunnable};
 ghost use Rattle.tx_io.specs.Amounts.{ReadsUpTo, most_read};
 ghost use Rattle.script_source.specs.Sources.{HasScript, IsNoScriptOf, Refuses, TellsFault};
 
@@ -42,7 +42,7 @@ fn script_of(alloc: Global, bytes: &[u8]) -> Result<Script, NoScript>
     requires { length bytes.now ≤ 16777216 }
     ensures script { IfOk result (λ s. (read_script bytes.now ≡ Ok s) × IsRunnable s) }
     ensures banks { IfOk result (λ s. (1 ≤ s.banks) × (s.banks ≤ 16)) }
-    ensures few { IfOk result (λ s. HasFewLevels s.items) }
+    ensures few { IfOk result (λ s. HasFewTakers s.items) }
     ensures refused { IfErr result (Refuses bytes.now) }
 {
     let script = match parse(alloc, bytes) {
@@ -74,11 +74,11 @@ fn let_go(bytes: Vec<u8>) {
 }
 
 /// Takes a script from a source, and says why where it gives none. Reads at most 16,777,217 bytes. A script has from 1 to
-/// 16 banks, and fewer than 2,900,000 of its commands make a level, as their lines would not fit in so many bytes.
+/// 16 banks, and fewer than 2,900,000 of its commands make a level or a multixact, as their lines would not fit in so many bytes.
 pub fn take_script<S: Source>(alloc: Global, source: &mut S) -> Result<Script, NoScript>
     ensures script { IfOk result (HasScript (S.left source.old) (S.left source.new)) }
     ensures banks { IfOk result (λ s. (1 ≤ s.banks) × (s.banks ≤ 16)) }
-    ensures few { IfOk result (λ s. HasFewLevels s.items) }
+    ensures few { IfOk result (λ s. HasFewTakers s.items) }
     ensures refused { IfErr result (IsNoScriptOf (S.left source.old) (S.left source.new)
         (S.faults source.old) (S.faults source.new)) }
     ensures later { S.faults source.old ≤ S.faults source.new }

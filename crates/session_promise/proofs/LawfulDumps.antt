@@ -23,7 +23,7 @@ use Rattle.tx_model.specs.declared.report.Step.{Step}
 use Rattle.tx_model.specs.declared.report.Step.TheVariants as steps
 use Rattle.tx_model.specs.Lines.{has_line}
 use Rattle.tx_model.specs.Rounds.{is_round, lines_in}
-use Rattle.life_law.specs.Dumps.{AreLawfulDumps, IsLawfulBetween, IsXactCutoff, MayDump, events_behind}
+use Rattle.life_law.specs.Dumps.{AreLawfulDumps, IsLawfulBetween, IsMemberCutoff, IsOffsetCutoff, IsXactCutoff, MayDump, events_behind}
 use Rattle.life_law.specs.LawfulLife.{facts_of}
 use Rattle.tx_core.specs.declared.entry.Entry.{Entry}
 use Rattle.tx_core.specs.declared.entry.Start.{Start}
@@ -53,6 +53,20 @@ cutoff_more base recs more cutoff up c = (
   c.2,
 )
 
+offset_cutoff_more : (base : Counters) (recs more : List Rec) (cutoff : ℕ) → ((r : Rec) → Contains recs r → Contains more r) → IsOffsetCutoff base recs cutoff → IsOffsetCutoff base more cutoff
+offset_cutoff_more base recs more cutoff up c = (
+  c.0,
+  ⊎_elim (λ (e : c.0 ≡ base.oldest_multi). inl e) (λ (t : (id offset : ℕ) × Contains recs (records.Truncate id c.0 offset)). inr (t.0, t.1, up (records.Truncate t.0 c.0 t.1) t.2)) c.1,
+  c.2,
+)
+
+member_cutoff_more : (base : Counters) (recs more : List Rec) (cutoff : ℕ) → ((r : Rec) → Contains recs r → Contains more r) → IsMemberCutoff base recs cutoff → IsMemberCutoff base more cutoff
+member_cutoff_more base recs more cutoff up c = (
+  c.0,
+  ⊎_elim (λ (e : c.0 ≡ base.oldest_offset). inl e) (λ (t : (id multi : ℕ) × Contains recs (records.Truncate id multi c.0)). inr (t.0, t.1, up (records.Truncate t.0 t.1 c.0) t.2)) c.1,
+  c.2,
+)
+
 dump_more : (banks : ℕ) (base : Counters) (recs more : List Rec) (h : List Event) → ((r : Rec) → Contains recs r → Contains more r) → (what : DumpOf) (size : ℕ) (reply : Reply) → MayDump banks base recs h what size reply → MayDump banks base more h what size reply
 dump_more banks base recs more h up dumps.Log size (replies.Bytes bytes) m = m
 dump_more banks base recs more h up dumps.Log size (replies.Refused refusals.LogFault) m = m
@@ -62,6 +76,12 @@ dump_more banks base recs more h up (dumps.Xact page) size (replies.Refused (ref
 dump_more banks base recs more h up (dumps.Subtrans page) size (replies.Bytes bytes) m = m
 dump_more banks base recs more h up (dumps.Subtrans page) size (replies.Cut cutoff) m = m
 dump_more banks base recs more h up (dumps.Subtrans page) size (replies.Refused (refusals.DiskFault (locks.Subtrans bank))) m = m
+dump_more banks base recs more h up (dumps.Offsets page) size (replies.Bytes bytes) m = (m.0, m.1, m.2, offset_cutoff_more base recs more m.2 up m.3, m.4)
+dump_more banks base recs more h up (dumps.Offsets page) size (replies.Cut cutoff) m = (offset_cutoff_more base recs more cutoff up m.0, m.1)
+dump_more banks base recs more h up (dumps.Offsets page) size (replies.Refused (refusals.DiskFault (locks.Offsets bank))) m = m
+dump_more banks base recs more h up (dumps.Members page) size (replies.Bytes bytes) m = (m.0, m.1, m.2, member_cutoff_more base recs more m.2 up m.3, m.4)
+dump_more banks base recs more h up (dumps.Members page) size (replies.Cut cutoff) m = (member_cutoff_more base recs more cutoff up m.0, m.1)
+dump_more banks base recs more h up (dumps.Members page) size (replies.Refused (refusals.DiskFault (locks.Members bank))) m = m
 dump_more banks base recs more h up what size reply m = absurd m
 
 recs_more : (lists more : List (List Entry)) → Grows lists more → (r : Rec) → Contains (recs_of lists) r → Contains (recs_of more) r

@@ -4,6 +4,7 @@ use Rattle.std.specs.List.{AllByRecursion, count_by, filter, filter_map}
 use Rattle.notes.specs.Lists.{Begins, Grows, Knows, at, own}
 use Rattle.tx_events.specs.declared.event.By.{By}
 use Rattle.tx_events.specs.declared.event.Event.{Event}
+use Rattle.tx_events.specs.declared.multi.MultiEvent.{MultiEvent}
 use Rattle.tx_events.specs.declared.record.Counters.{Counters}
 use Rattle.tx_events.specs.declared.record.Rec.{Rec}
 use Rattle.tx_events.specs.declared.record.Rec.TheVariants as records
@@ -17,6 +18,7 @@ use Rattle.tx_model.specs.Rounds.{is_round}
 use Rattle.life_law.specs.Checkpoints.{MayHaveRecord, checkpoints_in}
 use Rattle.life_law.specs.Facts.{is_checkpoint_fault}
 use Rattle.life_law.specs.LifeLog.{counters_behind}
+use Rattle.life_law.specs.MultiStanding.{none, sure, unfinished}
 use Rattle.life_law.specs.Pending.{pending}
 use Rattle.life_law.specs.Replies.{IsBank}
 use Rattle.tx_core.specs.declared.entry.Entry.{Entry}
@@ -25,21 +27,26 @@ use Rattle.tx_core.specs.declared.entry.Start.{Start}
 use Rattle.tx_core.specs.EngineInvariant.{EngineInvariant}
 use Rattle.tx_core.specs.Entries.{history, recs_in, session_of}
 use Rattle.tx_core.specs.Locks.{log_lock}
+use Rattle.tx_core.specs.MultiEntries.{multi_history}
 use Rattle.tx_core.specs.StaysDown.{is_put_down}
 use Rattle.engine_parts.specs.declared.session.Session.{Session}
 use Rattle.engine_parts.specs.Stand.{IsDownAt}
 use Rattle.engine_parts.specs.Stages.{pending_in}
 use Rattle.session_promise.specs.Promise.{recs_of}
-use Rattle.session_promise.specs.Told.{Follow, ToldRound, all_lines, steps_of}
+use Rattle.session_promise.specs.Told.{Follow, ToldRound, all_lines, in_events, in_multis, steps_of}
 
--- one of these sessions is in the midst of a commit
+-- one of these sessions is in the midst of a commit, or of a multixact
 abbrev pub IsCommitting : List Session → ℕ → Type 0
 IsCommitting sessions n = (s : Session) × (slice_get sessions n ≡ Some s) × (pending_in s.stage ≡ Some refusals.CommitPending)
+
+abbrev pub IsMakingMulti : List Session → ℕ → Type 0
+IsMakingMulti sessions n = (s : Session) × (slice_get sessions n ≡ Some s) × (s.making ≢ None)
 
 -- the checkpoint that the log takes next
 abbrev pub checkpoint_next : Start → List (List Entry) → Rec
 checkpoint_next start lists =
-    records.Checkpoint (start.from + length (recs_of lists)) (counters_behind start.base (history lists))
+    records.Checkpoint (start.from + length (recs_of lists))
+    (counters_behind start.base (history lists) (multi_history lists))
 
 -- whether the entry tells a fault of the log's volume that put the log down
 abbrev pub is_down_fault : Entry → Bool
@@ -63,23 +70,26 @@ AddsFor start before added (replies.Refused refusals.Full) = Appends added [] 0
 AddsFor start before added (replies.Refused refusals.Memory) = Appends added [] 0
 AddsFor start before added reply = ⊥
 
--- The reply names the least session of which this holds, or it holds of none.
-abbrev pub NamesLeast : (ℕ → Type 0) → Reply → Type 0
-NamesLeast Holds (replies.Pending session refusals.CommitPending) =
-    Holds session × ((n : ℕ) → n < session → Holds n → ⊥)
-NamesLeast Holds (replies.Pending session refusal) = ⊥
-NamesLeast Holds reply = (n : ℕ) → Holds n → ⊥
+-- The reply names the least session that is in the midst of a commit, else the least that may be of a multixact and none
+-- before it is surely so, or none is in the midst of either.
+abbrev pub NamesLeast : (ℕ → Type 0) → (ℕ → Type 0) → (ℕ → Type 0) → Reply → Type 0
+NamesLeast Commits May Must (replies.Pending session refusals.CommitPending) =
+    Commits session × ((n : ℕ) → n < session → Commits n → ⊥)
+NamesLeast Commits May Must (replies.Pending session refusals.MultiPending) =
+    May session × ((n : ℕ) → n < session → Must n → ⊥) × ((n : ℕ) → Commits n → ⊥)
+NamesLeast Commits May Must (replies.Pending session refusal) = ⊥
+NamesLeast Commits May Must reply = ((n : ℕ) → Commits n → ⊥) × ((n : ℕ) → Must n → ⊥)
 
--- It names the least session that is in the midst of a commit, or there is none.
+-- by how they stand it is sure
 abbrev pub IsNamed : List Session → Reply → Type 0
-IsNamed sessions reply = NamesLeast (IsCommitting sessions) reply
+IsNamed sessions reply = NamesLeast (IsCommitting sessions) (IsMakingMulti sessions) (IsMakingMulti sessions) reply
 
 -- some flush covers all records below this number
 abbrev pub IsFlushedBelow : List (List Entry) → ℕ → Type 0
 IsFlushedBelow lists number = (by : By) × Contains (at lists log_lock) (record { by = by; kind = kinds.Flush number })
 
 -- A checkpoint that was answered so took the lists from these to those, while these sessions were parked. What it added
--- is the life's host's, and no event. One that is done was flushed.
+-- is the life's host's, and no event of either history. One that is done was flushed.
 pub record WentCheckpoint (start : Start) (sessions : List Session) (before after : List (List Entry)) (reply : Reply)
     : Type 0 where
   pub named : IsNamed sessions reply
@@ -87,6 +97,7 @@ pub record WentCheckpoint (start : Start) (sessions : List Session) (before afte
   pub kept : EngineInvariant start after
   pub idle : (n : ℕ) → n < start.sessions → Knows session_of n before after
   pub same_history : history after ≡ history before
+  pub same_multis : multi_history after ≡ multi_history before
   pub added : List Entry
   pub log : at after log_lock ≡ at before log_lock ++ added
   pub theirs : AllByRecursion (λ e. e.by.session ≡ start.sessions) added
@@ -100,6 +111,13 @@ abbrev pub IsPendingBehind : List (List Entry) → List ToldRound → ℕ → Ty
 IsPendingBehind lists rounds session =
     pending (recs_of lists) (history lists) (all_lines rounds) session ≡ Some refusals.CommitPending
 
+-- and so of a multixact: it may be, or it is
+abbrev pub MayBeMaking : List (List Entry) → List ToldRound → ℕ → Type 0
+MayBeMaking lists rounds session = unfinished (multi_history lists) (all_lines rounds) session ≢ none
+
+abbrev pub IsSurelyMaking : List (List Entry) → List ToldRound → ℕ → Type 0
+IsSurelyMaking lists rounds session = unfinished (multi_history lists) (all_lines rounds) session ≡ sure
+
 -- what the lists at any later time show of the reply
 abbrev pub IsAnsweredIn : Start → List (List Entry) → Reply → Type 0
 IsAnsweredIn start lists replies.Done = Unit {0}
@@ -112,12 +130,12 @@ IsAnsweredIn start lists (replies.Refused refusals.Memory) = Unit {0}
 IsAnsweredIn start lists reply = ⊥
 
 -- a record with these counters may be left by it behind this history, or none
-abbrev pub MayLeave : Start → List Event → Reply → Option Counters → Type 0
-MayLeave start h reply (Some counters) = MayHaveRecord reply × (counters ≡ counters_behind start.base h)
-MayLeave start h reply None = reply ≢ replies.Done
+abbrev pub MayLeave : Start → List Event → List MultiEvent → Reply → Option Counters → Type 0
+MayLeave start h all reply (Some counters) = MayHaveRecord reply × (counters ≡ counters_behind start.base h all)
+MayLeave start h all reply None = reply ≢ replies.Done
 
--- The checkpoint was told behind the first of these rounds. With their events the history began. It was answered by which
--- sessions are in the midst of a commit by their lines, and left these counters in the log, if any.
+-- The checkpoint was told behind the first of these rounds. With their events both histories began. It was answered by which
+-- sessions are in the midst of a commit or of a multixact by their lines, and left these counters in the log, if any.
 pub record IsCheckpointTold (start : Start) (lists : List (List Entry)) (rounds : List ToldRound) (before : List Step)
     (reply : Reply) (left : Option Counters) : Type 0 where
   pub front : List ToldRound
@@ -126,10 +144,13 @@ pub record IsCheckpointTold (start : Start) (lists : List (List Entry)) (rounds 
   pub steps : filter is_round before ≡ steps_of 1 front
   pub events : List Event
   pub begins : Begins events (history lists)
-  pub places : Follow 0 front (length events)
-  pub named : NamesLeast (IsPendingBehind lists front) reply
+  pub places : Follow in_events 0 front (length events)
+  pub multis : List MultiEvent
+  pub multi_begins : Begins multis (multi_history lists)
+  pub multi_places : Follow in_multis 0 front (length multis)
+  pub named : NamesLeast (IsPendingBehind lists front) (MayBeMaking lists front) (IsSurelyMaking lists front) reply
   pub answer : IsAnsweredIn start lists reply
-  pub leaves : MayLeave start events reply left
+  pub leaves : MayLeave start events multis reply left
 
 -- a step, and the counters that it left in the log, if any
 abbrev pub LeftStep : Type 0

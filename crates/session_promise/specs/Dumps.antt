@@ -14,7 +14,7 @@ use Rattle.tx_core.specs.declared.entry.Entry.{Entry}
 use Rattle.tx_core.specs.declared.entry.Start.{Start}
 use Rattle.tx_core.specs.Entries.{history}
 use Rattle.session_promise.specs.Promise.{recs_of}
-use Rattle.session_promise.specs.Told.{Follow, ToldRound, steps_of}
+use Rattle.session_promise.specs.Told.{Follow, ToldRound, in_events, steps_of}
 
 -- The dump was told behind the first of these rounds. With their events the history began, and by it and the records
 -- appended so far the dump may be answered so.
@@ -26,7 +26,7 @@ pub record IsDumpTold (start : Start) (lists : List (List Entry)) (rounds : List
   pub steps : filter is_round before ≡ steps_of 1 front
   pub events : List Event
   pub begins : Begins events (history lists)
-  pub places : Follow 0 front (length events)
+  pub places : Follow in_events 0 front (length events)
   pub answer : MayDump start.banks start.base (recs_of lists) events what size reply
 
 abbrev pub IsStepTold : Start → List (List Entry) → List ToldRound → List Step → Step → Type 0

@@ -1,10 +1,9 @@
 -- A life so far, between two rounds.
-use Rattle.std.specs.Prelude.{◌≡◌, ℕ, ◌+◌, ◌<◌, Bool, List, [], ◌∷◌, ◌++◌, Contains, Some, length, slice_get}
+use Rattle.std.specs.Prelude.{◌≡◌, ℕ, ◌+◌, ◌<◌, Bool, List, [], ◌∷◌, ◌++◌, Contains, None, Some, length, slice_get}
 use Rattle.std.specs.List.{AllByRecursion}
 use Rattle.notes.specs.Lists.{Grows, Knows, at}
 use Rattle.tx_model.specs.declared.command.Command.{Command}
 use Rattle.tx_model.specs.declared.report.Line.{Line}
-use Rattle.tx_model.specs.Replies.{RoundSpan}
 use Rattle.tx_core.specs.declared.entry.Entry.{Entry}
 use Rattle.tx_core.specs.declared.entry.Start.{Start}
 use Rattle.tx_core.specs.EngineInvariant.{EngineInvariant}
@@ -18,7 +17,7 @@ use Rattle.session_levels.specs.Stands.{IsFresh}
 use Rattle.session_promise.specs.Closing.{IsOver, MayCallIn}
 use Rattle.session_promise.specs.Promise.{Answered, Promise}
 use Rattle.session_promise.specs.Rounds.{ArePartsOf, RoundPart, lines_of_parts, sessions_of}
-use Rattle.session_promise.specs.Told.{Follow, Told, ToldRound, all_lines, between, told_by, told_in}
+use Rattle.session_promise.specs.Told.{Follow, Span, Told, ToldRound, all_lines, between, in_events, in_multis, place_of, told_by, told_in}
 
 -- between these two points the session's next commands ran, one after another, and these are their lines
 abbrev pub AnsweredLines : Bool → Start → Knowledge → Knowledge → ℕ → Session → Session → List Line → Type 0
@@ -38,8 +37,8 @@ pub record TookPart (tells : Bool) (start : Start) (before after : List (List En
   pub known : Knows session_of n last.seen after
 
 -- the round has run from some lists to others
-abbrev pub span_between : List (List Entry) → List (List Entry) → RoundSpan
-span_between before after = between (length (history before)) (length (history after))
+abbrev pub span_between : List (List Entry) → List (List Entry) → Span
+span_between before after = between (place_of before) (place_of after)
 
 -- it promises of the round's lines too
 abbrev pub PromiseThroughRound : Type 0
@@ -56,7 +55,8 @@ pub record IsSoFar (tells : Bool) (start : Start) (lists : List (List Entry)) (s
   pub count : length sessions ≡ start.sessions
   pub each : (n : ℕ) (s : Session) → slice_get sessions n ≡ Some s
       → Promise tells start lists n (told_by n rounds) s
-  pub places : Follow 0 rounds (length (history lists))
+  pub places : Follow in_events 0 rounds (length (history lists))
+  pub multi_places : Follow in_multis 0 rounds (length (multi_history lists))
   pub lines : AllByRecursion (λ l. l.by.session < start.sessions) (all_lines rounds)
 
 -- so it is before the first round
@@ -64,7 +64,7 @@ abbrev pub SoFarBegins : Type 0
 SoFarBegins =
     (tells : Bool) (start : Start) (lists : List (List Entry)) (sessions : List Session)
     → ((place : ℕ) → at lists place ≡ []) → length sessions ≡ start.sessions
-    → ((n : ℕ) (s : Session) → slice_get sessions n ≡ Some s → IsFresh s.levels × (s.stage ≡ stages.Clear))
+    → ((n : ℕ) (s : Session) → slice_get sessions n ≡ Some s → IsFresh s.levels × (s.stage ≡ stages.Clear) × (s.making ≡ None))
     → IsSoFar tells start lists sessions []
 
 -- Each session of the round ran its commands, and the others and the host did nothing.
@@ -91,17 +91,6 @@ SoFarGoesOn =
     (turns : List (ℕ × Command)) (parts : List RoundPart) (rounds : List ToldRound)
     → IsSoFar tells start before old rounds → WentRound tells start before after old new turns parts
     → IsSoFar tells start after new (rounds ++ round_of before after parts ∷ [])
-
--- and no multixact was touched
-abbrev pub NoMultisSoFar : Type 0
-NoMultisSoFar =
-    (tells : Bool) (start : Start) (lists : List (List Entry)) (sessions : List Session) (rounds : List ToldRound)
-    → IsSoFar tells start lists sessions rounds → EngineInvariant start lists → multi_history lists ≡ []
-
-abbrev pub NoMultisOver : Type 0
-NoMultisOver =
-    (tells : Bool) (start : Start) (lists : List (List Entry)) (rounds : List ToldRound)
-    → IsOver tells start lists rounds → multi_history lists ≡ []
 
 -- and then the life may be over
 abbrev pub SoFarEnds : Type 0

@@ -1,31 +1,54 @@
 -- The lines that sessions told, with the places of their rounds.
-use Rattle.std.specs.Prelude.{◌≡◌, ℕ, ◌+◌, ◌≤◌, List, [], ◌∷◌, map}
+use Rattle.std.specs.Prelude.{◌≡◌, ℕ, ◌+◌, ◌≤◌, List, [], ◌∷◌, length, map}
 use Rattle.std.specs.List.{filter, flat_map}
 use Rattle.tx_model.specs.declared.report.Line.{Line}
 use Rattle.tx_model.specs.declared.report.Step.{Step}
 use Rattle.tx_model.specs.declared.report.Step.TheVariants as steps
 use Rattle.tx_model.specs.Lines.{is_line_of}
 use Rattle.tx_model.specs.Replies.{RoundSpan}
+use Rattle.tx_core.specs.declared.entry.Entry.{Entry}
+use Rattle.tx_core.specs.Entries.{history}
+use Rattle.tx_core.specs.MultiEntries.{multi_history}
 
--- A line, and the place of its round in the history: behind the events of the rounds before, and among those up to the
+-- a place of both histories: behind so many events of each
+pub record Place : Type 0 where
+  pub events : ℕ
+  pub multis : ℕ
+
+abbrev pub place_of : List (List Entry) → Place
+place_of lists = record { events = length (history lists); multis = length (multi_history lists) }
+
+pub record IsNoLater (a b : Place) : Type 0 where
+  pub events : a.events ≤ b.events
+  pub multis : a.multis ≤ b.multis
+
+-- where a round stands in both histories
+pub record Span : Type 0 where
+  pub events : RoundSpan
+  pub multis : RoundSpan
+
+abbrev pub between : Place → Place → Span
+between from to = record {
+  events = record { from = from.events; to = to.events };
+  multis = record { from = from.multis; to = to.multis };
+}
+
+-- A line, and the place of its round in the histories: behind the events of the rounds before, and among those up to the
 -- round's end. While the round runs, its end is somewhere among the events so far.
 pub record Told : Type 0 where
   pub line : Line
-  pub span : RoundSpan
+  pub span : Span
 
 abbrev pub lines_of : List Told → List Line
 lines_of told = map (λ t. t.line) told
 
-abbrev pub between : ℕ → ℕ → RoundSpan
-between from to = record { from = from; to = to }
-
 -- lines of one round
-abbrev pub told_in : RoundSpan → List Line → List Told
+abbrev pub told_in : Span → List Line → List Told
 told_in span lines = map (λ l. record { line = l; span = span }) lines
 
 -- a round that is over, with its lines in the report's order
 pub record ToldRound : Type 0 where
-  pub span : RoundSpan
+  pub span : Span
   pub lines : List Line
 
 abbrev pub lines_by : ℕ → List Line → List Line
@@ -42,10 +65,17 @@ told_by n rounds = flat_map (told_of n) rounds
 abbrev pub all_lines : List ToldRound → List Line
 all_lines rounds = flat_map (λ r. r.lines) rounds
 
--- each round begins where the one before it ended, the first of them here, and the last ends there
-abbrev pub Follow : ℕ → List ToldRound → ℕ → Type 0
-Follow from [] to = from ≡ to
-Follow from (r ∷ rounds) to = (r.span.from ≡ from) × (from ≤ r.span.to) × Follow r.span.to rounds to
+-- where a round stands in the one history, and in the other
+abbrev pub in_events : ToldRound → RoundSpan
+in_events r = r.span.events
+
+abbrev pub in_multis : ToldRound → RoundSpan
+in_multis r = r.span.multis
+
+-- in a history, each round begins where the one before it ended, the first of them here, and the last ends there
+abbrev pub Follow : (ToldRound → RoundSpan) → ℕ → List ToldRound → ℕ → Type 0
+Follow span from [] to = from ≡ to
+Follow span from (r ∷ rounds) to = ((span r).from ≡ from) × (from ≤ (span r).to) × Follow span (span r).to rounds to
 
 -- the rounds as steps of a report, numbered on from n
 abbrev pub steps_of : ℕ → List ToldRound → List Step

@@ -1,9 +1,16 @@
 ghost use Rattle.session_promise.specs.Causes.{FaultsAreTold};
 ghost use Rattle.session_promise.specs.CheckpointLaws.{CheckpointGoesOn, CheckpointsBegin, CheckpointsStayThroughDump, CheckpointsStayThroughRound, DumpsStayThroughCheckpoint, SoFarThroughCheckpoint};
-ghost use Rattle.session_promise.specs.Closing.{LevelsBoundIds, PromisesMakeLife, PromisesMakeLog, PromisesMakeSteps};
+ghost use Rattle.session_promise.specs.Closing.{LevelsBoundIds, LinesBoundMultis, PromisesMakeLife, PromisesMakeLog, PromisesMakeMultis, PromisesMakeSteps};
+ghost use Rattle.session_promise.specs.MultiGrowth.{MultiAnswersStay};
 ghost use Rattle.session_promise.specs.Promise.{PromiseBegins, PromiseGoesOn, PromiseStays};
 ghost use Rattle.session_promise.specs.Rounds.{PartsMakeRound};
-ghost use Rattle.session_promise.specs.SoFar.{NoMultisOver, NoMultisSoFar, PromiseThroughRound, SoFarBegins, SoFarEnds, SoFarGoesOn};
+ghost use Rattle.session_promise.specs.SoFar.{PromiseThroughRound, SoFarBegins, SoFarEnds, SoFarGoesOn};
+
+/// What a command on multixacts may be answered it may be answered in longer lists and over wider spans too, where the
+/// events that are more are of other sessions or of later commands.
+pub fn multi_answers_stay()
+    ensures { MultiAnswersStay }
+{}
 
 /// A session that has done nothing promises of no line.
 pub fn promise_begins()
@@ -35,12 +42,6 @@ pub fn so_far_goes_on()
     ensures { SoFarGoesOn }
 {}
 
-/// No multixact is touched in a life so far, nor in one that is over.
-pub fn no_multis()
-    ensures so_far { NoMultisSoFar }
-    ensures over { NoMultisOver }
-{}
-
 /// Behind the last round the life may be over.
 pub fn so_far_ends()
     ensures { SoFarEnds }
@@ -56,9 +57,19 @@ pub fn levels_bound_ids()
     ensures { LevelsBoundIds }
 {}
 
+/// A life gives no more multixacts than its commands asked for.
+pub fn lines_bound_multis()
+    ensures { LinesBoundMultis }
+{}
+
 /// The promises of all sessions make lawful lines, round by round.
 pub fn promises_make_steps()
     ensures { PromisesMakeSteps }
+{}
+
+/// And lawful multixacts.
+pub fn promises_make_multis()
+    ensures { PromisesMakeMultis }
 {}
 
 /// And a lawful log.

@@ -34,7 +34,7 @@ use Rattle.session_run.specs.Runs.{IsTakenAlone}
 
 -- its items are one part
 pub part_alone : (s : Script) → IsTakenAlone s → IsTakenPart (length s.names) s.items
-part_alone s alone = record { items = alone.items; few = alone.taken.runnable.few; levels = alone.taken.few }
+part_alone s alone = record { items = alone.items; few = alone.taken.runnable.few; takers = alone.taken.few }
 
 -- a new life of a cluster is one of the same cluster
 pub of_cluster : {L P : Type 0} {l : logs.Ghosts L} {p : disks.Ghosts P} (c d : Cluster) (first : ℕ → Volumes L P → Type 0) (life : OpenLife L P l p) → c ≡ d

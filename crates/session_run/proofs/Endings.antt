@@ -23,11 +23,11 @@ use Rattle.engine_life.specs.declared.refusal.NoLife.TheVariants as no_lives
 use Rattle.engine_life.specs.Refusals.{IsUnopened}
 use Rattle.session_run.specs.declared.ending.Ending.{Ending}
 use Rattle.session_run.specs.declared.ending.Ending.TheVariants as endings
-use Rattle.session_run.specs.declared.task.Task.{Task}
-use Rattle.session_run.specs.declared.task.Task.TheVariants as tasks
+use Rattle.script_gen.specs.declared.task.Task.{Task}
+use Rattle.script_gen.specs.declared.task.Task.TheVariants as tasks
 use Rattle.session_run.specs.Leaves.{LeavesVolumes}
 use Rattle.session_run.specs.Runs.{IsTakenAlone, cluster_of}
-use Rattle.session_run.specs.Tool.{Ends, HasWritten, IsAccepted, IsScriptOf, IsSized, IsTask, IsUnread, IsUnrun, TellsRefusal, TellsStop, WritesLast, unread_by}
+use Rattle.session_run.specs.Tool.{Ends, HasWritten, IsScriptOf, IsSized, IsTask, IsUnread, IsUnrun, TellsRefusal, TellsStop, WritesLast, unread_by}
 use Rattle.run_law.specs.Lives.{text_so_far}
 use Rattle.session_run.specs.declared.stop.Stopped.{Stopped}
 use Rattle.session_run.specs.declared.stop.Stopped.TheVariants as stops
@@ -35,11 +35,6 @@ use Rattle.session_run.specs.Stops.{IsStopped}
 use Rattle.session_run.proofs.LivesRun.{none_before, then_memory}
 
 -- ---- what is asked for
-
--- neither word is accepted
-pub none_asked : (words : List (List ℕ)) → (IsRun words → ⊥) → ((seed size : ℕ) → IsGen words seed size → ⊥) → IsAccepted words → ⊥
-none_asked words run gen (tasks.Run, is) = run is
-none_asked words run gen (tasks.Gen seed size, is) = gen seed size is
 
 -- a generated script is no longer than one that is read
 pub is_sized : (words : List (List ℕ)) (task : Task) → IsTask words task → IsSized task

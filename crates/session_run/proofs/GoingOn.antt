@@ -21,7 +21,7 @@ use Rattle.lives_law.specs.Lives.{GoesOnFrom, base_of}
 use Rattle.lives_law.proofs.GoingOn.{behind_push, goes_on_at}
 use Rattle.session_lang.specs.declared.script.Script.{Script}
 use Rattle.run_law.specs.Lives.{LifePart}
-use Rattle.recoverable.specs.Clusters.{Fit, IsLeft}
+use Rattle.recoverable.specs.Clusters.{IsLeft}
 use Rattle.recoverable.specs.Fit.{KeptLog, base_at, log_end}
 use Rattle.recoverable.specs.Volumes.{Left}
 use Rattle.replay_core.specs.declared.refusal.RecoverRefusal.TheVariants as refusals
@@ -33,6 +33,7 @@ use Rattle.engine_life.specs.declared.life.OpenLife.{OpenLife}
 use Rattle.engine_life.specs.declared.refusal.NoLife.TheVariants as no_lives
 use Rattle.engine_life.specs.declared.refusal.NotReopened.{NotReopened}
 use Rattle.engine_life.specs.declared.refusal.NotReopened.TheVariants as not_reopened
+use Rattle.engine_life.specs.Lives.{FitsLog}
 use Rattle.engine_life.specs.NextLives.{CrashGoesOn, IsNotReopened, MayGoOn}
 use Rattle.engine_life.specs.Reopening.{behind}
 use Rattle.session_run.specs.Fits.{EndsWithLife, FitsLife}
@@ -101,7 +102,7 @@ module _ {L P : Type 0} (l : logs.Ghosts L) (p : disks.Ghosts P) where
   -- volumes that a crash left fit a log that the ones before did
   pub may_go_on : (kept : KeptLog) (n : ℕ) (old : Volumes L P) (gives : Volumes L P → Type 0) → HasBanks n old → ((v : Volumes L P) → gives v → HaveSameBanks old v)
       → (IsTrue l.tells → IsTrue p.tells → (v : Volumes L P) → gives v → AllCrashed (LogCrashed l.reads l.images l.faults) (PagesCrashed p.pages p.images p.faults) old v)
-      → (IsTrue p.tells → IsTrue l.tells) → (IsTrue p.tells → IsTrue l.tells → Fit l p kept old.log old.xact.items) → CrashGoesOn l p → (v : Volumes L P) → gives v → HasBanks n v × MayGoOn l p kept v
+      → (IsTrue p.tells → IsTrue l.tells) → (IsTrue p.tells → IsTrue l.tells → FitsLog l p kept old) → CrashGoesOn l p → (v : Volumes L P) → gives v → HasBanks n v × MayGoOn l p kept v
   may_go_on kept n old gives has same crashed tells fit carries v given =
       (same_banks n old v has (same v given), carries kept old v (λ lt pt. crashed lt pt v given) (λ pt. (tells pt, fit pt (tells pt))))
 
@@ -112,22 +113,26 @@ module _ {L P : Type 0} (l : logs.Ghosts L) (p : disks.Ghosts P) where
   pages_read None = λ q. None
   pages_read (Some disk) = p.pages disk
 
+  -- what stands on volumes behind a crash is one of their images before it
+  read_there : (old new : List P) → EachCrashed (PagesCrashed p.pages p.images p.faults) old new → (bank : ℕ) (disk : P) → slice_get old bank ≡ Some disk → p.images disk (pages_read (slice_get new bank))
+  read_there old new crashed bank disk there =
+      let now = became (PagesCrashed p.pages p.images p.faults) old new crashed bank disk there in
+      subst (λ (o : Option P). p.images disk (pages_read o)) (sym now.1) now.2.image
+
   -- the log of volumes that fitted one before the crash isn't damaged
-  no_damage : (kept : KeptLog) (old new : Volumes L P) (at : ℕ) → Fit l p kept old.log old.xact.items → Crashed old new → opened (l.reads new.log) ≡ Err at → ⊥
+  no_damage : (kept : KeptLog) (old new : Volumes L P) (at : ℕ) → FitsLog l p kept old → Crashed old new → opened (l.reads new.log) ≡ Err at → ⊥
   no_damage kept old new at fit c damaged =
       let left : Left = record {
         log = l.reads new.log;
         xact = λ bank. pages_read (slice_get new.xact.items bank);
-        offsets = λ bank q. None;
-        members = λ bank q. None;
+        offsets = λ bank. pages_read (slice_get new.offsets.items bank);
+        members = λ bank. pages_read (slice_get new.members.items bank);
       } in
-      let is : IsLeft l p old.log old.xact.items left = record {
+      let is : IsLeft l p old.log old.xact.items old.offsets.items old.members.items left = record {
         log_image = c.log.image;
-        states = λ bank disk there.
-            let now = became (PagesCrashed p.pages p.images p.faults) old.xact.items new.xact.items c.xact bank disk there in
-            subst (λ (o : Option P). p.images disk (pages_read o)) (sym now.1) now.2.image;
-        no_offsets = λ bank q. refl;
-        no_members = λ bank q. refl;
+        states = read_there old.xact.items new.xact.items c.xact;
+        offsets_are = read_there old.offsets.items new.offsets.items c.offsets;
+        members_are = read_there old.members.items new.members.items c.members;
       } in
       ok_not_err (opened (l.reads new.log)) _ at (fit.each left is).opens.opens damaged
 
@@ -139,13 +144,12 @@ module _ {L P : Type 0} (l : logs.Ghosts L) (p : disks.Ghosts P) where
 
   module _ (falls : Crash → Volumes L P → Volumes L P → Type 0) (how : How) (left : Volumes L P) (gave gives : Volumes L P → Type 0) (before mid now : ℕ)
       (later : before ≤ mid) (fallen : (v : Volumes L P) → gave v → HasFallen l p falls how left v) where
-    module _ (kept : KeptLog) (fit : IsTrue p.tells → IsTrue l.tells → Fit l p kept left.log left.xact.items) where
+    module _ (kept : KeptLog) (fit : IsTrue p.tells → IsTrue l.tells → FitsLog l p kept left) where
       undamaged : (e : NotReopened) → IsNotReopened l p mid now gave gives e → IsUndamaged l p (no_life_by e)
       undamaged not_reopened.Device is = λ at same lt pt. absurd (let q : no_lives.Device ≡ no_lives.Damaged at = same in cc)
       undamaged not_reopened.Memory is = λ at same lt pt. absurd (let q : no_lives.Memory ≡ no_lives.Damaged at = same in cc)
       undamaged (not_reopened.Unrecovered (refusals.Damaged place)) is = λ at same lt pt. no_damage kept left is.0 place (fit pt lt) ((fallen is.0 is.2).crashed lt pt) (is.4 lt)
       undamaged (not_reopened.Unrecovered refusals.NoRecord) is = λ at same lt pt. absurd (let q : no_lives.OldLog ≡ no_lives.Damaged at = same in cc)
-      undamaged (not_reopened.Unrecovered refusals.HasMultis) is = λ at same lt pt. absurd (let q : no_lives.OldLog ≡ no_lives.Damaged at = same in cc)
       undamaged (not_reopened.Unrecovered refusals.LogFault) is = λ at same lt pt. absurd (let q : no_lives.Device ≡ no_lives.Damaged at = same in cc)
       undamaged (not_reopened.Unrecovered (refusals.DiskFault lock)) is = λ at same lt pt. absurd (let q : no_lives.Device ≡ no_lives.Damaged at = same in cc)
       undamaged (not_reopened.Unrecovered refusals.Full) is = λ at same lt pt. absurd (let q : no_lives.Full ≡ no_lives.Damaged at = same in cc)
@@ -176,7 +180,7 @@ from_last kept before next n ends begun low upto from is =
 module _ {L P : Type 0} {l : logs.Ghosts L} {p : disks.Ghosts P} (s : Script) (falls : Crash → Volumes L P → Volumes L P → Type 0) where
   pub running_on : (begun : Volumes L P) (done : List LifePart) (lives : List LifeReport) (part : LifePart) (r : LifeReport) (left : Volumes L P) → IsPartTold l p s begun falls done lives part r left
       → (how : How) → part.crash ≡ Some how → (life : OpenLife L P l p) (kept : KeptLog) → HasGoneOn l p falls how kept s.banks (length s.names) left life
-      → (IsTrue p.tells → FitsLife l p r.life left.log left.xact.items kept) → IsRunning s begun falls (done ++ part ∷ []) (lives ++ r ∷ []) life
+      → (IsTrue p.tells → FitsLife l p r.life left kept) → IsRunning s begun falls (done ++ part ∷ []) (lives ++ r ∷ []) life
   running_on begun done lives part r left told how crash life kept gone fit =
       let goes = gone.goes in
       let number = goes.number in
@@ -189,7 +193,7 @@ module _ {L P : Type 0} {l : logs.Ghosts L} {p : disks.Ghosts P} (s : Script) (f
         mounted = gone.mounted;
         banks = banks;
         sessions = goes.sessions_are;
-        opened = next_is_opened kept s.banks (length s.names) gone.mounted life gone.banks_are goes (λ tells. (fit tells).unrecorded);
+        opened = next_is_opened kept s.banks (length s.names) gone.mounted life gone.banks_are goes;
         comes = comes_push s falls lives r begun told.last.mounted left gone.mounted told.last.comes told.last.ended
             (subst (λ (c : Option How). IfSome c (λ h. HasFallen l p falls h left gone.mounted)) (sym crash ∙ sym told.crash_is) gone.fallen);
         new = λ none. absurd (push_some lives r none);

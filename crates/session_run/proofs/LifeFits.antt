@@ -20,7 +20,7 @@ use Rattle.session_run.specs.Fits.{FitLife}
 
 -- A log that follows the life's list ends with the life: what stands before the list's records gave the life's begin.
 pub life_fits : {L P : Type 0} (l : logs.Ghosts L) (p : disks.Ghosts P) (start : Start) (lists : List (List Entry)) (c : Cluster) (b : Beginning) (faults : List ℕ) (closed : ClosedLife L P l) (volumes : Volumes L P)
-    → start ≡ life_from c b faults → IsLogOf start closed.log (at lists log_lock) → EndFit l p start lists volumes → FitLife l p (life_of c b closed) volumes.log volumes.xact.items
+    → start ≡ life_from c b faults → IsLogOf start closed.log (at lists log_lock) → EndFit l p start lists volumes → FitLife l p (life_of c b closed) volumes
 life_fits l p start lists c b faults closed volumes begun stands end =
     let es : List Entry = at lists log_lock in
     let follows = end.follows in (
@@ -36,6 +36,5 @@ life_fits l p start lists c b faults closed volumes begun stands end =
           flushed = stands.flushed_is ∙ sym end.flushed;
         };
         fit = end.fit;
-        unrecorded = end.unrecorded;
       },
     )

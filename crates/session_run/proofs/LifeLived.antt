@@ -22,7 +22,7 @@ use Rattle.tx_core.specs.declared.entry.Entry.{Entry}
 use Rattle.tx_core.specs.declared.entry.Start.{Start}
 use Rattle.tx_core.specs.Entries.{AreFewIds, history, recs_in}
 use Rattle.tx_core.specs.Locks.{log_lock}
-use Rattle.tx_core.specs.MultiEntries.{multi_history}
+use Rattle.tx_core.specs.MultiEntries.{AreFewMultis, multi_history}
 use Rattle.wal_core.specs.LogViews.{log_checkpoint, log_counters, log_disk, log_down, log_end, log_first, log_next, log_recs}
 use Rattle.engine_parts.specs.declared.part.Part.{Part}
 use Rattle.engine_parts.specs.Parts.{IsLogOf}
@@ -34,14 +34,14 @@ use Rattle.engine_life.specs.declared.closed.ClosedLife.{ClosedLife}
 use Rattle.engine_life.specs.Lives.{number_of}
 use Rattle.session_promise.specs.Closing as closing
 use Rattle.session_promise.specs.Told.{ToldRound, all_lines, steps_of}
-use Rattle.session_promise.proofs.FewIds.{levels_bound_ids}
+use Rattle.session_promise.proofs.FewIds.{levels_bound_ids, lines_bound_multis}
 use Rattle.session_promise.proofs.LawfulLives.{promises_make_life}
 use Rattle.session_promise.proofs.Between.{lines_of_rounds, step_lines}
 use Rattle.session_run.specs.OneLife.{life_of}
 use Rattle.session_run.specs.Parts.{HasLived, HasRun, IsTakenPart, report_of}
 use Rattle.session_run.specs.Records.{LogHolds}
 use Rattle.session_run.proofs.LogHeld.{log_holds}
-use Rattle.session_run.proofs.RoundCounts.{AreRoundsOf, few_levels, few_lines, rounds_told}
+use Rattle.session_run.proofs.RoundCounts.{AreRoundsOf, few_levels, few_lines, few_multis, rounds_told}
 
 -- the lines of the steps are those of the rounds
 pub lines_run : (ss : List Step) (rounds : List ToldRound) → filter is_round ss ≡ steps_of 1 rounds → flat_map lines_in ss ≡ all_lines rounds
@@ -54,7 +54,12 @@ asked_rounds its ss rounds told same = subst (λ cs. AreRoundsOf cs rounds) (rou
 -- so the life gave few ids
 pub ids_few : (tells : Bool) (start : Start) (lists : List (List Entry)) (n : ℕ) (its : List Item) (ss : List Step) (rounds : List ToldRound) → IsTakenPart n its → AreSteps 1 (asked_of its) ss → filter is_round ss ≡ steps_of 1 rounds
     → closing.IsOver tells start lists rounds → AreFewIds lists
-ids_few tells start lists n its ss rounds taken told same over = levels_bound_ids tells start lists rounds over (few_levels its rounds (asked_rounds its ss rounds told same) taken.levels)
+ids_few tells start lists n its ss rounds taken told same over = levels_bound_ids tells start lists rounds over (few_levels its rounds (asked_rounds its ss rounds told same) taken.takers)
+
+-- and few multixacts
+pub multis_few : (tells : Bool) (start : Start) (lists : List (List Entry)) (n : ℕ) (its : List Item) (ss : List Step) (rounds : List ToldRound) → IsTakenPart n its → AreSteps 1 (asked_of its) ss → filter is_round ss ≡ steps_of 1 rounds
+    → closing.IsOver tells start lists rounds → AreFewMultis lists
+multis_few tells start lists n its ss rounds taken told same over = lines_bound_multis tells start lists rounds over (few_multis its rounds (asked_rounds its ss rounds told same) taken.takers)
 
 -- the number of its first record
 pub number_told : {L P : Type 0} {l : logs.Ghosts L} (start : Start) (c : Cluster) (b : Beginning) (faults : List ℕ) (closed : ClosedLife L P l) (es : List Entry) → start ≡ life_from c b faults → IsLogOf start closed.log es → number_of closed ≡ b.number
@@ -67,9 +72,9 @@ number_told start c b faults closed es begun stands =
 module _ {H K L P : Type 0} {l : logs.Ghosts L} {p : disks.Ghosts P} (keep : keepers.Ghosts K) where
   -- a life that ran its part is lawful, and left its records on the log's volume
   pub life_lived : (hall : Hall H (Part L P l p) Entry Start) (host : Host L P l p) (sessions : List Session) (names : List (List ℕ)) (n : ℕ) (its : List Item) (c : Cluster) (b : Beginning) (faults : List ℕ) (first kept : K) (closed : ClosedLife L P l)
-      → IsTakenPart n its → start_of hall ≡ life_from c b faults → (r : HasRun keep hall host sessions names (asked_of its) first kept) → closing.IsOver p.tells (start_of hall) (view host.pass).seen r.rounds → closed.events ≡ history (view host.pass).seen → IsLogOf (start_of hall) closed.log (at (view host.pass).seen log_lock) → multi_history (view host.pass).seen ≡ [] → log_next closed.log < 2 ^ 64 → log_end closed.log < 2 ^ 64
+      → IsTakenPart n its → start_of hall ≡ life_from c b faults → (r : HasRun keep hall host sessions names (asked_of its) first kept) → closing.IsOver p.tells (start_of hall) (view host.pass).seen r.rounds → closed.events ≡ history (view host.pass).seen → IsLogOf (start_of hall) closed.log (at (view host.pass).seen log_lock) → closed.multis.value.events ≡ multi_history (view host.pass).seen → log_next closed.log < 2 ^ 64 → log_end closed.log < 2 ^ 64
       → HasLived p.tells c.banks its (life_of c b closed) r.steps × (IsTrue l.tells → l.images (log_disk closed.log) (l.reads (log_disk closed.log)) → LogHolds l (life_of c b closed) (log_disk closed.log))
-  life_lived hall host sessions names n its c b faults first kept closed taken begun r over told stands quiet next end =
+  life_lived hall host sessions names n its c b faults first kept closed taken begun r over told stands made next end =
       let start = start_of hall in
       let log = closed.log in
       let life : Life = life_of c b closed in
@@ -87,13 +92,14 @@ module _ {H K L P : Type 0} {l : logs.Ghosts L} {p : disks.Ghosts P} (keep : kee
         base = sym base;
         committed = sym (ap (λ t. t.committed) begun);
         events = told;
-        multis = (quiet, refl);
+        recorded = sym (ap (λ t. t.recorded) begun);
+        multis = made;
         recs = stands.recs_are;
         flushed = stands.flushed_is;
         steps = r.rounds_are;
       } in
       let lawful : (crash : Option How) → IsLawfulLife p.tells start.banks (asked_of its) (report_of life r.steps crash)
-      = λ crash. promises_make_life p.tells start (view host.pass).seen r.rounds (asked_of its) (report_of life r.steps crash) begins over (few_levels its r.rounds commands taken.levels) r.told r.dumps r.checkpoints (report crash) numbers end in (
+      = λ crash. promises_make_life p.tells start (view host.pass).seen r.rounds (asked_of its) (report_of life r.steps crash) begins over (few_levels its r.rounds commands taken.takers) (few_multis its r.rounds commands taken.takers) r.told r.dumps r.checkpoints (report crash) numbers end in (
         record {
           lawful = λ crash. subst (λ k. IsLawfulLife p.tells k (asked_of its) (report_of life r.steps crash)) (ap (λ t. t.banks) begun) (lawful crash);
           few = subst (λ (ls : List Line). length ls ≤ 2 ^ 24) (sym (lines_run r.steps r.rounds r.rounds_are)) few;

@@ -18,8 +18,8 @@ use Rattle.session_lang.specs.declared.script.Item.{Item}
 use Rattle.session_lang.specs.declared.script.Script.{Script}
 use Rattle.run_law.specs.Lives.{AreLivesBefore, AreRunLives, IsFirstPart, LifePart, last_text, parts_of, text_so_far}
 use Rattle.run_law.specs.Tool.{IsReportOf}
-use Rattle.run_law.specs.Turns.{HasFewLevels, MayStand}
-use Rattle.run_law.proofs.Lives.{last_part, next_parts, part_runs, parts_levels, parts_shorter, parts_some, rest_shorter}
+use Rattle.run_law.specs.Turns.{HasFewTakers, MayStand}
+use Rattle.run_law.proofs.Lives.{last_part, next_parts, part_runs, parts_takers, parts_shorter, parts_some, rest_shorter}
 use Rattle.tx_io.specs.Causes.{Rose}
 use Rattle.engine_life.specs.declared.life.OpenLife.{OpenLife}
 use Rattle.engine_life.specs.declared.refusal.NoLife.{NoLife}
@@ -109,7 +109,7 @@ module _ {L P : Type 0} {l : logs.Ghosts L} {p : disks.Ghosts P} (s : Script) (f
     pub wrote : Appends held held' (text_so_far s.names lives)
     pub stand : All (MayStand (length s.names)) items
     pub short : number + length items ≤ length s.items + 1
-    pub levels : HasFewLevels items
+    pub takers : HasFewTakers items
 
   -- before the first life
   pub come_first : (held : Option (List ℕ)) (volumes : Volumes L P) (life : OpenLife L P l p) → IsTaken s → first s.banks volumes → IsNewLife (cluster_of s) volumes life → HasCome held held s.items 1 life
@@ -124,7 +124,7 @@ module _ {L P : Type 0} {l : logs.Ghosts L} {p : disks.Ghosts P} (s : Script) (f
     wrote = Appends-nil held;
     stand = taken.runnable.items;
     short = omega arith;
-    levels = taken.few;
+    takers = taken.few;
   }
 
   module _ (held mid : Option (List ℕ)) (items : List Item) (number : ℕ) (life : OpenLife L P l p) (h : HasCome held mid items number life)
@@ -138,7 +138,7 @@ module _ {L P : Type 0} {l : logs.Ghosts L} {p : disks.Ghosts P} (s : Script) (f
         record {
           items = (part_runs (length s.names) items its crash rest f h.stand).0;
           few = omega (arith, part, few, count, short);
-          levels = (parts_levels items its crash rest f h.levels).0;
+          takers = (parts_takers items its crash rest f h.takers).0;
         }
 
     pub number_small : IsTaken s → number ≤ 2 ^ 24 + 1
@@ -190,7 +190,7 @@ module _ {L P : Type 0} {l : logs.Ghosts L} {p : disks.Ghosts P} (s : Script) (f
             wrote = wrote how some more;
             stand = (part_runs (length s.names) items its crash rest f h.stand).1;
             short = omega (arith, short, fewer);
-            levels = (parts_levels items its crash rest f h.levels).1;
+            takers = (parts_takers items its crash rest f h.takers).1;
           }
 
       -- it crashed, and no life goes on

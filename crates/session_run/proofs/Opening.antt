@@ -1,10 +1,10 @@
 -- A life over a new log, and one that goes on from an earlier one, are open to a part of a script.
-use Rattle.std.proofs.Common.{Bool, IsTrue, List, [], cond, false, refl, subst, sym, true, ℕ, ◌∙◌, ◌≡◌}
+use Rattle.std.proofs.Common.{subst, sym, ℕ, ◌∙◌}
 use Rattle.disk_core.specs.declared.log_disk.LogDisk as logs
 use Rattle.disk_core.specs.declared.page_disk.PageDisk as disks
 use Rattle.disk_core.specs.declared.media.Volumes.{Volumes}
 use Rattle.disk_core.specs.Media.{HasBanks}
-use Rattle.recoverable.specs.Fit.{KeptLog, base_at}
+use Rattle.recoverable.specs.Fit.{KeptLog}
 use Rattle.engine_host.specs.declared.cluster.Cluster.{Cluster}
 use Rattle.engine_host.specs.Opening.{nothing_before}
 use Rattle.engine_life.specs.declared.life.OpenLife.{OpenLife}
@@ -13,10 +13,6 @@ use Rattle.engine_life.specs.NextLives.{GoesOnLife}
 use Rattle.engine_life.specs.Reopening.{behind}
 use Rattle.session_run.specs.OneLife.{IsOpened}
 
-none_if : {X : Type 0} (told : Bool) (xs : List X) → (IsTrue told → xs ≡ []) → cond told xs [] ≡ []
-none_if true xs none = none refl
-none_if false xs none = refl
-
 module _ {L P : Type 0} {l : logs.Ghosts L} {p : disks.Ghosts P} where
   pub new_is_opened : (c : Cluster) (volumes : Volumes L P) (life : OpenLife L P l p) → (new : IsNewLife c volumes life) → IsOpened c nothing_before new.faults volumes life
   new_is_opened c volumes life new = record {
@@ -24,16 +20,13 @@ module _ {L P : Type 0} {l : logs.Ghosts L} {p : disks.Ghosts P} where
     counted = new.counted;
     begun = new.begun;
     right = λ told. new.right;
-    unrecorded = refl;
   }
 
-  -- where the volumes tell, no base that its log may give has a multixact
-  pub next_is_opened : (kept : KeptLog) (banks sessions : ℕ) (volumes : Volumes L P) (life : OpenLife L P l p) → HasBanks banks volumes → (goes : GoesOnLife kept sessions volumes life) → (IsTrue p.tells → (n : ℕ) → (base_at kept n).recorded ≡ [])
+  pub next_is_opened : (kept : KeptLog) (banks sessions : ℕ) (volumes : Volumes L P) (life : OpenLife L P l p) → HasBanks banks volumes → (goes : GoesOnLife kept sessions volumes life)
       → IsOpened goes.cluster (behind p.tells kept goes.number) goes.faults volumes life
-  next_is_opened kept banks sessions volumes life has goes none = record {
+  next_is_opened kept banks sessions volumes life has goes = record {
     banks = subst (λ n. HasBanks n volumes) (sym (goes.banks ∙ has.xact)) has;
     counted = goes.counted;
     begun = goes.begun;
     right = goes.right;
-    unrecorded = none_if p.tells (base_at kept goes.number).recorded (λ told. none told goes.number);
   }

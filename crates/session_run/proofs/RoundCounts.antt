@@ -13,13 +13,14 @@ use Rattle.tx_model.specs.Asked as asked
 use Rattle.tx_model.specs.Asked.{Asked, round_in, rounds_in}
 use Rattle.tx_model.specs.Rounds.{AreSteps, is_round}
 use Rattle.tx_model.specs.Lines.{AreLinesOf, grouped, turn_of}
-use Rattle.life_law.specs.Commands.{makes_level}
+use Rattle.life_law.specs.Commands.{makes_multi}
 use Rattle.session_lang.specs.declared.script.Item.{Item}
 use Rattle.session_lang.specs.Rounds.{asked_of, rounds_of}
 use Rattle.session_lang.proofs.Asking.{rounds_asked}
-use Rattle.run_law.specs.Turns.{turns_in}
+use Rattle.run_law.specs.Turns.{HasFewTakers, takes_number, turns_in}
 use Rattle.run_law.proofs.AllTurns.{Turns, all_turns, grouped_count, turns_of_all}
 use Rattle.run_law.proofs.PartSums.{count_join}
+use Rattle.run_law.proofs.Takers.{levels_take, multis_take}
 use Rattle.script_rounds.proofs.RoundLemmas.{grouped_short, turns_short}
 use Rattle.session_promise.specs.Promise.{is_made_level}
 use Rattle.session_promise.specs.Told.{ToldRound, all_lines, steps_of, told_by}
@@ -69,13 +70,21 @@ module _ (f : ℕ × Command → Bool) where
   lines_fewer [] (r ∷ rounds) a = absurd a
   lines_fewer (turns ∷ commands) [] a = absurd a
 
--- few of the script's commands make levels: then so few lines
-pub few_levels : (script : List Item) (rounds : List ToldRound) → AreRoundsOf (rounds_of script) rounds → count_by (λ (t : ℕ × Command). makes_level t.1) (turns_in script) < 2900000 → count_by is_made_level (all_lines rounds) < 2900000
-few_levels script rounds a few =
-    let size = length-filter is_made_level (all_lines rounds) in
-    let less = lines_fewer (λ (t : ℕ × Command). makes_level t.1) (rounds_of script) rounds a in
-    let same = ap (count_by (λ (t : ℕ × Command). makes_level t.1)) (all_turns script) in
+-- few of the script's commands take a number: then so few lines
+few_takers : (script : List Item) (rounds : List ToldRound) → AreRoundsOf (rounds_of script) rounds → HasFewTakers script → count_by (λ (l : Line). takes_number l.command) (all_lines rounds) < 2900000
+few_takers script rounds a few =
+    let size = length-filter (λ (l : Line). takes_number l.command) (all_lines rounds) in
+    let less = lines_fewer (λ (t : ℕ × Command). takes_number t.1) (rounds_of script) rounds a in
+    let same = ap (count_by (λ (t : ℕ × Command). takes_number t.1)) (all_turns script) in
     omega (arith, size, less, same, few)
+
+-- so few of them make levels
+pub few_levels : (script : List Item) (rounds : List ToldRound) → AreRoundsOf (rounds_of script) rounds → HasFewTakers script → count_by is_made_level (all_lines rounds) < 2900000
+few_levels script rounds a few = let all = few_takers script rounds a few in let less = levels_take (λ (l : Line). l.command) (all_lines rounds) in omega (arith, all, less)
+
+-- and so few multixacts
+pub few_multis : (script : List Item) (rounds : List ToldRound) → AreRoundsOf (rounds_of script) rounds → HasFewTakers script → count_by (λ (l : Line). makes_multi l.command) (all_lines rounds) < 2900000
+few_multis script rounds a few = let all = few_takers script rounds a few in let less = multis_take (λ (l : Line). l.command) (all_lines rounds) in omega (arith, all, less)
 
 -- no more lines than commands
 pub lines_short : (commands : List Turns) (rounds : List ToldRound) → AreRoundsOf commands rounds → length (all_lines rounds) ≤ length (turns_of_all commands)

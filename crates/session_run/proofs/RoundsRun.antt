@@ -22,8 +22,6 @@ use Rattle.script_rounds.specs.declared.keeper.LineKeeper as keepers
 use Rattle.tx_core.specs.declared.entry.Entry.{Entry}
 use Rattle.tx_core.specs.declared.entry.Start.{Start}
 use Rattle.tx_core.specs.Entries.{history}
-use Rattle.tx_core.specs.Locks.{multi_lock}
-use Rattle.tx_core.specs.MultiEntries.{multi_history, multis_in}
 use Rattle.engine_parts.specs.declared.part.Part.{Part}
 use Rattle.engine_parts.specs.declared.session.Session.{Session}
 use Rattle.engine_host.specs.declared.cluster.Cluster.{Cluster}
@@ -37,7 +35,6 @@ use Rattle.session_promise.specs.Checkpoints.{AreCheckpointsTold, WentCheckpoint
 use Rattle.session_promise.specs.Dumps.{AreDumpsTold, IsStepTold}
 use Rattle.session_promise.specs.SoFar.{IsSoFar}
 use Rattle.session_promise.specs.Told.{ToldRound, steps_of}
-use Rattle.session_promise.proofs.NoMultis.{no_multis_so_far}
 use Rattle.session_promise.proofs.CheckpointsStay.{checkpoint_goes_on, checkpoints_begin, checkpoints_stay_dump, dumps_stay_checkpoint, so_far_checkpoint}
 use Rattle.session_promise.proofs.LawfulDumps.{dumps_stay}
 use Rattle.session_lang.specs.declared.script.Item.{Item}
@@ -59,13 +56,6 @@ get_session [] n d l = absurd (omega arith)
 get_session (x ∷ xs) zero d l = refl
 get_session (x ∷ xs) (suc n) d l = get_session xs n d (omega arith)
 
--- Where there is a session, it is home, and the lists that the host has seen keep the invariant: no multixact was touched.
-module _ {H L P : Type 0} {l : logs.Ghosts L} {p : disks.Ghosts P} where
-  pub quiet_home : (hall : Hall H (Part L P l p) Entry Start) (host : Host L P l p) (sessions : List Session) (rounds : List ToldRound) → 1 ≤ length sessions → GoesOn hall host sessions rounds → multi_history (view host.pass).seen ≡ []
-  quiet_home hall host [] rounds some g = absurd (omega (arith, some))
-  quiet_home hall host (s ∷ ss) rounds some g =
-      no_multis_so_far p.tells (start_of hall) (view host.pass).seen (s ∷ ss) rounds g.so_far (g.home.parked 0 s (omega arith)).may.ready.at.kept
-
 module _ {H K L P : Type 0} {l : logs.Ghosts L} {p : disks.Ghosts P} (keep : keepers.Ghosts K) where
   -- before the first round
   pub ran_none : (hall : Hall H (Part L P l p) Entry Start) (host : Host L P l p) (sessions : List Session) (names : List (List ℕ)) (kept : K) → GoesOn hall host sessions [] → HasSeenNothing host → HasRun keep hall host sessions names [] kept kept
@@ -79,13 +69,12 @@ module _ {H K L P : Type 0} {l : logs.Ghosts L} {p : disks.Ghosts P} (keep : kee
     checkpoints = checkpoints_begin (start_of hall) (view host.pass).seen unseen;
     faults = counted_first (start_of hall) (view host.pass).seen unseen;
     built = tt;
-    quiet = ap multis_in (unseen multi_lock);
     kept_is = refl;
   }
 
   -- behind one more
-  pub ran_more : (hall : Hall H (Part L P l p) Entry Start) (before after : Host L P l p) (old new : List Session) (names : List (List ℕ)) (rounds : ℕ) (turns : Turns) (all : List Asked) (first kept mid kept' : K) (lines : List Line) → length (rounds_in all) ≡ rounds → mid ≡ keep.with_round kept (rounds + 1) → Grows (view before.pass).seen (view after.pass).seen → (r : HasRun keep hall before old names all first kept) → HasRoundMore hall turns before after new r.rounds lines → kept' ≡ keep.with_lines names mid lines → 1 ≤ length new → HasRun keep hall after new names (all ++ asked.round turns ∷ []) first kept'
-  ran_more hall before after old new names rounds turns all first kept mid kept' lines count begun grows r m more some =
+  pub ran_more : (hall : Hall H (Part L P l p) Entry Start) (before after : Host L P l p) (old new : List Session) (names : List (List ℕ)) (rounds : ℕ) (turns : Turns) (all : List Asked) (first kept mid kept' : K) (lines : List Line) → length (rounds_in all) ≡ rounds → mid ≡ keep.with_round kept (rounds + 1) → Grows (view before.pass).seen (view after.pass).seen → (r : HasRun keep hall before old names all first kept) → HasRoundMore hall turns before after new r.rounds lines → kept' ≡ keep.with_lines names mid lines → HasRun keep hall after new names (all ++ asked.round turns ∷ []) first kept'
+  ran_more hall before after old new names rounds turns all first kept mid kept' lines count begun grows r m more =
       let step : Step = steps.Round (rounds + 1) m.round.lines in
       let many = as_many (rounds_in all) r.rounds (rounds_told 1 all r.steps r.rounds r.told r.rounds_are) in
       let number : 1 + length r.rounds ≡ rounds + 1 = omega (arith, count, many) in record {
@@ -99,7 +88,6 @@ module _ {H K L P : Type 0} {l : logs.Ghosts L} {p : disks.Ghosts P} (keep : kee
         checkpoints = m.checkpoints r.steps (rounds + 1) r.checkpoints;
         faults = counted_on (start_of hall) (view before.pass).seen (view after.pass).seen r.steps step grows refl r.faults;
         built = built_on (start_of hall).banks r.steps step refl r.built;
-        quiet = quiet_home hall after new (r.rounds ++ m.round ∷ []) some m.then;
         kept_is =
             more ∙ ap (keep.with_lines names mid) m.lines_are
             ∙ ap (λ z. keep.with_lines names z m.round.lines) (begun ∙ ap (λ z. keep.with_round z (rounds + 1)) r.kept_is)
@@ -132,7 +120,6 @@ module _ {H K L P : Type 0} {l : logs.Ghosts L} {p : disks.Ghosts P} (keep : kee
         checkpoints = subst (λ seen. AreCheckpointsTold start seen r.rounds (r.steps ++ step ∷ [])) (sym stays.seen) (checkpoints_stay_dump start lists r.rounds r.steps what from size reply r.checkpoints);
         faults = subst (λ seen. AreCheckpointsCounted start seen (r.steps ++ step ∷ [])) (sym stays.seen) (counted_on start lists lists r.steps step (grows_same lists) refl r.faults);
         built = built_on start.banks r.steps step refl r.built;
-        quiet = ap multi_history stays.seen ∙ r.quiet;
         kept_is = put ∙ ap (λ z. keep.with_step names z step) r.kept_is ∙ sym (kept_push keep names first r.steps step);
       }
 
@@ -154,7 +141,6 @@ module _ {H K L P : Type 0} {l : logs.Ghosts L} {p : disks.Ghosts P} (keep : kee
         checkpoints = checkpoint_goes_on p.tells start was is sessions r.rounds r.steps reply r.goes_on.so_far went r.rounds_are r.checkpoints;
         faults = counted_checkpoint start was is r.steps reply went.grows (λ failed e. (cause failed e).risen) r.faults;
         built = built_checkpoint start.banks r.steps reply (λ failed e. (cause failed e).built) r.built;
-        quiet = no_multis_so_far p.tells start is sessions r.rounds (so_far_checkpoint p.tells start was is sessions r.rounds reply r.goes_on.so_far went) went.kept;
         kept_is = put ∙ ap (λ z. keep.with_step names z step) r.kept_is ∙ sym (kept_push keep names first r.steps step);
       }
 

@@ -18,7 +18,7 @@ use Rattle.engine_life.specs.Refusals.{IsOfVolumes}
 use Rattle.tx_io.specs.Causes.{Rose}
 use Rattle.session_run.specs.declared.ending.Ending.{Ending}
 use Rattle.session_run.specs.declared.ending.Ending.TheVariants as endings
-use Rattle.session_run.specs.declared.task.Task.{Task}
+use Rattle.script_gen.specs.declared.task.Task.{Task}
 use Rattle.session_run.specs.Leaves.{LeavesVolumes}
 use Rattle.session_run.specs.Tool.{Ends, HasMounted, HasWritten, IsMemoryLast, IsTask, IsUnread, IsUnrun, IsUnrunBy, IsWholeSummary, TellsRefusal, TellsStop, damage_text, status_of, text_of, unread_by}
 use Rattle.session_run.specs.declared.stop.Stopped.{Stopped}

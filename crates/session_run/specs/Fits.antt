@@ -1,14 +1,15 @@
 -- What a later life goes on from.
-use Rattle.std.specs.Prelude.{◌≡◌, ℕ, ◌+◌, List, [], ◌∷◌, ◌++◌, IsTrue, length}
+use Rattle.std.specs.Prelude.{◌≡◌, ℕ, ◌+◌, List, ◌∷◌, ◌++◌, IsTrue, length}
 use Rattle.disk_core.specs.declared.log_disk.LogDisk as logs
 use Rattle.disk_core.specs.declared.page_disk.PageDisk as disks
+use Rattle.disk_core.specs.declared.media.Volumes.{Volumes}
 use Rattle.tx_events.specs.declared.record.Rec.{Rec}
 use Rattle.tx_events.specs.declared.record.Rec.TheVariants as records
 use Rattle.tx_model.specs.declared.report.Life.{Life}
 use Rattle.log_bases.specs.LifeBase.{base_after}
 use Rattle.lives_law.specs.Lives.{base_of}
-use Rattle.recoverable.specs.Clusters.{Fit}
-use Rattle.recoverable.specs.Fit.{KeptLog, base_at}
+use Rattle.recoverable.specs.Fit.{KeptLog}
+use Rattle.engine_life.specs.Lives.{FitsLog}
 
 -- The log that volumes fit at a life's end has the records last that stand behind the life's checkpoint, and what stands
 -- before them gives its base. All that the life's report tells as flushed is.
@@ -23,16 +24,15 @@ pub record EndsWithLife (life : Life) (kept : KeptLog) : Type 0 where
 
 module _ {L P : Type 0} (l : logs.Ghosts L) (p : disks.Ghosts P) where
   -- The volumes fit such a log: whatever a crash leaves of them, recovery answers the base at a number of it, from the
-  -- flushed one to its end. None of these bases has a multixact.
-  pub record FitsLife (life : Life) (log : L) (states : List P) (kept : KeptLog) : Type 0 where
+  -- flushed one to its end.
+  pub record FitsLife (life : Life) (volumes : Volumes L P) (kept : KeptLog) : Type 0 where
     pub ends : EndsWithLife life kept
-    pub fit : Fit l p kept log states
-    pub unrecorded : (n : ℕ) → (base_at kept n).recorded ≡ []
+    pub fit : FitsLog l p kept volumes
 
   -- there is such a log
-  abbrev pub FitLife : Life → L → List P → Type 0
-  FitLife life log states = (kept : KeptLog) × FitsLife life log states kept
+  abbrev pub FitLife : Life → Volumes L P → Type 0
+  FitLife life volumes = (kept : KeptLog) × FitsLife life volumes kept
 
   -- where both tell what they hold
-  abbrev pub FitWhereTold : Life → L → List P → KeptLog → Type 0
-  FitWhereTold life log states kept = IsTrue p.tells → IsTrue l.tells → FitsLife life log states kept
+  abbrev pub FitWhereTold : Life → Volumes L P → KeptLog → Type 0
+  FitWhereTold life volumes kept = IsTrue p.tells → IsTrue l.tells → FitsLife life volumes kept

@@ -30,7 +30,7 @@ module _ {L P : Type 0} (l : logs.Ghosts L) (p : disks.Ghosts P) where
     pub log : IsTrue l.tells → LogHolds l r.life left.log
     pub states : IsTrue p.tells → (bank : ℕ) → bank < length mounted.xact.items
         → BankHolds p r.life (length mounted.xact.items) bank left.xact.items
-    pub fit : IsTrue p.tells → IsTrue l.tells → FitLife l p r.life left.log left.xact.items
+    pub fit : IsTrue p.tells → IsTrue l.tells → FitLife l p r.life left
 
 module _ {L P : Type 0} (l : logs.Ghosts L) (p : disks.Ghosts P) (falls : Crash → Volumes L P → Volumes L P → Type 0) where
   -- The crash made these volumes of those. If they tell what they hold, each is one of its images then.

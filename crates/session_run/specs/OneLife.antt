@@ -1,5 +1,5 @@
 -- How a life is opened that runs a part of a script, and what it leaves.
-use Rattle.std.specs.Prelude.{◌≡◌, ℕ, ◌-◌, ◌<◌, IsTrue, List, []}
+use Rattle.std.specs.Prelude.{◌≡◌, ℕ, ◌-◌, ◌<◌, IsTrue, List}
 use Rattle.disk_core.specs.declared.log_disk.LogDisk as logs
 use Rattle.disk_core.specs.declared.page_disk.PageDisk as disks
 use Rattle.disk_core.specs.declared.media.Volumes.{Volumes}
@@ -24,14 +24,13 @@ use Rattle.session_run.specs.Parts.{HasLived, with_steps}
 use Rattle.session_run.specs.Records.{BankHolds, LogHolds}
 
 module _ {L P : Type 0} {l : logs.Ghosts L} {p : disks.Ghosts P} where
-  -- The life began so over these volumes, at counts of faults that aren't below theirs. It knows of no multixact from
-  -- before it. Where the volumes tell what they hold, its base is one from which a life may start.
+  -- The life began so over these volumes, at counts of faults that aren't below theirs. Where the volumes tell what they
+  -- hold, its base is one from which a life may start.
   pub record IsOpened (c : Cluster) (b : Beginning) (faults : List ℕ) (volumes : Volumes L P) (life : OpenLife L P l p) : Type 0 where
     pub banks : HasBanks c.banks volumes
     pub counted : AreCounted l p volumes.log (banks_of volumes) faults
     pub begun : IsBegun c (life_from c b faults) life
     pub right : IsTrue p.tells → BeganRight (life_from c b faults)
-    pub unrecorded : b.recorded ≡ []
 
   -- it is one of so many sessions
   pub record MayRunIn (sessions : ℕ) (life : OpenLife L P l p) : Type 0 where
@@ -44,11 +43,11 @@ module _ {L P : Type 0} {l : logs.Ghosts L} {p : disks.Ghosts P} where
 
 -- the life that started so and left this
 abbrev pub life_over : {L P : Type 0} → {l : logs.Ghosts L} → Start → ClosedLife L P l → Life
-life_over start closed = life_told (start.from - 1) start.base start.committed start.recorded closed.events closed.log
+life_over start closed = life_told (start.from - 1) start.base start.committed start.recorded closed.events closed.multis.value.events closed.log
 
 -- the life that began so and left this
 abbrev pub life_of : {L P : Type 0} → {l : logs.Ghosts L} → Cluster → Beginning → ClosedLife L P l → Life
-life_of c b closed = life_told b.number c.base b.committed b.recorded closed.events closed.log
+life_of c b closed = life_told b.number c.base b.committed b.recorded closed.events closed.multis.value.events closed.log
 
 module _ {L P : Type 0} (l : logs.Ghosts L) (p : disks.Ghosts P) where
   -- What a closed life leaves on its volumes, where it began so over those that were mounted: as many of each kind, each of
@@ -60,7 +59,7 @@ module _ {L P : Type 0} (l : logs.Ghosts L) (p : disks.Ghosts P) where
         → BankHolds p (life_of c b closed) c.banks bank (volumes_left closed).xact.items
     pub same : HaveSameBanks mounted (volumes_left closed)
     pub fit : IsTrue p.tells → IsTrue l.tells
-        → FitLife l p (life_of c b closed) (log_disk closed.log) (volumes_left closed).xact.items
+        → FitLife l p (life_of c b closed) (volumes_left closed)
     pub causes : HaveCauses l p steps mounted (volumes_left closed)
 
 module _ {K L P : Type 0} (l : logs.Ghosts L) (p : disks.Ghosts P) (k : keepers.Ghosts K) where

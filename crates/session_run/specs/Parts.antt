@@ -16,11 +16,10 @@ use Rattle.tx_model.specs.Rounds.{AreSteps, is_round, lines_in}
 use Rattle.life_law.specs.LawfulLife.{IsLawfulLife}
 use Rattle.session_lang.specs.declared.script.Item.{Item}
 use Rattle.session_lang.specs.Rounds.{asked_of}
-use Rattle.run_law.specs.Turns.{HasFewLevels, MayRun}
+use Rattle.run_law.specs.Turns.{HasFewTakers, MayRun}
 use Rattle.script_rounds.specs.declared.keeper.LineKeeper as keepers
 use Rattle.tx_core.specs.declared.entry.Entry.{Entry}
 use Rattle.tx_core.specs.declared.entry.Start.{Start}
-use Rattle.tx_core.specs.MultiEntries.{multi_history}
 use Rattle.engine_parts.specs.declared.part.Part.{Part}
 use Rattle.engine_parts.specs.declared.session.Session.{Session}
 use Rattle.engine_host.specs.declared.host.Host.{Host}
@@ -34,7 +33,7 @@ use Rattle.session_run.specs.GoesOn.{GoesOn}
 pub record IsTakenPart (sessions : ℕ) (its : List Item) : Type 0 where
   pub items : All (MayRun sessions) its
   pub few : length its ≤ 2 ^ 24
-  pub levels : HasFewLevels its
+  pub takers : HasFewTakers its
 
 module _ {K : Type 0} (k : keepers.Ghosts K) where
   -- what is kept with these steps more
@@ -46,7 +45,7 @@ module _ {K : Type 0} (k : keepers.Ghosts K) where
 
 module _ {H K L P : Type 0} {l : logs.Ghosts L} {p : disks.Ghosts P} (k : keepers.Ghosts K) where
   -- The life goes on behind what was asked of it so far: its steps are the rounds, the dumps and the checkpoints of that,
-  -- and they were kept behind what was kept first. No multixact was touched.
+  -- and they were kept behind what was kept first.
   pub record HasRun (hall : Hall H (Part L P l p) Entry Start) (host : Host L P l p) (sessions : List Session)
       (names : List (List ℕ)) (asked : List Asked) (first kept : K) : Type 0 where
     pub rounds : List ToldRound
@@ -58,7 +57,6 @@ module _ {H K L P : Type 0} {l : logs.Ghosts L} {p : disks.Ghosts P} (k : keeper
     pub checkpoints : AreCheckpointsTold (start_of hall) (view host.pass).seen rounds steps
     pub faults : AreCheckpointsCounted (start_of hall) (view host.pass).seen steps
     pub built : AreOfBuilt (start_of hall).banks steps
-    pub quiet : multi_history (view host.pass).seen ≡ []
     pub kept_is : kept ≡ with_steps k names first steps
 
   -- behind so many rounds it has done this more

@@ -2,14 +2,14 @@
 use Rattle.std.specs.Prelude.{◌≤◌, length}
 use Rattle.std.specs.List.{All}
 use Rattle.session_lang.specs.declared.script.Script.{Script}
-use Rattle.run_law.specs.Turns.{HasFewLevels, IsRunnable, MayRun}
+use Rattle.run_law.specs.Turns.{HasFewTakers, IsRunnable, MayRun}
 use Rattle.engine_host.specs.declared.cluster.Cluster.{Cluster}
 
 -- a script that a new cluster can run
 pub record IsTaken (s : Script) : Type 0 where
   pub runnable : IsRunnable s
   pub banks : (1 ≤ s.banks) × (s.banks ≤ 16)
-  pub few : HasFewLevels s.items
+  pub few : HasFewTakers s.items
 
 -- and without a crash, in one life
 pub record IsTakenAlone (s : Script) : Type 0 where

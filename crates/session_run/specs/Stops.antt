@@ -31,7 +31,6 @@ use Rattle.session_run.specs.Runs.{cluster_of}
 abbrev pub unrecovered_by : RecoverRefusal → NoLife
 unrecovered_by (refusals.Damaged at) = no_lives.Damaged at
 unrecovered_by refusals.NoRecord = no_lives.OldLog
-unrecovered_by refusals.HasMultis = no_lives.OldLog
 unrecovered_by refusals.LogFault = no_lives.Device
 unrecovered_by (refusals.DiskFault lock) = no_lives.Device
 unrecovered_by refusals.Full = no_lives.Full

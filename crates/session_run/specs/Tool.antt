@@ -12,9 +12,10 @@ use Rattle.session_lang.specs.declared.script.Script.{Script}
 use Rattle.run_law.specs.Lives.{AreLivesBefore, text_so_far}
 use Rattle.run_law.specs.Tool.{IsAnswer, IsNoScript, IsRun}
 use Rattle.script_gen.specs.Generated.{generated}
-use Rattle.script_gen.specs.Laws.{most_transactions}
+use Rattle.script_gen.specs.declared.task.Task.{Task}
+use Rattle.script_gen.specs.declared.task.Task.TheVariants as tasks
 use Rattle.script_gen.specs.Summaries.{IsSummaryOf}
-use Rattle.script_gen.specs.Words.{IsGen}
+pub use Rattle.script_gen.specs.Tasks.{IsAccepted, IsSized, IsTask}
 use Rattle.tx_io.specs.Causes.{Rose}
 use Rattle.script_source.specs.declared.script.NoScript.{NoScript}
 use Rattle.script_source.specs.declared.script.NoScript.TheVariants as no_scripts
@@ -25,26 +26,10 @@ use Rattle.session_run.specs.declared.ending.Ending.{Ending}
 use Rattle.session_run.specs.declared.ending.Ending.TheVariants as endings
 use Rattle.session_run.specs.declared.stop.Stopped.{Stopped}
 use Rattle.session_run.specs.declared.stop.Stopped.TheVariants as stops
-use Rattle.session_run.specs.declared.task.Task.{Task}
-use Rattle.session_run.specs.declared.task.Task.TheVariants as tasks
 use Rattle.session_run.specs.Leaves.{LeavesVolumes}
 use Rattle.session_run.specs.Stops.{IsUnwritten, Stops}
 
 -- ---- what is asked for
-
--- the words ask for it
-abbrev pub IsTask : List (List ℕ) → Task → Type 0
-IsTask words tasks.Run = IsRun words
-IsTask words (tasks.Gen seed size) = IsGen words seed size
-
--- the words are accepted: they ask for something
-abbrev pub IsAccepted : List (List ℕ) → Type 0
-IsAccepted words = (task : Task) × IsTask words task
-
--- it asks for no more transactions than a run takes
-abbrev pub IsSized : Task → Type 0
-IsSized tasks.Run = Unit {0}
-IsSized (tasks.Gen seed size) = size ≤ most_transactions
 
 -- This is its script: that of the source, which was read to its end, or the generated one, for which nothing is read.
 abbrev pub IsScriptOf : Task → Option (List ℕ) → Option (List ℕ) → Script → Type 0

@@ -1,21 +1,26 @@
 //! The commands of a session over the lock table.
-ghost use Rattle.std.specs.Prelude.{◌≡◌, Bool, IsTrue, true};
+ghost use Rattle.std.specs.Prelude.{◌≡◌, Bool, IsTrue};
 ghost use Rattle.tx_model.specs.declared.reply.Reply.TheVariants as replies;
 ghost use Rattle.engine_parts.specs.Answers.{reply_of};
 ghost use Rattle.engine_parts.specs.Calls.{MayRun, Ran, next_command};
-ghost use Rattle.run_law.specs.Turns.{has_command};
+ghost use Rattle.run_law.specs.Turns.{MayAsk};
 ghost use Rattle.life_law.specs.Replies.{is_told_verdict};
 ghost use Rattle.xact_writes.specs.Writes.{reply_to};
+ghost use Rattle.multi_makes.specs.Makes.{given_reply};
+ghost use Rattle.session_run.specs.Turns.{IsMade, IsRaised, IsTrimmed};
 
 use disk_core::{LogDisk, PageDisk};
 use engine_parts::{Caller, EngineLaw, Passing};
 use hall::Hall;
+use multi_freezes::{multi_freeze, trim};
+use multi_makes::multi;
+use multi_store::MultiGiven;
 use std::alloc::Global;
-use tx_model::{Command, Refusal, Reply, SnapData, Status};
+use tx_model::{Command, Refusal, Reply, SnapData, Status, VerdictList};
 use xact_ends::{abort, commit, undo};
 use xact_engine::{begin, drop_snap, release, save, snap};
 use xact_freezes::freeze;
-use xact_reads::{did, horizon, see, status};
+use xact_reads::{did, horizon, see, see_multi, status};
 use xact_writes::{Wrote, write};
 
 // The reply of a command that says no more than that it is done.
@@ -78,6 +83,34 @@ fn told(answer: Result<bool, Refusal>) -> Reply
     }
 }
 
+// That of a new multixact.
+fn given(answer: Result<MultiGiven, Refusal>) -> Reply
+    ensures { result ≡ reply_of given_reply answer }
+{
+    match answer {
+        Ok(MultiGiven {
+            multi,
+            offset,
+            warn,
+        }) => Reply::Multi {
+            multi,
+            offset,
+            warn,
+        },
+        Err(refusal) => Reply::Refused { refusal },
+    }
+}
+
+// That of a look at a multixact's members.
+fn judged(answer: Result<VerdictList, Refusal>) -> Reply
+    ensures { result ≡ reply_of replies.Verdicts answer }
+{
+    match answer {
+        Ok(verdicts) => Reply::Verdicts { verdicts },
+        Err(refusal) => Reply::Refused { refusal },
+    }
+}
+
 /// Runs the session's next command, and answers its reply. `banks` is the number of banks of each store, 1 to 16. The
 /// session has run fewer than 2^48 commands. Want of memory that the command met is its reply too.
 pub fn run_command<R: Passing, L: LogDisk, P: PageDisk>(
@@ -88,10 +121,13 @@ pub fn run_command<R: Passing, L: LogDisk, P: PageDisk>(
     alloc: Global,
     command: &Command,
 ) -> Reply
-    requires has { has_command command.now ≡ true }
+    requires ask { MayAsk command.now }
     requires may { MayRun hall.now banks caller.old }
     ensures ran { Ran hall.now (next_command caller.old) command.now result caller.old caller.new }
     ensures verdict { (verdict : Bool) → result ≡ replies.Seen verdict → IsTrue (is_told_verdict command.now) }
+    ensures made { IsMade hall.now caller.old caller.new command.now result }
+    ensures trimmed { IsTrimmed hall.now caller.old caller.new command.now result }
+    ensures raised { IsRaised hall.now caller.old caller.new command.now result }
 {
     match command {
         Command::Begin => done(begin(hall, caller)),
@@ -110,6 +146,11 @@ pub fn run_command<R: Passing, L: LogDisk, P: PageDisk>(
         Command::Status { x } => known(status(rt, hall, caller, banks, *x)),
         Command::Did { x } => told(did(rt, hall, caller, banks, *x)),
         Command::Freeze { oldest } => done(freeze(rt, hall, caller, *oldest)),
-        _ => unreachable!(),
+        Command::Trim => done(trim(rt, hall, caller, banks)),
+        Command::Multi { members } => given(multi(rt, hall, caller, banks, members, alloc)),
+        Command::SeeMulti { name, multi } => {
+            judged(see_multi(rt, hall, caller, banks, name, *multi, alloc))
+        }
+        Command::MultiFreeze { multi } => done(multi_freeze(rt, hall, caller, banks, *multi)),
     }
 }

@@ -3,7 +3,6 @@ ghost use base.Fml.{ftrue};
 ghost use Rattle.std.specs.Prelude.{IsTrue};
 ghost use Rattle.recoverable.specs.Fit.{KeptLog};
 ghost use Rattle.engine_life.specs.Lives.{volumes_left};
-ghost use Rattle.wal_core.specs.LogViews.{log_disk};
 ghost use Rattle.session_run.specs.Fits.{FitLife, FitWhereTold};
 ghost use Rattle.session_run.specs.OneLife.{life_over};
 
@@ -41,16 +40,15 @@ impl<L: LogDisk, P: PageDisk> Fact for LeavesLog<L, P> {
     type Value = FittedLog;
 
     ghost holds = { λ ended log. FitWhereTold L.LogDisk P.PageDisk (life_over ended.start.value ended.closed)
-        (log_disk ended.closed.log) (volumes_left ended.closed).xact.items log.kept };
+        (volumes_left ended.closed) log.kept };
 }
 
 /// The log that the volumes of a life fit that is over, if they tell what they hold: contracts say that there is one.
 pub fn log_left<L: LogDisk, P: PageDisk>(ended: &Ended<L, P>) -> Note<FittedLog>
     requires fit { IsTrue P.tells → IsTrue L.tells → FitLife L.LogDisk P.PageDisk
-        (life_over ended.now.start.value ended.now.closed) (log_disk ended.now.closed.log)
-        (volumes_left ended.now.closed).xact.items }
+        (life_over ended.now.start.value ended.now.closed) (volumes_left ended.now.closed) }
     ensures fits { FitWhereTold L.LogDisk P.PageDisk (life_over ended.now.start.value ended.now.closed)
-        (log_disk ended.now.closed.log) (volumes_left ended.now.closed).xact.items result.value.kept }
+        (volumes_left ended.now.closed) result.value.kept }
 {
     found::<LeavesLog<L, P>>(ended)
 }

@@ -12,7 +12,6 @@ mod round;
 mod rounds;
 mod run;
 mod stop;
-mod task;
 mod text;
 mod tool;
 

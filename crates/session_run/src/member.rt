@@ -1,11 +1,11 @@
 //! A session in a round: it runs its commands, and keeps their lines as they are done.
-ghost use Rattle.std.specs.Prelude.{◌≡◌, ◌+◌, ◌^◌, ◌<◌, IsOk, false, true, length};
+ghost use Rattle.std.specs.Prelude.{◌≡◌, ◌+◌, ◌^◌, ◌<◌, IsOk, false, length};
 ghost use Rattle.std.specs.List.{All};
 ghost use Rattle.hall.specs.Calls.{start_of};
 ghost use Rattle.engine_parts.specs.Calls.{MayRun};
 ghost use Rattle.script_rounds.specs.Plans.{HasPlaces};
 ghost use Rattle.run_law.specs.Turns as runnable;
-ghost use Rattle.run_law.specs.Turns.{has_command};
+ghost use Rattle.run_law.specs.Turns.{MayAsk};
 ghost use Rattle.session_run.specs.Turns.{Begins, MayGo, RunsNext, RunsRound, commands_of};
 
 use crate::commands::run_command;
@@ -39,7 +39,7 @@ fn run_turn<R: Passing, K: LineKeeper, L: LogDisk, P: PageDisk>(
     names: &NameList,
     command: &Command,
 ) -> Result<(), Memory>
-    requires has { has_command command.now ≡ true }
+    requires ask { MayAsk command.now }
     requires may { MayRun hall.now banks member.old.caller }
     requires few { commands_of member.old.caller + 1 < 2 ^ 48 }
     ensures { RunsNext K.LineKeeper hall.now banks names.now command.now result member.old member.new }

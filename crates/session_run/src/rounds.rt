@@ -1,8 +1,6 @@
 //! Runs the rounds of a script over one lock table, and what it asks for between them, and keeps them as they are done.
 ghost use Rattle.std.specs.Prelude.{◌≡◌, ◌+◌, ◌^◌, ◌<◌, ◌≤◌, ◌∷◌, ℕ, List, [], IfOk, OnOk, length, true};
 ghost use Rattle.std.specs.List.{All};
-ghost use Rattle.hall.specs.Calls.{view};
-ghost use Rattle.tx_core.specs.MultiEntries.{multi_history};
 ghost use Rattle.engine_host.specs.Hosts.{HasSeenNothing, HoldsAllBut, IsHost, IsNewSession, IsParked};
 ghost use Rattle.tx_model.specs.Asked as asked;
 ghost use Rattle.tx_model.specs.Asked.{rounds_in};
@@ -50,7 +48,6 @@ fn run_numbered<K: LineKeeper + Send + Drop, L: LogDisk + Send + Sync, P: PageDi
     requires items { All (MayRun (length sessions.old)) round.now }
     requires plan { IsBlank plan.old × (length plan.old.places.items ≡ length sessions.old) }
     requires few { rounds < 2 ^ 32 }
-    requires some { 1 ≤ length sessions.old }
     ensures home { AreHome hall.now host.new sessions.new }
     ensures cluster { host.new.cluster ≡ host.old.cluster }
     ensures count { length sessions.new ≡ length sessions.old }
@@ -136,7 +133,7 @@ fn show_dump<R: Wait, K: LineKeeper, L: LogDisk, P: PageDisk>(
     kept.add_step(names, &step)
 }
 
-/// Makes a checkpoint, and keeps what it was answered. The sessions are all home, and no multixact was touched.
+/// Makes a checkpoint, and keeps what it was answered. The sessions are all home.
 fn make_checkpoint<R: Wait, K: LineKeeper, L: LogDisk, P: PageDisk>(
     rt: &R,
     hall: &Hall<EngineLaw<L, P>>,
@@ -146,7 +143,6 @@ fn make_checkpoint<R: Wait, K: LineKeeper, L: LogDisk, P: PageDisk>(
     kept: &mut K,
 ) -> Result<(), Memory>
     requires home { AreHome hall.now host.old sessions.now }
-    requires quiet { multi_history (view host.old.pass).seen ≡ [] }
     ensures home { AreHome hall.now host.new sessions.now }
     ensures cluster { host.new.cluster ≡ host.old.cluster }
     ensures ran { OnOk result (AnswersOn K.LineKeeper hall.now names.now (asked.checkpoint ∷ []) host.old host.new
@@ -171,7 +167,6 @@ fn answer_next<R: Wait, K: LineKeeper, L: LogDisk, P: PageDisk>(
 ) -> Result<(), Memory>
     requires home { AreHome hall.now host.old sessions.now }
     requires items { All (MayRun (length sessions.now)) script.now }
-    requires quiet { multi_history (view host.old.pass).seen ≡ [] }
     ensures home { AreHome hall.now host.new sessions.now }
     ensures cluster { host.new.cluster ≡ host.old.cluster }
     ensures ran { OnOk result (AnswersOn K.LineKeeper hall.now names.now (asked_at script.now place) host.old host.new

@@ -6,13 +6,13 @@ ghost use Rattle.disk_core.specs.declared.media.Volumes.{Volumes as Mounted};
 ghost use Rattle.tx_model.specs.declared.report.LifeReport.{LifeReport};
 ghost use Rattle.tx_model.specs.declared.report.Report.{Report};
 ghost use Rattle.report_text.specs.ReportText.{report_text};
-ghost use Rattle.recoverable.specs.Clusters.{Fit};
 ghost use Rattle.recoverable.specs.Fit.{KeptLog};
 ghost use Rattle.run_law.specs.Lives.{LifePart};
 ghost use Rattle.run_law.specs.Tool.{IsReportOf};
 ghost use Rattle.script_gen.specs.Summaries.{IsSummaryOf};
 ghost use Rattle.engine_host.specs.declared.cluster.Cluster.{Cluster as Clustered};
 ghost use Rattle.engine_host.specs.Opening.{Beginning, IsCluster};
+ghost use Rattle.engine_life.specs.Lives.{FitsLog};
 ghost use Rattle.engine_life.specs.Refusals.{IsOfVolumes, IsUnopened};
 ghost use Rattle.session_run.specs.OneLife.{IsOpened, MayRunIn};
 ghost use Rattle.session_run.specs.Parts.{IsTakenPart};
@@ -114,8 +114,7 @@ fn go_on<M: Media>(
     ghost kept: { KeptLog }
     requires banks { HasBanks banks volumes }
     requires sessions { sessions ≤ 64 }
-    requires fit { IsTrue M.Pages.tells → IsTrue M.Log.tells → Fit M.Log.LogDisk M.Pages.PageDisk kept
-        volumes.log volumes.xact.items }
+    requires fit { IsTrue M.Pages.tells → IsTrue M.Log.tells → FitsLog M.Log.LogDisk M.Pages.PageDisk kept volumes }
     ensures next { IfOk result (HasGoneOn M.Log.LogDisk M.Pages.PageDisk M.falls how kept banks sessions volumes) }
     ensures mounted { OnOk result (M.is_idle media.new ≡ false) }
     ensures idle { OnErr result (IsTrue (M.is_idle media.new)) }

@@ -13,13 +13,13 @@ pub enum Stopped {
     NoLife(NoLife),
 }
 
-// What a refusal to recover means here. Without a record, or with one of a multixact, the log is no one to go on from.
+// What a refusal to recover means here. Without a record the log is no one to go on from.
 fn unrecovered(refusal: RecoverRefusal) -> NoLife
     ensures { result ≡ unrecovered_by refusal }
 {
     match refusal {
         RecoverRefusal::Damaged { at } => NoLife::Damaged { at },
-        RecoverRefusal::NoRecord | RecoverRefusal::HasMultis => NoLife::OldLog,
+        RecoverRefusal::NoRecord => NoLife::OldLog,
         RecoverRefusal::LogFault | RecoverRefusal::DiskFault { .. } => NoLife::Device,
         RecoverRefusal::Full => NoLife::Full,
         RecoverRefusal::Memory => NoLife::Memory,

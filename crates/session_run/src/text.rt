@@ -23,7 +23,15 @@ pub fn put_end<L: LogDisk + Drop, P: PageDisk + Drop>(
         → text.new ≡ text.old ++ (rest_text names.now (life_of c b closed.now) crash ++ last_text crash)) }
 {
     let from = closed.number();
-    end_life(text, from, names, closed.events.items(), &closed.log, crash)?;
+    end_life(
+        text,
+        from,
+        names,
+        closed.events.items(),
+        closed.multis.events(),
+        &closed.log,
+        crash,
+    )?;
     if crash.is_none() {
         text.short_line(b"end")?;
     }

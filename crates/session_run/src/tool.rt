@@ -9,16 +9,15 @@ ghost use Rattle.run_law.specs.Tool.{IsRefused, IsRun, IsWholeRun};
 ghost use Rattle.script_gen.specs.Generated.{generated};
 ghost use Rattle.script_gen.specs.Laws.{most_transactions};
 ghost use Rattle.script_gen.specs.Words.{IsGen};
-ghost use Rattle.session_run.specs.declared.task.Task.TheVariants as tasks;
+ghost use Rattle.script_gen.specs.declared.task.Task.TheVariants as tasks;
 ghost use Rattle.session_run.specs.Leaves.{LeavesVolumes};
 ghost use Rattle.session_run.specs.Tool.{Ends, HasMounted, HasWritten, HoldsFront, IsAccepted, IsMemoryLast, IsSized, IsUnread, IsUnrunBy, IsWholeSummary, WritesLast, damage_text, status_of, text_of};
 
 use crate::ending::{Ending, stopped, unopened, unread};
 use crate::run::{count_script, run_script};
-use crate::task::{Task, task_of};
 use disk_core::Media;
 use engine_parts::Gate;
-use script_gen::generate;
+use script_gen::{Task, generate, task_of};
 use script_gen::laws::generated_scripts_run;
 use script_rounds::RoundThreads;
 use script_source::take_script;

@@ -50,11 +50,11 @@ multis_are_legal start lists k = legal (at lists multi_lock) (λ p e here. k.mul
 
 -- where the pages told, an announced multixact of the base has its offset
 pub raises_told : RaisesTold
-raises_told start lists by multi offset k told c old =
+raises_told start lists by multi offset k told rec among c old =
     let found = has_filter_map multi_of (at lists multi_lock) (multis.Raise by multi offset) (contains_has (multi_history lists) (multis.Raise by multi offset) c) in
     let need = upheld_has (NeedsMulti start) lists multi_lock found.0 k.multis.each found.1 in
     let event : MultiEvent = multis.Raise by multi offset in
-    (if_some (multi_of found.0) (λ event. (multi_by event ≡ found.0.by) × MultiMayCome start.base (InBase start.base) (multis_in need.0) event × ToldOf start event) event need.1 found.2).2 told old
+    (if_some (multi_of found.0) (λ event. (multi_by event ≡ found.0.by) × MultiMayCome start.base (InBase start.base) (multis_in need.0) event × ToldOf start event) event need.1 found.2).2 told rec among old
 
 -- a page that was made was wanted
 wanted : (start : Start) (lists : List (List Entry)) (lock page : ℕ) (by : By) → EngineInvariant start lists → Contains (at lists lock) (record { by = by; kind = kinds.Zero page }) → IsWanted start lists lock page

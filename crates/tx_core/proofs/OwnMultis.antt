@@ -95,7 +95,7 @@ pin_after n multi ps (multis.Hold by m) other k = has_left ps ((by.session, m) �
 pin_after n multi ps (multis.Unhold by m) other k = without_stays (by.session, m) (n, multi) ps (other_session by.session n m multi other) k
 pin_after n multi ps (multis.Raise by m offset) other k = k
 
-pins_over : (n multi : ℕ) (es : List MultiEvent) (ps : List Pin) → ((e : MultiEvent) → Has es e → (multi_by e).session ≢ n) → Has ps (n, multi) → Has (fold pins_after ps es) (n, multi)
+pub pins_over : (n multi : ℕ) (es : List MultiEvent) (ps : List Pin) → ((e : MultiEvent) → Has es e → (multi_by e).session ≢ n) → Has ps (n, multi) → Has (fold pins_after ps es) (n, multi)
 pins_over n multi [] ps others k = k
 pins_over n multi (e ∷ es) ps others k = pins_over n multi es (pins_after ps e) (λ x h. others x (inr h)) (pin_after n multi ps e (others e (inl refl)) k)
 

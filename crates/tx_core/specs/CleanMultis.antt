@@ -1,5 +1,5 @@
 -- What the pages of offsets and members show when a life begins. As in `CleanStart` it speaks of the start alone.
-use Rattle.std.specs.Prelude.{◌≡◌, ℕ, ◌+◌, ◌^◌, ◌<◌, ◌≤◌, Contains, List, length, slice_get, Option, Some, None}
+use Rattle.std.specs.Prelude.{◌≡◌, ℕ, ◌+◌, ◌^◌, ◌<◌, ◌≤◌, Contains, IsTrue, List, length, slice_get, Option, Some, None}
 use Rattle.log_bases.specs.LifeBase.{AreInOrder}
 use Rattle.tx_events.specs.Ids.{IsFullMulti, low_half}
 use Rattle.tx_events.specs.declared.multi.Member.{Member}
@@ -19,9 +19,13 @@ pub record IsNearOffset (start : Start) (offset : ℕ) : Type 0 where
   pub to : offset < start.base.offset + 2 ^ 30
 
 -- what the pages of offsets show when a life begins: of the multixacts from the oldest one on the recorded ones
--- have their offsets, and the others and those that come next have none
+-- have their offsets, which lie in order, and the others and those that come next have none. The life counts as one whose
+-- pages told that.
 pub record CleanOffsets (start : Start) (shown : ℕ → Option StoredBytes) : Type 0 where
+  pub told : IsTrue start.told
+  pub full : (multi offset : ℕ) (members : List Member) → Contains start.recorded (records.Multi multi offset members) → IsFullMulti start.base.multi
   pub before : (multi offset : ℕ) (members : List Member) → Contains start.recorded (records.Multi multi offset members) → multi < start.base.multi
+  pub in_order : AreInOrder start.base start.recorded
   pub recorded : (multi offset : ℕ) (members : List Member) → Contains start.recorded (records.Multi multi offset members) → start.base.oldest_multi ≤ multi → (i : ℕ) → i < 4 → byte_held (shown multi) i ≡ byte_of offset i
   pub other : (multi : ℕ) → IsFullMulti multi → start.base.oldest_multi ≤ multi → multi < start.base.multi
       → ((offset : ℕ) (members : List Member) → Contains start.recorded (records.Multi multi offset members) → ⊥) → shown multi ≡ None

@@ -27,6 +27,7 @@ use Rattle.tx_events.specs.declared.record.Counters.{Counters}
 use Rattle.tx_events.specs.declared.multi.Member.{Member}
 use Rattle.tx_events.specs.declared.multi.MultiEvent.TheVariants as multis
 use Rattle.tx_core.specs.declared.entry.Kind.TheVariants as kinds
+use Rattle.tx_events.specs.declared.record.Rec.{Rec}
 use Rattle.tx_events.specs.declared.record.Rec.TheVariants as records
 use Rattle.tx_core.specs.declared.entry.State.TheVariants as states
 
@@ -102,10 +103,12 @@ abbrev pub OpenKept : Type 0
 OpenKept = (start : Start) (lists : List (List Entry)) (session x : ℕ) →
     EngineInvariant start lists → IsBase start.base → Contains (open_ids session (history lists)) x → oldest_id start.base.oldest (history lists) ≤ x
 
--- Where the pages told, a multixact that the life began with is announced with its offset.
+-- Where the pages told, and the life began with a recorded one, a multixact that it began with is announced with its
+-- offset.
 abbrev pub RaisesTold : Type 0
 RaisesTold = (start : Start) (lists : List (List Entry)) (by : By) (multi offset : ℕ) →
-    EngineInvariant start lists → IsTrue start.told → Contains (multi_history lists) (multis.Raise by multi offset) → multi < start.base.multi
+    EngineInvariant start lists → IsTrue start.told → (rec : Rec) → Contains start.recorded rec
+    → Contains (multi_history lists) (multis.Raise by multi offset) → multi < start.base.multi
     → (members : List Member) × Contains start.recorded (records.Multi multi offset members)
 
 -- so an oldest xmin that was seen is not past the xmin of any snapshot that is live later

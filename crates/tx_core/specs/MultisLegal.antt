@@ -3,6 +3,7 @@ use Rattle.std.specs.Prelude.{◌≡◌, ℕ, ◌<◌, List, Contains, IfSome, I
 use Rattle.tx_events.specs.declared.multi.Member.{Member}
 use Rattle.tx_events.specs.declared.multi.MultiEvent.{MultiEvent}
 use Rattle.tx_events.specs.declared.multi.MultiEvent.TheVariants as multis
+use Rattle.tx_events.specs.declared.record.Rec.{Rec}
 use Rattle.tx_events.specs.declared.record.Rec.TheVariants as records
 use Rattle.tx_events.specs.Multis.{InBase, MultiMayCome, multi_by}
 use Rattle.tx_core.specs.declared.entry.Entry.{Entry}
@@ -10,9 +11,11 @@ use Rattle.tx_core.specs.declared.entry.Start.{Start}
 use Rattle.tx_core.specs.Lists.{Upheld}
 use Rattle.tx_core.specs.MultiEntries.{multi_of, multis_in}
 
--- Where the pages told, a multixact that the life began with is announced with its offset.
+-- Where the pages told, and the life began with a recorded one, a multixact that it began with is announced with its
+-- offset.
 abbrev pub ToldOf : Start → MultiEvent → Type 0
-ToldOf start (multis.Raise by multi offset) = IsTrue start.told → multi < start.base.multi
+ToldOf start (multis.Raise by multi offset) =
+    IsTrue start.told → (rec : Rec) → Contains start.recorded rec → multi < start.base.multi
     → (members : List Member) × Contains start.recorded (records.Multi multi offset members)
 ToldOf start _ = Unit {0}
 

@@ -14,7 +14,6 @@ use Rattle.tx_events.specs.IdLists.{Ascending}
 use Rattle.tx_events.specs.Snapshots.{snapshot_xmax, snapshot_xmin}
 use Rattle.tx_events.specs.Visible.{is_visible}
 use Rattle.tx_events.proofs.GivenIds.{legal_take}
-use Rattle.tx_events.proofs.IdOrder.{nth_upto}
 use Rattle.tx_events.proofs.Membership.{contains_has, has_contains}
 use Rattle.tx_events.proofs.Visibility.{among_has, has_among}
 use Rattle.tx_events.proofs.SaysLemmas.{subs_ascend, xips_ascend}
@@ -38,6 +37,7 @@ use Rattle.engine_parts.specs.Stand.{IsInUse}
 use Rattle.xact_reads.proofs.Climbing.{climb_there}
 use Rattle.xact_reads.proofs.Limits.{xmax_to_next}
 use Rattle.xact_reads.proofs.Sighting.{asked_verdict, hidden_verdict, seen_verdict}
+use Rattle.bank_sections.proofs.Nearing.{nth_near}
 
 -- ---- pages that show the committed ids alone
 
@@ -83,8 +83,8 @@ module _ (start : Start) (lists : List (List Entry)) (n : ℕ) (k : RegisteredSn
       let xmax : k.snapshot.xmax ≡ snapshot_xmax start.base.next g = ap (λ (d : SnapData). d.xmax) r.holds in
       let to = xmax_to_next start.base g base legal_g in
       let more : next_given start.base.next g ≤ next_given start.base.next (history lists) = given_more start.base g (history lists) (drop k.place (history lists), take-append-drop k.place (history lists)) in
-      let upto = nth_upto start.base.next (length (given (history lists))) in
       let many : length (given (history lists)) < 2900000 = few in
+      let upto = nth_near start.base.next (length (given (history lists))) base.full many in
       (full, old, omega arith)
 
   -- ---- the verdict

@@ -25,7 +25,6 @@ use Rattle.tx_events.proofs.Extremes.{fold_min_start}
 use Rattle.tx_events.proofs.GivenIds.{given_all, legal_take}
 use Rattle.tx_events.proofs.HorizonSteps.{oldest_push}
 use Rattle.tx_events.proofs.IdListSteps.{has_true}
-use Rattle.tx_events.proofs.IdOrder.{nth_upto}
 use Rattle.tx_events.proofs.ListSteps.{le_or_over, not_both}
 use Rattle.tx_events.proofs.Membership.{Has, filter_has}
 use Rattle.tx_events.proofs.PlaceLemmas.{last_at, slice_get-grows, take-grows}
@@ -64,6 +63,7 @@ use Rattle.proc_sections.specs.Askings.{IsAnswered, question}
 use Rattle.xact_reads.specs.Readings.{IsCommittedIn, IsStateUnread}
 use Rattle.xact_reads.proofs.Going.{others_went}
 use Rattle.xact_reads.proofs.Replying.{finds_oldest, oldest_from}
+use Rattle.bank_sections.proofs.Nearing.{nth_near}
 
 -- ---- the state of an id that was given at a place and doesn't run there
 
@@ -230,7 +230,7 @@ module _ (start : Start) (u w : Knowledge) (n : ℕ) (s : Session) (x : ℕ) (as
   pub stood : (committed : Bool) → IsCommittedIn start w.seen x committed → asked.running ≡ false → asked.oldest ≤ x → x < asked.next → AreFewIds w.seen → cond committed statuses.Committed statuses.Aborted ≡ status_after start.committed front x
   stood committed read shut young new few =
       let few_ids : length (given (history w.seen)) < 2900000 = few in
-      let upto = nth_upto start.base.next (length (given (history w.seen))) in
+      let upto = nth_near start.base.next (length (given (history w.seen))) a.base.full few_ids in
       let more : next_given start.base.next front ≤ next_given start.base.next (history w.seen) = given_more start.base front (history w.seen) (question n s x ∷ rest, sym (append_assoc front (question n s x ∷ []) rest) ∙ whole) in
       let next = answered.next in
       let old : start.base.oldest ≤ x = (let from = oldest_from start u.seen a.kept in let is = oldest_is in omega arith) in

@@ -74,7 +74,7 @@ read_recorded start lists shown x s k clean used is e =
     ⊎_elim
     (λ (q : shown x ≡ Some s).
     ⊎_elim
-    (λ (new : start.base.next ≤ x). let none = clean.clean x new used.2 in absurd (none_some s (sym none ∙ q)))
+    (λ (new : start.base.next ≤ x). let none = clean.clean x new (let to = used.2 in omega arith) in absurd (none_some s (sym none ∙ q)))
     (λ (old : x < start.base.next). inl (clean.only x used.1 old (shown_either (shown x) s is q)))
     (le_or_over start.base.next x))
     (λ j.

@@ -13,7 +13,6 @@ use Rattle.tx_events.specs.declared.refusal.Refusal.TheVariants as refusals
 use Rattle.tx_events.specs.Events.{given}
 use Rattle.tx_events.specs.History.{next_given}
 use Rattle.tx_events.specs.Visible.{is_visible}
-use Rattle.tx_events.proofs.IdOrder.{nth_upto}
 use Rattle.tx_model.specs.declared.command.Command.TheVariants as commands
 use Rattle.tx_model.specs.declared.reply.Reply.TheVariants as replies
 use Rattle.tx_model.specs.Replies.{IsNearNext, MayFindOldest, MayReadAt, MayReply, RoundSpan, alone}
@@ -43,6 +42,7 @@ use Rattle.xact_reads.specs.Stores.{DidAsTold}
 use Rattle.xact_reads.proofs.Going.{others_went}
 use Rattle.xact_reads.proofs.Replying.{finds_oldest, oldest_from}
 use Rattle.xact_reads.proofs.Storing.{visible_given}
+use Rattle.bank_sections.proofs.Nearing.{nth_near}
 
 -- a special id has its fixed answer
 pub special_told : (x : ℕ) → not (nat_eq x 0) ≡ special_did x
@@ -152,7 +152,7 @@ module _ (start : Start) (v u w : Knowledge) (n : ℕ) (s : Session) (x : Xid) (
   pub used_here : (id : ℕ) → IsNearest found.next x.number id → found.oldest ≤ id → id < found.next → AreFewIds w.seen → IsInUse start id
   used_here id near young new few =
       let few_then : length (given h) < 2900000 = few_before u.seen w.seen second.on.grows few in
-      let upto = nth_upto start.base.next (length (given h)) in
+      let upto = nth_near start.base.next (length (given h)) a.base.full few_then in
       let from = oldest_from start u.seen a.kept in
       let oldest = is.oldest in
       let next = is.next in

@@ -91,4 +91,4 @@ returns-in-Err-clause-cut g c =
     let start = start_of c.args.hall.now in
     let seen = (view c.args.host.now.pass).seen in
     subst (IsCutTold g.P.PageDisk.tells start seen (dumps.Xact c.args.page)) (sym c.refused.ensures)
-    (xact_cut_told g.P.PageDisk.tells start seen c.args.page (locks.Xact c.bank_of-bank.result) c.in-Err.refusal (λ cutoff e. c.in-Err.ensures.cut cutoff (ap Err e)) (λ told cutoff e. c.in-Err.ensures.first told cutoff (ap Err e)))
+    (xact_cut_told g.P.PageDisk.tells start seen c.args.page (locks.Xact c.bank_of-bank.result) c.in-Err.refusal (λ cutoff e. c.in-Err.ensures.cut cutoff (ap Err e)))

@@ -14,7 +14,6 @@ use Rattle.engine_parts.specs.Parts.{IsXactOf}
 use Rattle.bank_sections.specs.Sections.{IsXactCut}
 use Rattle.bank_sections.proofs.Sameness.{xact_same}
 use Rattle.engine_dumps.specs.Shown.{HasFailed, IsXactUncut}
-use Rattle.engine_dumps.proofs.Cutoffs.{first_told}
 use Rattle.engine_host.proofs.Homing.{came_home, is_alone}
 use Rattle.engine_dumps.proofs.Showing.{of_ok, ok_by, read_same, read_uncut, shows_xact}
 use Rattle.engine_dumps.proofs.pages.dump_xact.Goals as goal
@@ -85,15 +84,6 @@ returns-clause-cut g c cutoff is =
     let here : c.bank_of-bank.result ≡ c.args.page % start.banks = c.bank_of-bank.ensures.value ∙ ap (λ n. c.args.page % n) (sym c.requires.home.is_host.banks) in
     subst (λ (z : ℕ × ℕ). IsXactCut start (view c.args.host.now.pass).seen z.0 c.args.page z.1) (λ j. (here j, sym cut.0 j))
     ((subst (λ l. IsXactOf (start_of c.args.hall.now) c.bank_of-bank.result l (at (view c.args.host.now.pass).seen (xact_lock c.bank_of-bank.result))) (sym c.deref_mut-store.ensures.value) c.take_xact-held.ensures.stands).cutoff_is, cut.1)
-
-pub returns-clause-first : goal.returns-clause-first
-returns-clause-first g c told cutoff is =
-    let start = start_of c.args.hall.now in
-    let store = c.deref_mut-store.result.now in
-    let bank = c.bank_of-bank.result in
-    let es : List Entry = at (view c.args.host.now.pass).seen (xact_lock bank) in
-    let stood = subst (λ l. IsXactOf start bank l es) (sym c.deref_mut-store.ensures.value) c.take_xact-held.ensures.stands in
-    first_told start bank cutoff store es (c.read-found.ensures.bank.calls.only_cut cutoff is).0 (stood.course told)
 
 pub returns-clause-fault : goal.returns-clause-fault
 returns-clause-fault g c is =

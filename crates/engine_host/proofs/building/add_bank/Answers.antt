@@ -2,7 +2,7 @@ use Rattle.std.proofs.Common.{◌+◌, ◌++◌, ◌∷◌, ◌≡◌, ◌≤◌
 use Rattle.std.specs.List.{slice_get}
 use Rattle.engine_parts.specs.declared.part.Part.TheVariants as parts
 use Rattle.slru_bank.specs.Calls.{faults_of, volume_of}
-use Rattle.engine_host.specs.Opening.{AllOnDisk, AllShowNothing, AreNew}
+use Rattle.engine_host.specs.Opening.{AllOnDisk, AllShow, AreNew, ShowMembers, ShowOffsets}
 use Rattle.engine_host.specs.Refused.{HaveDisks}
 use Rattle.engine_host.specs.declared.cluster.BankVolumes.{BankVolumes}
 use Rattle.engine_host.specs.Stores.{Store, disk_in, disks_in, of_members, of_offsets, of_subtrans, of_xact, volumes_in}
@@ -32,12 +32,11 @@ open_multis-requires g c =
     let offsets = c.requires.1.1.1.1.0 of_offsets in
     let members = c.requires.1.1.1.1.0 of_members in
     let shown = c.requires.1.1.1.1.1.1.1.1.1 in
-    let empty : IsTrue g.P.PageDisk.tells → AllShowNothing g.P.PageDisk c.args.removes c.args.volumes.now.offsets.items × AllShowNothing g.P.PageDisk c.args.removes c.args.volumes.now.members.items
+    let both : IsTrue g.P.PageDisk.tells → AllShow g.P.PageDisk (ShowOffsets c.args.cluster.now g.begins) c.args.removes c.args.bank c.args.volumes.now.offsets.items × AllShow g.P.PageDisk (ShowMembers c.args.cluster.now g.begins) c.args.removes c.args.bank c.args.volumes.now.members.items
     = λ told. ((shown told).offsets, (shown told).members) in
-    let none = λ (told : IsTrue g.P.PageDisk.tells). (shown told).none in
     let durable : IsTrue g.P.PageDisk.tells → c.args.removes ≡ false → AllOnDisk g.P.PageDisk c.args.volumes.now.offsets.items × AllOnDisk g.P.PageDisk c.args.volumes.now.members.items
     = λ told kept. ((shown told).durable kept of_offsets, (shown told).durable kept of_members) in
-    search (rules, inside, offsets, members, empty, none, durable)
+    search (rules, inside, offsets, members, both, durable)
 
 pub returns-in-Ok-open_multis-clause-stand : goal.returns-in-Ok-open_multis-clause-stand
 returns-in-Ok-open_multis-clause-stand g c =

@@ -7,7 +7,7 @@ use Rattle.engine_host.specs.Opening.{IsNewLog, MayBeginOver, life_from, nothing
 use Rattle.engine_host.specs.Refused.{OpensEmpty}
 use Rattle.engine_host.specs.Stores.{banks_of}
 use Rattle.engine_host.proofs.Counting.{all_counted}
-use Rattle.engine_host.proofs.Multis.{none_recorded}
+use Rattle.engine_host.proofs.Multis.{zeros_show_members, zeros_show_offsets}
 use Rattle.engine_host.proofs.Refusing.{from_bank, from_begin, room_left}
 use Rattle.engine_host.proofs.Starting.{zeros_show}
 use Rattle.engine_host.proofs.first_parts.open_new.Goals as goal
@@ -30,9 +30,8 @@ add_banks-requires g c =
     let shown : IsTrue p.tells → MayBeginOver p c.args.cluster nothing_before true 0 (banks_of c.args.volumes) = λ told. record {
       states = λ bank disk at. zeros_show c.args.cluster nothing_before (0 + bank) c.requires.cluster.base refl;
       parents = λ bank disk at q small. refl;
-      offsets = λ bank disk at q small. refl;
-      members = λ bank disk at q small. refl;
-      none = none_recorded c.args.cluster nothing_before refl;
+      offsets = λ bank disk at. zeros_show_offsets c.args.cluster nothing_before refl (0 + bank) refl;
+      members = λ bank disk at. zeros_show_members c.args.cluster nothing_before refl (0 + bank);
       durable = λ kept. absurd cc;
     } in
     search (rules, cluster, volumes, count, disks, room, stand, shown)

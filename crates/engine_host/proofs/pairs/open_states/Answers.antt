@@ -1,5 +1,6 @@
 use Rattle.std.proofs.Common.{IsTrue, false, inr, rules, ◌≡◌}
 use Rattle.tx_events.specs.declared.refusal.Lock.TheVariants as locks
+use Rattle.engine_host.specs.Opening.{ShowStates}
 use Rattle.engine_host.proofs.Refusing.{first_is, store_failed}
 use Rattle.engine_host.proofs.Starting.{first_shows}
 use Rattle.engine_host.proofs.pairs.open_states.Goals as goal
@@ -12,7 +13,7 @@ open_xact-requires g c =
     let base = c.requires.1.0 in
     let inside = c.requires.1.1.0 in
     let here = first_is volumes c.remove.result c.requires.1.1.1.0.0 c.remove.ensures.value in
-    let shows = λ (told : IsTrue g.P.PageDisk.tells). first_shows g.P.PageDisk c.args.cluster.now g.begins c.args.removes c.args.bank volumes c.remove.result (c.requires.1.1.1.1.0 told) here in
+    let shows = λ (told : IsTrue g.P.PageDisk.tells). first_shows g.P.PageDisk (ShowStates c.args.cluster.now g.begins) c.args.removes c.args.bank volumes c.remove.result (c.requires.1.1.1.1.0 told) here in
     let durable = λ (told : IsTrue g.P.PageDisk.tells) (none : c.args.removes ≡ false). (c.requires.1.1.1.1.1.1 told none).0 0 c.remove.result here in
     search (rules, base, inside, shows, durable)
 

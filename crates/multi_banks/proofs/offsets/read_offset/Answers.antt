@@ -3,7 +3,7 @@ use Rattle.engine_parts.specs.Parts.{IsOffsetsOf}
 use Rattle.engine_parts.specs.Sessions.{by_at}
 use Rattle.hall.specs.Calls.{start_of, view}
 use Rattle.multi_banks.proofs.Cutting.{offset_cut}
-use Rattle.multi_banks.proofs.OffsetSeen.{offset_seen}
+use Rattle.multi_banks.proofs.OffsetSeen.{offset_seen, begun_seen}
 use Rattle.multi_banks.proofs.Offsetting.{offsets_looked, offsets_same}
 use Rattle.multi_banks.proofs.Uncut.{offset_uncut}
 use Rattle.multi_banks.proofs.Visiting.{bank_refused, fault_met, is_offsets_lock, list_left, visited, visited_refused}
@@ -55,6 +55,23 @@ returns-in-Ok-clause-offset g c told from =
     let left = list_left start v u w n (offsets_lock c.args.bank) s c.requires.ready.at pages e.entered _ c.leave_looked.ensures.left in
     offset_seen start w.seen c.args.bank c.offset.new.bank c.args.multi c.in-Ok.found c.requires.ready.at.base c.leave_looked.ensures.ready.at.kept (subst (λ (l : List Entry). IsOffsetsOf start c.args.bank c.offset.new.bank l) (sym left) looked) c.requires.here told
     (subst (λ (z : ℕ). c.in-Ok.found ≡ offset_of (number_in (pages_of c.deref_mut-store.result.now (z / 2048)) (4 * (z % 2048)))) c.low.ensures (c.in-Ok.ensures.is told) ∙ ap (λ (l : List ℕ). offset_of (number_in l (word_place_of c.args.multi))) (sym (r.same told (word_page_of c.args.multi)))) from
+
+pub returns-in-Ok-clause-begun : goal.returns-in-Ok-clause-begun
+returns-in-Ok-clause-begun g c told few =
+    let start = start_of c.args.hall.now in
+    let e = c.enter_offsets-held.ensures in
+    let v = view c.args.caller.now.pass in
+    let u = view c.enter_offsets-held.new.caller.pass in
+    let w = view c.leave_looked.new.caller.pass in
+    let t = c.enter_offsets-held.new.caller in
+    let s = c.args.caller.now.session in
+    let n = c.args.caller.now.number in
+    let pages = is_offsets_lock start c.args.bank c.requires.bank.0 in
+    let r = c.offset.ensures in
+    let looked = offsets_looked start c.args.bank c.requires.ready.at.base c.offset.new.bank (by_at t.number t.session.levels.commands) (at (view c.enter_offsets-held.new.caller.pass).seen (offsets_lock c.args.bank))
+    (offsets_same start c.args.bank c.requires.ready.at.base c.deref_mut-store.result.now c.offset.new.bank (at (view c.enter_offsets-held.new.caller.pass).seen (offsets_lock c.args.bank)) (record { last = r.bank.last; cutoff = r.bank.calls.cutoff; count = r.bank.calls.count; pages = r.same; crash = r.bank.calls.crash }) (subst (λ l. IsOffsetsOf (start_of c.args.hall.now) c.args.bank l (at (view c.enter_offsets-held.new.caller.pass).seen (offsets_lock c.args.bank))) (sym c.deref_mut-store.ensures.value) c.enter_offsets-held.ensures.stands)) in
+    let left = list_left start v u w n (offsets_lock c.args.bank) s c.requires.ready.at pages e.entered _ c.leave_looked.ensures.left in
+    begun_seen start w.seen c.args.bank c.offset.new.bank c.leave_looked.ensures.ready.at.kept (subst (λ (l : List Entry). IsOffsetsOf start c.args.bank c.offset.new.bank l) (sym left) looked) told few
 
 pub leave_refused-requires-clause-stands : goal.leave_refused-requires-clause-stands
 leave_refused-requires-clause-stands g c =

@@ -30,8 +30,8 @@ leave_made-requires-clause-told g c =
     let here : MultiStands start c.deref_mut-multis.result.now (at u.seen multi_lock) = subst (λ (l : Generator). MultiStands start l (at u.seen multi_lock)) (sym c.deref_mut-multis.ensures.value) c.enter_multi-part.ensures.stands in
     let said = rw c.in-Ok-Raised.field-0-is at c.in-Ok-Raised.ensures in
     let is = subst (λ (l : Generator). IsRaisedAs l c.raise_pinned.new.multis by h c.args.low (raisings.Raised offset)) (is_seen start u c.deref_mut-multis.result.now here) said in
-    subst (ToldOf start) (sym c.raise_note-event.ensures) (λ told below.
-    recorded_there start v.seen h c.args.low offset c.requires.read is.0 told (few_before v.seen u.seen c.enter_multi-part.ensures.entered.learns.knows.grows (is.5 below)) below)
+    subst (ToldOf start) (sym c.raise_note-event.ensures) (λ told rec among below.
+    recorded_there start v.seen h c.args.low offset c.requires.read is.0 told rec among (few_before v.seen u.seen c.enter_multi-part.ensures.entered.learns.knows.grows (is.5 below)) below)
 
 pub returns-in-Ok-Raised-clause-raises : goal.returns-in-Ok-Raised-clause-raises
 returns-in-Ok-Raised-clause-raises g c =

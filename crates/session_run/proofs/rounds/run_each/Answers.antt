@@ -39,12 +39,6 @@ run_next-requires-clause-items g c κs within =
 pub answer_next-requires-clause-items : goal.answer_next-requires-clause-items
 answer_next-requires-clause-items g c = subst (λ n. All (MayRun n) c.loop-rest.rest) (sym c.in_ok-rounds.ensures.count) c.loop-rest.invariant.items
 
--- behind the round no multixact was touched
-pub answer_next-requires-clause-quiet : goal.answer_next-requires-clause-quiet
-answer_next-requires-clause-quiet g c =
-    let i = c.loop-rest.invariant in
-    (c.in_ok-rounds.ensures.ran i.done c.args.kept.now i.number i.ran).quiet
-
 pub loop-rest-smaller : goal.loop-rest-smaller
 loop-rest-smaller g c =
     rest_shorter c.loop-rest.rest c.next_round-round.result.0 c.next_round-round.result.1 c.next_round-round.ensures (not_empty c.loop-rest.rest c.is_empty.result c.is_empty.ensures c.loop-rest-test.true)

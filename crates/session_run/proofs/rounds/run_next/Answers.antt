@@ -1,9 +1,9 @@
 use Rattle.std.proofs.Common.{◌≡◌, true, ◌++◌, arith, length, sym, ap, subst, append-nil}
 use Rattle.std.proofs.lemmas.List.Elements.{recursion_from_All}
 use Rattle.tx_model.specs.Asked.{rounds_in}
-use Rattle.run_law.specs.Turns.{MayRun, is_command}
+use Rattle.run_law.specs.Turns.{is_command}
 use Rattle.session_run.specs.Parts.{HasRun}
-use Rattle.session_run.proofs.RoundSteps.{no_round, not_empty, some_round, some_session}
+use Rattle.session_run.proofs.RoundSteps.{no_round, not_empty, some_round}
 use Rattle.session_run.proofs.rounds.run_next.Goals as goal
 
 pub returns-clause-rounds : goal.returns-clause-rounds
@@ -33,8 +33,3 @@ returns-then-is_empty-clause-ran g c =
     (subst (λ done. HasRun g.K.LineKeeper c.args.hall.now c.args.host.now c.args.sessions.now c.args.names.now done front c.args.kept.now) (sym (append-nil all)) r)
 
 -- its commands are of a session
-pub run_numbered-requires-clause-some : goal.run_numbered-requires-clause-some
-run_numbered-requires-clause-some g c κs within =
-    let round = c.args.round.now in
-    let commands = recursion_from_All (λ item. is_command item ≡ true) round c.requires.commands in
-    some_session (length c.args.sessions.now) round commands (recursion_from_All (MayRun (length c.args.sessions.now)) round c.requires.items) (not_empty round c.is_empty.result c.is_empty.ensures c.if-is_empty.false)

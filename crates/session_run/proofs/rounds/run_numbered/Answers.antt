@@ -27,4 +27,4 @@ returns-clause-ran g c = λ all first count r.
     let new = c.run_round.new.sessions in
     let home = home_again h before after old new c.requires.home e.host e.cluster e.all e.parked e.count in
     ran_more g.K.LineKeeper h before after old new c.args.names.now c.args.rounds (turns_in c.args.round.now) all first c.args.kept.now c.add_round.new.self c.run_round.new.kept e.went.0 count c.in_ok-add_round.ensures e.went.1.grows r
-    (c.life_goes_on.ensures before after old new r.rounds c.args.round.now e.went.0 r.goes_on home e.count c.requires.items e.went.1) e.went.2 (omega (arith, c.requires.some, e.count))
+    (c.life_goes_on.ensures before after old new r.rounds c.args.round.now e.went.0 r.goes_on home e.count c.requires.items e.went.1) e.went.2

@@ -4,9 +4,7 @@ use Rattle.std.proofs.KnownBytes.{Appends-nil}
 use Rattle.disk_core.specs.Images.{Only}
 use Rattle.disk_core.specs.Media.{HasBanks}
 use Rattle.tx_model.specs.declared.report.Life.{Life}
-use Rattle.recoverable.specs.Clusters.{Fit}
-use Rattle.wal_core.specs.LogViews.{log_disk}
-use Rattle.engine_life.specs.Lives.{volumes_left}
+use Rattle.engine_life.specs.Lives.{FitsLog, volumes_left}
 use Rattle.session_run.specs.Fits.{FitLife, FitsLife}
 use Rattle.session_run.specs.Going.{HasGoneOn, IsCrashed, part_of}
 use Rattle.session_run.proofs.GoingOn.{life_over_is, running_on, same_banks}
@@ -57,7 +55,7 @@ log_left-log-requires g c =
     let run = c.requires.running.3 in
     let told = rw c.in-Ok.is at (c.tell_life-closed.ensures.told run.cluster run.begins run.faults run.mounted run.opened) in
     let same = life_over_is run.cluster run.begins run.faults c.by-start.result.value closed (c.by-start.ensures ∙ (run.opened.begun.host.start ∙ run.opened.begun.start_is)) in
-    record { fit = λ pt lt. subst (λ (life : Life). FitLife l p life (log_disk closed.log) (volumes_left closed).xact.items) (sym same) (told.left.fit pt lt) }
+    record { fit = λ pt lt. subst (λ (life : Life). FitLife l p life (volumes_left closed)) (sym same) (told.left.fit pt lt) }
 
 pub go_on-requires : goal.go_on-requires
 go_on-requires g c κs within =
@@ -73,7 +71,7 @@ go_on-requires g c κs within =
     let kept = c.log_left-log.result.value.kept in
     let log = c.type_bounds.send-M-Log in
     let pages = c.type_bounds.send-M-Pages in
-    let fits = subst (λ volumes. IsTrue p.tells → IsTrue l.tells → Fit l p kept volumes.log volumes.xact.items) (sym c.into_volumes-volumes.ensures) (λ pt lt. (c.log_left-log.ensures.fits pt lt).fit) in (
+    let fits = subst (λ volumes. IsTrue p.tells → IsTrue l.tells → FitsLog l p kept volumes) (sym c.into_volumes-volumes.ensures) (λ pt lt. (c.log_left-log.ensures.fits pt lt).fit) in (
       search (rules, within),
       (search (rules, within), (search (rules, within), (record { owned = log.owned; leaving = λ k. log.leaving (λ a. k (of_param 1)) }, (record { owned = pages.owned; leaving = λ k. pages.leaving (λ a. k (of_param 2)) }, (banks, (first_of (search (rules, few), omega (arith, few, names)), fits)))))),
     )
@@ -102,7 +100,7 @@ returns-in-Ok-go_on-clause-went g c = λ begun done lives run count.
       part,
       c.in-Ok-put_life.ensures.ok,
       running_on s m.falls begun done lives (part_of c.args.part c.args.crash) r (volumes_left closed) part how c.in-Some.is next kept gone
-          (λ pt. subst (λ (life : Life). FitsLife l p life (log_disk closed.log) (volumes_left closed).xact.items kept) same (c.log_left-log.ensures.fits pt (gone.tells pt))),
+          (λ pt. subst (λ (life : Life). FitsLife l p life (volumes_left closed) kept) same (c.log_left-log.ensures.fits pt (gone.tells pt))),
     )
 
 pub returns-clause-went : goal.returns-clause-went

@@ -1,6 +1,6 @@
 use Rattle.std.proofs.Common.{refl, subst, sym}
 use Rattle.disk_core.specs.Media.{MayBeFirst}
-use Rattle.session_run.specs.declared.task.Task.TheVariants as tasks
+use Rattle.script_gen.specs.declared.task.Task.TheVariants as tasks
 use Rattle.session_run.specs.Runs.{IsTakenAlone}
 use Rattle.session_run.proofs.Endings.{alone_ends, is_taken, refusal_last, summed}
 use Rattle.session_run.proofs.ToolEnds.{refused_mounted}

@@ -1,7 +1,7 @@
 use Rattle.std.proofs.Common.{List, subst, sym, ℕ}
 use Rattle.disk_core.specs.Media.{MayBeFirst}
 use Rattle.session_run.specs.declared.ending.Ending.{Ending}
-use Rattle.session_run.specs.declared.task.Task.TheVariants as tasks
+use Rattle.script_gen.specs.declared.task.Task.TheVariants as tasks
 use Rattle.session_run.specs.Tool.{Ends, HasMounted, HasWritten}
 use Rattle.session_run.proofs.Endings.{answers, stopped_ends, stopped_read, unread_ends}
 use Rattle.session_run.proofs.ToolEnds.{stopped_mounted, unread_unmounted}

@@ -1,6 +1,6 @@
 use Rattle.std.proofs.Common.{List, [], subst, sym, ℕ}
 use Rattle.disk_core.specs.Media.{MayBeFirst}
-use Rattle.session_run.specs.declared.task.Task.{Task}
+use Rattle.script_gen.specs.declared.task.Task.{Task}
 use Rattle.session_run.specs.Tool.{Ends, HasWritten}
 use Rattle.session_run.proofs.Endings.{generated_is_read, last_written}
 use Rattle.session_run.proofs.tool.work.Goals as goal

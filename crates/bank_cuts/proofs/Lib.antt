@@ -1,0 +1,4 @@
+pub mod Reaching
+pub mod StatesCut
+pub mod ParentsCut
+pub mod Cutting

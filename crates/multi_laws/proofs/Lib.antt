@@ -1,3 +1,0 @@
-pub mod Widening
-pub mod MultiRows
-pub mod MultiStaying

@@ -9,3 +9,10 @@ pub mod Standing
 pub mod Storing
 pub mod Telling
 pub mod Ascending
+pub mod Following
+pub mod Standings
+pub mod Spanning
+pub mod Judging
+pub mod Gathering
+pub mod Pinning
+pub mod MultiReplying

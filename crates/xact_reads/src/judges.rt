@@ -128,13 +128,13 @@ fn judge<R: Passing, L: LogDisk, P: PageDisk>(
             let verdict = Verdict::TooOld;
             Ok(MemberVerdict { id, mode, verdict })
         }
-        Some(glance) => match judge_glance(rt, hall, caller, banks, name, glance, oldest) {
-            Ok(verdict) => {
-                let id = glance.id;
-                Ok(MemberVerdict { id, mode, verdict })
+        Some(glance) => {
+            let id = glance.id;
+            match judge_glance(rt, hall, caller, banks, name, glance, oldest) {
+                Ok(verdict) => Ok(MemberVerdict { id, mode, verdict }),
+                Err(refusal) => Err(refusal),
             }
-            Err(refusal) => Err(refusal),
-        },
+        }
     }
 }
 

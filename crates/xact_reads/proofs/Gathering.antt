@@ -3,7 +3,9 @@ use Rattle.std.proofs.Common.{Contains, List, None, Option, Some, [], ap, arith,
 use Rattle.std.specs.Prelude.{MatchOption}
 use Rattle.std.specs.List.{filter_map, slice_get}
 use Rattle.notes.specs.Lists.{Grows}
+use Rattle.tx_events.specs.Base.{IsBase}
 use Rattle.tx_events.specs.Ids.{low_half}
+use Rattle.tx_events.specs.Multis.{free_offset, oldest_multi, oldest_offset}
 use Rattle.tx_events.specs.declared.event.By.{By}
 use Rattle.tx_events.specs.declared.multi.Member.{Member}
 use Rattle.tx_events.specs.declared.multi.MultiEvent.{MultiEvent}
@@ -12,17 +14,19 @@ use Rattle.tx_events.specs.declared.record.Rec.TheVariants as records
 use Rattle.tx_events.proofs.Membership.{Has, contains_has, has_contains, has_left}
 use Rattle.tx_core.specs.declared.entry.Entry.{Entry}
 use Rattle.tx_core.specs.declared.entry.Start.{Start}
+use Rattle.tx_core.specs.EngineInvariant.{EngineInvariant}
 use Rattle.tx_core.specs.MultiEntries.{AreFewMultis, IsSlotSet, multi_history}
 use Rattle.tx_core.proofs.Rising.{multis_grow}
 use Rattle.multi_members.specs.declared.slot.Slot.{Slot}
 use Rattle.multi_members.specs.declared.slot.Slot.TheVariants as found
 use Rattle.multi_store.specs.declared.answers.Held.{Held}
 use Rattle.multi_banks.specs.Members.{AreSlotsRead, HasMembersFrom, IsGap, IsRecordedMember, IsSlotRead}
+use Rattle.multi_banks.specs.Offsets.{WasTold}
 use Rattle.recoverable.proofs.Stretches.{get_inside}
 use Rattle.xact_reads.specs.declared.spans.Ends.{Ends}
-use Rattle.xact_reads.specs.Multis.{AreItsSlots, AreReadFrom, HasMembersIn, pair_in, slots_between, stored_member}
+use Rattle.xact_reads.specs.Multis.{AreItsSlots, AreReadFrom, HasMembersIn, full_upto, pair_in, slots_between, stored_member}
 use Rattle.xact_reads.proofs.Spanning.{Spanned}
-use Rattle.xact_reads.proofs.Standings.{slot_later, whose_later}
+use Rattle.xact_reads.proofs.Standings.{from_oldest, slot_later, whose_later}
 
 -- ---- what was read by longer lists
 
@@ -44,6 +48,9 @@ slot_since start since lists x slot g r = record {
 -- in a life that is of few later
 pub slots_since : (start : Start) (since lists : List (List Entry)) (offset : ℕ) (slots : List Slot) → Grows since lists → AreFewMultis lists → AreSlotsRead start lists offset slots → AreSlotsRead start since offset slots
 slots_since start since lists offset slots g few read before j slot is = slot_since start since lists (offset + j) slot g (read few j slot is)
+
+pub read_since : (start : Start) (since lists : List (List Entry)) (offset count : ℕ) (old new : List Slot) → Grows since lists → AreFewMultis lists → AreReadFrom start lists offset count old new → AreReadFrom start since offset count old new
+read_since start since lists offset count old new g few r = record { slots = r.slots; behind = r.behind; long = r.long; read = slots_since start since lists offset r.slots g few r.read }
 
 -- ---- one page behind another
 
@@ -124,3 +131,25 @@ its_slots start since lists held ends slots g few s long reads = record {
             let at : j ≡ length s.members = omega (arith, count, past, inside, long) in
             read.gap (subst (λ z. IsGap start since (s.offset + z)) (sym at) c.1))
             s.counts
+
+-- a multixact has a member
+pub none_between : (start : Start) (lists : List (List Entry)) (held : Held) (ends : Ends) → Spanned start lists held ends → slots_between ends ≡ 0 → ⊥
+none_between start lists held ends s zero =
+    let some = s.stood.fit.some in
+    ⊎_elim
+    (λ (c : slots_between ends ≡ length s.members). omega (arith, some, c, zero))
+    (λ (c : (slots_between ends ≡ length s.members + 1) × IsGap start lists (s.offset + length s.members)). let q = c.0 in omega (arith, q, zero))
+    s.counts
+
+-- the slots that were read from the offset on are its members'
+pub gathered : (start : Start) (since lists : List (List Entry)) → EngineInvariant start lists → IsBase start.base → (held : Held) (ends : Ends) (offset count : ℕ) (old new : List Slot) → Grows since lists → AreFewMultis since → WasTold start → (s : Spanned start since held ends) → oldest_multi start.base.oldest_multi (multi_history lists) ≤ held.multi
+    → old ≡ [] → offset ≡ full_upto held.end ends.begin → count ≡ slots_between ends
+    → (oldest_offset start.base.oldest_offset (multi_history lists) ≤ offset → offset + count ≤ free_offset start.base.offset (multi_history since) → AreReadFrom start since offset count old new) → AreItsSlots start lists held.multi new
+gathered start since lists k base held ends offset count old new g few t s later none at many read =
+    let same : offset ≡ s.offset = at ∙ s.full in
+    let from = from_oldest start lists k base held.multi s.offset s.members t (whose_later start since lists held.multi s.offset s.members g s.stood.whose) later in
+    let to = s.to in
+    let r = read (omega (arith, from, same)) (omega (arith, to, same, many)) in
+    let all : new ≡ r.slots = r.behind ∙ ap (λ (z : List Slot). z ++ r.slots) none in
+    subst (AreItsSlots start lists held.multi) (sym all)
+    (its_slots start since lists held ends r.slots g few s (r.long ∙ many) (subst (λ z. AreSlotsRead start since z r.slots) same r.read))

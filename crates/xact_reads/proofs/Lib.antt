@@ -16,3 +16,7 @@ pub mod Judging
 pub mod Gathering
 pub mod Pinning
 pub mod MultiReplying
+pub mod Banking
+pub mod Ending
+pub mod Once
+pub mod Verdicts

@@ -77,7 +77,7 @@ rest_above base h by m x ms = by_end (λ rest. AreLegalMultis base (InBase base)
     (last_cases rest e (multis.Gen by m x ms) has))
 
 -- one below the next one there was given before
-given_before : (base : Counters) (before h : List MultiEvent) (by : By) (m x : ℕ) (ms : List Member) → Begins before h → AreLegalMultis base (InBase base) h → m < next_made base.multi before → Has h (multis.Gen by m x ms) → Has before (multis.Gen by m x ms)
+pub given_before : (base : Counters) (before h : List MultiEvent) (by : By) (m x : ℕ) (ms : List Member) → Begins before h → AreLegalMultis base (InBase base) h → m < next_made base.multi before → Has h (multis.Gen by m x ms) → Has before (multis.Gen by m x ms)
 given_before base before h by m x ms b legal below has = ⊎_elim
     (λ old. old)
     (λ late. let low = rest_above base before by m x ms b.0 (subst (AreLegalMultis base (InBase base)) (sym b.1) legal) late in absurd (omega (arith, below, low)))
@@ -102,7 +102,7 @@ module _ (start : Start) (lists : List (List Entry)) (k : EngineInvariant start 
   legal : AreLegalMultis start.base (InBase start.base) h
   legal = multis_are_legal start lists k
 
-  front : (before : List MultiEvent) → Begins before h → AreLegalMultis start.base (InBase start.base) before
+  pub front : (before : List MultiEvent) → Begins before h → AreLegalMultis start.base (InBase start.base) before
   front before b = each_place_start (MultiMayCome start.base (InBase start.base)) before b.0 (subst (AreLegalMultis start.base (InBase start.base)) (sym b.1) legal)
 
   -- the last one at a place ends at the free offset there

@@ -1,5 +1,5 @@
 -- What a `multi` did.
-use Rattle.std.proofs.Common.{◌≡◌, ◌≢◌, ◌⊎◌, ⊎_elim, inl, inr, ℕ, Bool, true, false, IsTrue, List, [], ◌∷◌, ◌++◌, Option, None, Some, Result, Ok, Err, append-nil, length, refl, sym, ap, subst, ◌∙◌}
+use Rattle.std.proofs.Common.{◌≡◌, ◌≢◌, ◌⊎◌, ⊎_elim, inl, inr, ℕ, Bool, true, false, IsTrue, List, [], ◌∷◌, ◌++◌, IfOk, Option, None, Some, Result, Ok, Err, append-nil, length, refl, sym, ap, subst, ◌∙◌}
 use Rattle.std.proofs.lemmas.Bool.{false≢true}
 use Rattle.std.specs.Bool.{then_some}
 use Rattle.std.specs.Option.{option_or}
@@ -50,7 +50,7 @@ use Rattle.engine_parts.proofs.Adding.{adds_nothing, adds_wider, may_wider}
 use Rattle.engine_parts.proofs.Beholding.{not_standing}
 use Rattle.engine_parts.proofs.Refusing.{keeps_stage}
 use Rattle.multi_sections.specs.Takings.{taken_event}
-use Rattle.multi_makes.specs.Makes.{IsHeldUp, IsMadeNew, IsNoneGiven, IsStopped, LeavesMaking, MakesNew, MakesNext, given_reply}
+use Rattle.multi_makes.specs.Makes.{IsHeldUp, IsMade, IsMadeNew, IsNoneGiven, IsStopped, LeavesMaking, MakesNew, MakesNext, given_reply}
 use Rattle.multi_makes.specs.Pending.{StopsMaking}
 use Rattle.multi_makes.proofs.Going.{went_nothing}
 use Rattle.multi_makes.proofs.Told.{Refuses, are_given, gave_none, gave_one, is_warned, keeps_given, keeps_held, keeps_made, keeps_none, keeps_refused, none_refuse, stops_refuse}
@@ -216,3 +216,8 @@ module _ {H L P : Type 0} {l : logs.Ghosts L} {p : disks.Ghosts P} (hall : Hall 
       held refusals.MemberCount q = tt
       held refusals.TwoUpdaters q = tt
       held _ q = absurd (⊎_elim (λ e. cc) (λ e. cc) q)
+
+-- one that was answered is made whole
+pub makes_done : (start : Start) (n : ℕ) (s s' : Session) (pairs : List Pair) (lists more : List (List Entry)) (result : Result MultiGiven Refusal) → MakesNext start n s s' pairs lists more result → IfOk result (IsMade start more n)
+makes_done start n s s' pairs lists more (Ok g) f = record { members = f.1.members; done = f.1.done }
+makes_done start n s s' pairs lists more (Err r) f = tt

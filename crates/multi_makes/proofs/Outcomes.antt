@@ -51,9 +51,9 @@ taken_done start lists n m s t members g same is d =
 
 -- ---- what was made of the script's members
 
--- a moment before counts too
-pub given_earlier : (start : Start) (n : ℕ) (s : Session) (members : List Member) (g : MultiGiven) (lists mid more : List (List Entry)) → WentMulti n [] lists mid → IsGivenIn start n s members g mid more → IsGivenIn start n s members g lists more
-given_earlier start n s members g lists mid more went e = record {
+-- a moment before counts too, whatever the session made then
+pub given_earlier : (start : Start) (n : ℕ) (s : Session) (o : Option Making) (members : List Member) (g : MultiGiven) (lists mid more : List (List Entry)) → WentMulti n [] lists mid → IsGivenIn start n (record s { making = o }) members g mid more → IsGivenIn start n s members g lists more
+given_earlier start n s o members g lists mid more went e = record {
   went = multi_then n [] (taken_event n s members g ∷ []) lists mid more went e.went;
   before = e.before;
   rest = e.rest;
@@ -70,7 +70,7 @@ new_of start n s s' pairs members lists mid more went full (Ok g) m = (
   record {
     members = members;
     read = read_of start lists mid more pairs members went.grows m.1.went.grows full;
-    event = given_earlier start n s members g lists mid more went m.1;
+    event = given_earlier start n s s.making members g lists mid more went m.1;
     done = m.2;
   },
 )
@@ -83,7 +83,7 @@ new_of start n s s' pairs members lists mid more went full (Err r) m =
       members = members;
       read = read_of start lists mid more pairs members went.grows x.2.went.grows full;
       given = x.1;
-      event = given_earlier start n s members x.1 lists mid more went x.2;
+      event = given_earlier start n s s.making members x.1 lists mid more went x.2;
       stops = x.3;
     }))
     m
@@ -93,25 +93,25 @@ new_of start n s s' pairs members lists mid more went full (Err r) m =
 read_earlier : (start : Start) (lists mid more : List (List Entry)) (pairs : List Pair) (members : List Member) → Grows lists mid → AreRead start mid more pairs members → AreRead start lists more pairs members
 read_earlier start lists mid more pairs members g r = record { seen = r.seen; from = grows_then lists mid r.seen g r.from; upto = r.upto; full = r.full }
 
-pub next_of : (start : Start) (n : ℕ) (s s' : Session) (pairs : List Pair) (lists mid more : List (List Entry)) → WentMulti n [] lists mid → (result : Result MultiGiven Refusal) → MakesNew start n s s' pairs mid more result → MakesNext start n s s' pairs lists more result
+pub next_of : (start : Start) (n : ℕ) (s s' : Session) (pairs : List Pair) (lists mid more : List (List Entry)) → WentMulti n [] lists mid → (result : Result MultiGiven Refusal) → MakesNew start n (record s { making = None }) s' pairs mid more result → MakesNext start n s s' pairs lists more result
 next_of start n s s' pairs lists mid more went (Ok g) m = (
   m.0,
   record {
     members = m.1.members;
     read = read_earlier start lists mid more pairs m.1.members went.grows m.1.read;
-    event = given_earlier start n s m.1.members g lists mid more went m.1.event;
+    event = given_earlier start n s None m.1.members g lists mid more went m.1.event;
     done = m.1.done;
   },
 )
 next_of start n s s' pairs lists mid more went (Err r) m =
     inr (⊎_elim
     (λ (x : (s'.making ≡ None) × WentMulti n [] mid more × IsNoneGiven start more pairs r). inl (x.0, multi_then n [] [] lists mid more went x.1, x.2))
-    (λ (x : (s'.making ≢ None) × IsStopped start n s pairs mid more r).
+    (λ (x : (s'.making ≢ None) × IsStopped start n (record s { making = None }) pairs mid more r).
     inr (x.0, record {
       members = x.1.members;
       read = read_earlier start lists mid more pairs x.1.members went.grows x.1.read;
       given = x.1.given;
-      event = given_earlier start n s x.1.members x.1.given lists mid more went x.1.event;
+      event = given_earlier start n s None x.1.members x.1.given lists mid more went x.1.event;
       stops = x.1.stops;
     }))
     m)

@@ -27,8 +27,9 @@ returns-in-Ok-clause-makes g c =
     let t = c.finish.new.caller in
     let x = c.make_new.new.caller in
     let f = c.in-Ok.ensures in
+    let same : (t.number, t.session) ≡ (old.number, record old.session { making = None }) = λ j. (f.visited.number j, f.finishes.0 j) in
     next_of start old.number old.session x.session c.args.pairs.now (view old.pass).seen (view t.pass).seen (view x.pass).seen f.visited.went c.make_new.result
-    (subst (λ (z : ℕ × Session). MakesNew start z.0 z.1 x.session c.args.pairs.now (view t.pass).seen (view x.pass).seen c.make_new.result) {a = (t.number, t.session)} {b = (old.number, record old.session { making = None })} (λ j. (f.visited.number j, f.finishes.0 j)) c.make_new.ensures.makes)
+    (subst (λ (z : ℕ × Session). MakesNew start z.0 z.1 x.session c.args.pairs.now (view t.pass).seen (view x.pass).seen c.make_new.result) same c.make_new.ensures.makes)
 
 pub returns-in-Err-clause-makes : goal.returns-in-Err-clause-makes
 returns-in-Err-clause-makes g c =

@@ -20,7 +20,7 @@ finish-requires g c =
     let old = c.args.caller.now in
     let t = c.take_multi.new.caller in
     let e = c.take_multi.ensures in
-    step_of c.args.hall.now c.args.banks old t _ c.requires.step e.own e.ready c.in-Ok.ensures.takes.0 e.number (same_taken old.session t.session _ _ c.in-Ok.ensures.session)
+    step_of c.args.hall.now c.args.banks old t _ c.requires.step e.own e.ready c.in-Ok.ensures.takes.0 e.number (same_taken old.session t.session c.args.members (Ok c.in-Ok.given) c.in-Ok.ensures.session)
 
 pub returns-in-Ok-finish-clause-adds : goal.returns-in-Ok-finish-clause-adds
 returns-in-Ok-finish-clause-adds g c =
@@ -29,7 +29,7 @@ returns-in-Ok-finish-clause-adds g c =
     let t = c.take_multi.new.caller in
     let x = c.finish.new.caller in
     let e = c.take_multi.ensures in
-    let same = same_taken old.session t.session _ _ c.in-Ok.ensures.session in
+    let same = same_taken old.session t.session c.args.members (Ok c.in-Ok.given) c.in-Ok.ensures.session in
     let by = by_at old.number old.session.levels.commands in
     both_add by (by_at t.number t.session.levels.commands) IsPlain (MayAdd IsOfMulti ⊥ (λ r. ⊥)) (MayAdd IsOfMulti ⊥ (λ r. ⊥)) (view old.pass).seen (view t.pass).seen (view x.pass).seen (command_kept old.number t.number old.session t.session e.number same)
     (plain_wider IsOfMulti ⊥ (λ r. ⊥)) (λ lock kind m. m)
@@ -45,8 +45,8 @@ returns-in-Ok-finish-clause-makes g c =
     let e = c.take_multi.ensures in
     let f = c.in-Ok-finish.ensures in (
       ap (λ z. z.making) f.finishes.0,
-      given_in start old.number t.number old.session c.args.members _ (view old.pass).seen (view t.pass).seen (view x.pass).seen e.number c.in-Ok.ensures.takes f.visited.went,
-      taken_done start (view x.pass).seen old.number t.number old.session t.session c.args.members _ e.number c.in-Ok.ensures.session f.finishes.1,
+      given_in start old.number t.number old.session c.args.members c.in-Ok.given (view old.pass).seen (view t.pass).seen (view x.pass).seen e.number c.in-Ok.ensures.takes f.visited.went,
+      taken_done start (view x.pass).seen old.number t.number old.session t.session c.args.members c.in-Ok.given e.number c.in-Ok.ensures.session f.finishes.1,
     )
 
 pub returns-in-Err-finish-clause-adds : goal.returns-in-Err-finish-clause-adds
@@ -57,7 +57,7 @@ returns-in-Err-finish-clause-adds g c =
     let x = c.finish.new.caller in
     let e = c.take_multi.ensures in
     let r = c.in-Err-finish.refusal in
-    let same = same_taken old.session t.session _ _ c.in-Ok.ensures.session in
+    let same = same_taken old.session t.session c.args.members (Ok c.in-Ok.given) c.in-Ok.ensures.session in
     let by = by_at old.number old.session.levels.commands in
     both_add by (by_at t.number t.session.levels.commands) IsPlain (MayAdd IsOfMulti ⊥ (λ q. r ≡ q)) (MayAdd IsOfMulti ⊥ (λ q. r ≡ q)) (view old.pass).seen (view t.pass).seen (view x.pass).seen (command_kept old.number t.number old.session t.session e.number same)
     (plain_wider IsOfMulti ⊥ (λ q. r ≡ q)) (λ lock kind m. m)
@@ -72,11 +72,11 @@ returns-in-Err-finish-clause-makes g c =
     let x = c.finish.new.caller in
     let e = c.take_multi.ensures in
     let f = c.in-Err-finish.ensures in
-    let same = same_taken old.session t.session _ _ c.in-Ok.ensures.session in
+    let same = same_taken old.session t.session c.args.members (Ok c.in-Ok.given) c.in-Ok.ensures.session in
     inr (
       f.finishes.2,
-      _,
-      given_in start old.number t.number old.session c.args.members _ (view old.pass).seen (view t.pass).seen (view x.pass).seen e.number c.in-Ok.ensures.takes f.visited.went,
+      c.in-Ok.given,
+      given_in start old.number t.number old.session c.args.members c.in-Ok.given (view old.pass).seen (view t.pass).seen (view x.pass).seen e.number c.in-Ok.ensures.takes f.visited.went,
       subst (λ (b : By). StopsMaking start (view x.pass).seen b c.in-Err-finish.refusal) (command_kept old.number t.number old.session t.session e.number same) f.finishes.3,
     )
 

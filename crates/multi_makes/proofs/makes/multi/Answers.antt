@@ -8,7 +8,7 @@ use Rattle.engine_parts.specs.Answers.{reply_of}
 use Rattle.engine_parts.specs.Calls.{Ran, next_command}
 use Rattle.engine_parts.proofs.Calling.{ran_counted, step_counted}
 use Rattle.multi_makes.specs.Makes.{IsMade, given_reply}
-use Rattle.multi_makes.proofs.Acts.{makes_done, makes_ran, makes_words, words_by, words_ran, words_told}
+use Rattle.multi_makes.proofs.Acts.{makes_items, makes_ran, words_ran}
 use Rattle.multi_makes.proofs.makes.multi.Goals as goal
 
 pub make_next-requires-clause-step : goal.make_next-requires-clause-step
@@ -34,4 +34,4 @@ returns-in-None-clause-ran g c =
     let pairs = c.args.members.now in
     let e = m.ensures in
     ran_counted hall old u x (commands.Multi pairs) (reply_of given_reply m.result) c.count.ensures
-    (makes_ran hall u x pairs m.result e.step e.left e.adds ?)
+    (makes_ran hall u x pairs m.result e.step e.left e.adds (makes_items (start_of hall) u.number u.session x.session _ pairs (view u.pass).seen (view x.pass).seen m.result c.items-in-None.ensures e.makes))

@@ -50,5 +50,4 @@ pub returns-clause-slots : goal.returns-clause-slots
 returns-clause-slots g c =
     let i = c.loop-done.invariant in
     let past = c.loop-done-test.false in
-    let long = c.len.ensures in
     all_done (start_of c.args.hall.now) (view c.loop-done.caller.pass).seen c.args.offset c.args.members.now c.loop-done.done (omega arith) i.slots

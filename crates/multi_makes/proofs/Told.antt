@@ -216,7 +216,8 @@ pub gave_none : (n : ℕ) (lists more : List (List Entry)) → own_multis n more
 gave_none n lists more same = let long : length (own_multis n more) ≡ length (own_multis n lists) = ap length same ∙ same_length (own_multis n lists) in grind (arith, nat_tests)
   where
     same_length : (xs : List MultiEvent) → length (xs ++ []) ≡ length xs
-    same_length xs = search arith
+    same_length [] = refl
+    same_length (x ∷ xs) = let r = same_length xs in omega arith
 
 pub gave_one : (n : ℕ) (lists more : List (List Entry)) (e : MultiEvent) → own_multis n more ≡ own_multis n lists ++ e ∷ [] → has_more_multis n lists more ≡ true
 gave_one n lists more e same = let long : length (own_multis n more) ≡ length (own_multis n lists) + 1 = ap length same ∙ one_longer (own_multis n lists) in grind (arith, nat_tests)
@@ -234,8 +235,8 @@ module _ (pairs : List Pair) (gave : Bool) (old new : Option Making) where
   keeps_given r is some = subst (λ b. KeepsMaking (commands.Multi pairs) (replies.Refused r) b old new) (sym is) (λ u told. some)
 
   -- none is
-  pub keeps_none : (base : Counters) (h : List Event) (all : List MultiEvent) (next oldest count : ℕ) (r : Refusal) → gave ≡ false → new ≡ None → AreNotFull next oldest pairs r ⊎ IsNotTaken base all count r → KeepsMaking (commands.Multi pairs) (replies.Refused r) gave old new
-  keeps_none base h all next oldest count r is empty c = subst (λ b. KeepsMaking (commands.Multi pairs) (replies.Refused r) b old new) (sym is) (of r c)
+  pub keeps_none : (base : Counters) (all : List MultiEvent) (next oldest count : ℕ) (r : Refusal) → gave ≡ false → new ≡ None → AreNotFull next oldest pairs r ⊎ IsNotTaken base all count r → KeepsMaking (commands.Multi pairs) (replies.Refused r) gave old new
+  keeps_none base all next oldest count r is empty c = subst (λ b. KeepsMaking (commands.Multi pairs) (replies.Refused r) b old new) (sym is) (of r c)
     where
       memory : KeepsMaking (commands.Multi pairs) (replies.Refused refusals.Memory) false old new
       memory none told = empty

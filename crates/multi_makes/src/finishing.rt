@@ -1,5 +1,5 @@
 //! The multixact that a session makes is made whole.
-ghost use Rattle.std.specs.Prelude.{◌≡◌, IfErr, IfOk, OnOk};
+ghost use Rattle.std.specs.Prelude.{◌≡◌, ◌≢◌, IfErr, MatchResult, None, OnOk};
 ghost use Rattle.hall.specs.Calls.{view, start_of};
 ghost use Rattle.tx_core.specs.MembersBeforeOffset.{IsRecorded};
 ghost use Rattle.engine_parts.specs.Adding.{IsOfMulti, IsToldBy, MayAdd, MayFault};
@@ -20,7 +20,7 @@ use tx_events::{Copied, FullMulti, Member, Memory, Rec, Refusal};
 
 /// The record of the multixact that is made, where one is.
 fn pending_record(making: &Option<Making>) -> Result<Option<Rec>, Memory>
-    ensures { IfOk result (ArePending making.now) }
+    ensures { MatchResult result (ArePending making.now) (λ _. making.now ≢ None) }
 {
     match making {
         None => Ok(None),

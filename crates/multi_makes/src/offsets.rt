@@ -1,6 +1,8 @@
 //! The offset of a multixact is set.
 ghost use Rattle.std.specs.Prelude.{◌≡◌, ◌%◌, ◌<◌, ◌≤◌, IfErr, OnOk};
 ghost use Rattle.hall.specs.Calls.{view, start_of};
+ghost use Rattle.tx_events.specs.Ids.{low_half};
+ghost use Rattle.tx_events.specs.Pages.{offset_page};
 ghost use Rattle.engine_parts.specs.Adding.{MayFault};
 ghost use Rattle.engine_parts.specs.Calls.{MayStep};
 ghost use Rattle.engine_parts.specs.Sessions.{by_at};

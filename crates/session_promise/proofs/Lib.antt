@@ -1,3 +1,10 @@
+pub mod Sides
+pub mod MultiEvents
+pub mod MultiKinds
+pub mod MakingFollows
+pub mod MultiWidening
+pub mod MultiRows
+pub mod MultiStaying
 pub mod PendingGrowth
 pub mod Widening
 pub mod Growing
@@ -6,12 +13,14 @@ pub mod Staying
 pub mod PendingFollows
 pub mod RecordPlaces
 pub mod Known
+pub mod OwnNone
 pub mod GoingOn
 pub mod Beginning
 pub mod Parting
 pub mod Telling
 pub mod Summing
 pub mod FewIds
+pub mod FewMultis
 pub mod Standing
 pub mod OneFault
 pub mod HostFaults
@@ -29,6 +38,3 @@ pub mod PendingStays
 pub mod CheckpointRecords
 pub mod Flushing
 pub mod CheckpointsStay
-pub mod OwnNone
-pub mod Plain
-pub mod NoMultis

@@ -1,9 +1,10 @@
 -- What is unfinished of a session's multixacts, by its lines.
-use Rattle.std.proofs.Common.{◌≡◌, ◌≢◌, ◌+◌, ◌<◌, ◌≤◌, ℕ, zero, suc, Bool, cond, List, [], ◌∷◌, ◌++◌, Option, None, Some, ap, nat_lt, refl, sym, subst, ◌∙◌, arith, length}
+use Rattle.std.proofs.Common.{◌≡◌, ◌+◌, ◌<◌, ◌≤◌, ℕ, Bool, true, false, cond, List, [], ◌∷◌, ◌++◌, ap, nat_lt, refl, sym, ◌∙◌, ⊎_elim, arith, length}
+use Rattle.std.proofs.lemmas.Bool.Decides.{nat_tests}
 use Rattle.std.proofs.lemmas.List.Elements.{filter-append}
 use Rattle.std.specs.List.{AllByRecursion, filter}
 use Rattle.tx_events.specs.declared.multi.MultiEvent.{MultiEvent}
-use Rattle.tx_events.proofs.ListSteps.{all_filter, eqb-refl}
+use Rattle.tx_events.proofs.ListSteps.{all_filter, eqb-refl, le_or_over}
 use Rattle.tx_model.specs.declared.report.Line.{Line}
 use Rattle.tx_model.specs.Lines.{is_line_of}
 use Rattle.life_law.specs.MultiPlaces.{multis_of}
@@ -35,5 +36,16 @@ unfinished_push h lines l =
 
 -- more were given where there are some
 pub more_given : (n m : ℕ) → nat_lt n (n + m) ≡ nat_lt 0 m
-more_given zero m = refl
-more_given (suc n) m = more_given n m
+more_given n m = ⊎_elim (λ (none : m ≤ 0). at_end n m none ∙ sym (none_less m none)) (λ (some : 0 < m). within n m some ∙ sym (some_less m some)) (le_or_over m 0)
+  where
+    at_end : (n m : ℕ) → m ≤ 0 → nat_lt n (n + m) ≡ false
+    at_end n m l = grind (arith, nat_tests)
+
+    within : (n m : ℕ) → 0 < m → nat_lt n (n + m) ≡ true
+    within n m l = grind (arith, nat_tests)
+
+    none_less : (m : ℕ) → m ≤ 0 → nat_lt 0 m ≡ false
+    none_less m l = grind (arith, nat_tests)
+
+    some_less : (m : ℕ) → 0 < m → nat_lt 0 m ≡ true
+    some_less m l = grind (arith, nat_tests)

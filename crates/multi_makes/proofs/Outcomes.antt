@@ -79,13 +79,16 @@ new_of start n s s' pairs members lists mid more went full (Err r) m =
     (λ (x : (s'.making ≡ None) × WentMulti n [] mid more × IsNotTaken start.base (multi_history more) (length members) r).
     inl (x.0, multi_then n [] [] lists mid more went x.1, inr (subst (λ z. IsNotTaken start.base (multi_history more) z r) (full_length (next_given start.base.next (history mid)) pairs members full) x.2)))
     (λ (x : (s'.making ≢ None) × (g : MultiGiven) × IsGivenIn start n s members g mid more × StopsMaking start more (by_at n s.levels.commands) r).
-    inr (x.0, record {
-      members = members;
-      read = read_of start lists mid more pairs members went.grows x.2.went.grows full;
-      given = x.1;
-      event = given_earlier start n s s.making members x.1 lists mid more went x.2;
-      stops = x.3;
-    }))
+    inr (
+      x.0,
+      record {
+        members = members;
+        read = read_of start lists mid more pairs members went.grows x.2.went.grows full;
+        given = x.1;
+        event = given_earlier start n s s.making members x.1 lists mid more went x.2;
+        stops = x.3;
+      },
+    ))
     m
 
 -- ---- behind the one before
@@ -107,11 +110,14 @@ next_of start n s s' pairs lists mid more went (Err r) m =
     inr (⊎_elim
     (λ (x : (s'.making ≡ None) × WentMulti n [] mid more × IsNoneGiven start more pairs r). inl (x.0, multi_then n [] [] lists mid more went x.1, x.2))
     (λ (x : (s'.making ≢ None) × IsStopped start n (record s { making = None }) pairs mid more r).
-    inr (x.0, record {
-      members = x.1.members;
-      read = read_earlier start lists mid more pairs x.1.members went.grows x.1.read;
-      given = x.1.given;
-      event = given_earlier start n s None x.1.members x.1.given lists mid more went x.1.event;
-      stops = x.1.stops;
-    }))
+    inr (
+      x.0,
+      record {
+        members = x.1.members;
+        read = read_earlier start lists mid more pairs x.1.members went.grows x.1.read;
+        given = x.1.given;
+        event = given_earlier start n s None x.1.members x.1.given lists mid more went x.1.event;
+        stops = x.1.stops;
+      },
+    ))
     m)

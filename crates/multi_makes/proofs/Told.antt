@@ -95,8 +95,8 @@ is_warned start n s members g lists more legal e =
         late = subst (λ (t : List MultiEvent). multi_warn_limit (oldest_multi start.base.oldest_multi t) ≤ g.multi) (sym front) (e.taken.warn.0 w);
       },
       λ (w : IsMultiWarned start.base all (by_at n s.levels.commands) g.multi).
-      let same = one_place start.base all legal (by_at n s.levels.commands) (by_at n s.levels.commands) g.multi w.offset g.offset w.members members w.place (length e.before) w.given here in
-      e.taken.warn.1 (subst (λ (t : List MultiEvent). multi_warn_limit (oldest_multi start.base.oldest_multi t) ≤ g.multi) (ap (λ z. take z all) same ∙ front) w.late),
+          let same = one_place start.base all legal (by_at n s.levels.commands) (by_at n s.levels.commands) g.multi w.offset g.offset w.members members w.place (length e.before) w.given here in
+          e.taken.warn.1 (subst (λ (t : List MultiEvent). multi_warn_limit (oldest_multi start.base.oldest_multi t) ≤ g.multi) (ap (λ z. take z all) same ∙ front) w.late),
     )
 
 -- ---- refusals

@@ -1,5 +1,5 @@
 -- What a `multi` came to, from what its steps came to.
-use Rattle.std.proofs.Common.{◌≡◌, ◌≢◌, ◌⊎◌, ⊎_elim, inl, inr, ℕ, List, [], ◌∷◌, ◌++◌, None, Some, IfSome, Option, Result, Ok, Err, append_assoc, length, refl, sym, ap, subst, ◌∙◌}
+use Rattle.std.proofs.Common.{◌≡◌, ◌≢◌, ⊎_elim, inl, inr, ℕ, List, [], ◌∷◌, ◌++◌, None, IfSome, Option, Result, Ok, Err, append_assoc, length, sym, ap, subst, ◌∙◌}
 use Rattle.notes.specs.Lists.{Grows}
 use Rattle.tx_events.specs.declared.multi.Member.{Member}
 use Rattle.tx_events.specs.declared.multi.MultiEvent.{MultiEvent}
@@ -21,8 +21,8 @@ use Rattle.engine_parts.proofs.Leaving.{grows_then}
 use Rattle.multi_sections.specs.Steps.{IsLast}
 use Rattle.multi_sections.specs.Takings.{IsNotTaken, IsTaken, Takes, session_taken, taken_event}
 use Rattle.multi_makes.specs.Full.{AreFullOf}
-use Rattle.multi_makes.specs.Makes.{AreRead, IsGivenIn, IsHeldUp, IsMadeNew, IsNoneGiven, IsStopped, MakesNew, MakesNext, MakesOf}
-use Rattle.multi_makes.specs.Pending.{Finishes, StopsMaking}
+use Rattle.multi_makes.specs.Makes.{AreRead, IsGivenIn, IsNoneGiven, IsStopped, MakesNew, MakesNext, MakesOf}
+use Rattle.multi_makes.specs.Pending.{StopsMaking}
 use Rattle.multi_makes.proofs.Going.{multi_before, multi_then}
 use Rattle.multi_makes.proofs.Reading.{full_length}
 

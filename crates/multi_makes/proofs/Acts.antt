@@ -1,6 +1,5 @@
 -- What a `multi` did.
-use Rattle.std.proofs.Common.{◌≡◌, ◌≢◌, ◌⊎◌, ⊎_elim, inl, inr, ℕ, Bool, true, false, IsTrue, List, [], ◌∷◌, ◌++◌, IfOk, Option, None, Some, Result, Ok, Err, append-nil, length, refl, sym, ap, subst, ◌∙◌}
-use Rattle.std.proofs.lemmas.Bool.{false≢true}
+use Rattle.std.proofs.Common.{◌≡◌, ◌≢◌, ◌⊎◌, ⊎_elim, inl, inr, ℕ, Bool, true, false, IsTrue, List, [], ◌∷◌, IfOk, None, Some, Result, Ok, Err, append-nil, length, refl, sym, ap, subst, ◌∙◌}
 use Rattle.std.specs.Bool.{then_some}
 use Rattle.std.specs.Option.{option_or}
 use Rattle.std.specs.List.{AllByRecursion, filter}
@@ -9,7 +8,6 @@ use Rattle.disk_core.specs.declared.page_disk.PageDisk as disks
 use Rattle.hall.specs.declared.hall.Hall.{Hall}
 use Rattle.hall.specs.Calls.{IsOf, start_of, view}
 use Rattle.tx_events.specs.declared.multi.MultiEvent.{MultiEvent}
-use Rattle.tx_events.specs.declared.refusal.Lock.TheVariants as locks
 use Rattle.tx_events.specs.declared.refusal.Refusal.{Refusal}
 use Rattle.tx_events.specs.declared.refusal.Refusal.TheVariants as refusals
 use Rattle.tx_events.specs.declared.event.By.{By}
@@ -26,15 +24,12 @@ use Rattle.tx_model.specs.Replies.{alone}
 use Rattle.tx_model.specs.Stance.{Stance}
 use Rattle.life_law.specs.MultiLines.{HasMultiEvents, may_have_given}
 use Rattle.life_law.specs.Refused.{by_members, by_standing, is_by_members, is_by_standing, refused_by_members}
-use Rattle.session_levels.specs.Stands as levels
 use Rattle.multi_store.specs.declared.answers.MultiGiven.{MultiGiven}
 use Rattle.tx_core.specs.declared.entry.Entry.{Entry}
 use Rattle.tx_core.specs.declared.entry.Kind.{Kind}
 use Rattle.tx_core.specs.declared.entry.Start.{Start}
-use Rattle.tx_core.specs.EngineInvariant.{EngineInvariant}
 use Rattle.tx_core.specs.Entries.{history}
 use Rattle.tx_core.specs.MultiEntries.{multi_history}
-use Rattle.tx_core.specs.OwnMultis.{own_multis}
 use Rattle.tx_core.proofs.Nearness.{multis_are_legal}
 use Rattle.engine_parts.specs.declared.part.Part.{Part}
 use Rattle.engine_parts.specs.declared.session.Caller.{Caller}

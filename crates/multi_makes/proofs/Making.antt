@@ -1,5 +1,5 @@
 -- The multixact that a session makes, from its record to its end.
-use Rattle.std.proofs.Common.{◌≡◌, ◌≢◌, ⊎_elim, inl, inr, ℕ, Bool, true, false, List, [], Option, None, Some, IfSome, Contains, Result, Ok, Err, refl, sym, ap, subst, ◌∙◌}
+use Rattle.std.proofs.Common.{◌≡◌, ◌≢◌, ⊎_elim, inl, ℕ, Bool, true, false, List, Option, None, Some, IfSome, Contains, Result, Ok, Err, refl, sym, subst, ◌∙◌}
 use Rattle.tx_events.proofs.Membership.{contains_has}
 use Rattle.tx_events.specs.declared.multi.Member.{Member}
 use Rattle.tx_events.specs.declared.multi.MultiEvent.{MultiEvent}
@@ -12,7 +12,7 @@ use Rattle.tx_core.specs.EngineInvariant.{EngineInvariant}
 use Rattle.tx_core.specs.Entries.{IsAppended}
 use Rattle.tx_core.specs.MembersBeforeOffset.{IsRecorded}
 use Rattle.tx_core.specs.MultiEntries.{multi_history}
-use Rattle.tx_core.specs.OwnMultis.{AreMultisDone, IsMultiDone}
+use Rattle.tx_core.specs.OwnMultis.{IsMultiDone}
 use Rattle.tx_core.specs.RecordsFollow.{IsGenOf}
 use Rattle.tx_core.proofs.MultiGiven.{one_gen}
 use Rattle.tx_core.proofs.Nearness.{multis_are_legal}
@@ -20,7 +20,7 @@ use Rattle.engine_parts.specs.declared.session.Making.{Making}
 use Rattle.engine_parts.specs.declared.session.Session.{Session}
 use Rattle.engine_parts.specs.Holds.{Knowledge}
 use Rattle.engine_parts.specs.Makings.{Makes}
-use Rattle.engine_parts.specs.Sessions.{IsAt, MayCall}
+use Rattle.engine_parts.specs.Sessions.{MayCall}
 use Rattle.log_sections.specs.MultiRecords.{IsMakingRecord, making_logged, session_logged}
 use Rattle.tx_events.specs.declared.refusal.Refusal.{Refusal}
 use Rattle.multi_store.specs.declared.answers.MultiGiven.{MultiGiven}

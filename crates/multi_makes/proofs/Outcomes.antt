@@ -1,5 +1,5 @@
 -- What a `multi` came to, from what its steps came to.
-use Rattle.std.proofs.Common.{◌≡◌, ◌≢◌, ◌⊎◌, ⊎_elim, inl, inr, ℕ, List, [], ◌∷◌, ◌++◌, None, Some, IfSome, Option, Result, Ok, Err, append_assoc, length, refl, sym, ap, subst, ◌∙◌}
+use Rattle.std.proofs.Common.{◌≡◌, ◌≢◌, ⊎_elim, inl, inr, ℕ, List, [], ◌∷◌, ◌++◌, None, IfSome, Option, Result, Ok, Err, append_assoc, length, sym, ap, subst, ◌∙◌}
 use Rattle.notes.specs.Lists.{Grows}
 use Rattle.tx_events.specs.declared.multi.Member.{Member}
 use Rattle.tx_events.specs.declared.multi.MultiEvent.{MultiEvent}
@@ -21,8 +21,8 @@ use Rattle.engine_parts.proofs.Leaving.{grows_then}
 use Rattle.multi_sections.specs.Steps.{IsLast}
 use Rattle.multi_sections.specs.Takings.{IsNotTaken, IsTaken, Takes, session_taken, taken_event}
 use Rattle.multi_makes.specs.Full.{AreFullOf}
-use Rattle.multi_makes.specs.Makes.{AreRead, IsGivenIn, IsHeldUp, IsMadeNew, IsNoneGiven, IsStopped, MakesNew, MakesNext, MakesOf}
-use Rattle.multi_makes.specs.Pending.{Finishes, StopsMaking}
+use Rattle.multi_makes.specs.Makes.{AreRead, IsGivenIn, IsNoneGiven, IsStopped, MakesNew, MakesNext, MakesOf}
+use Rattle.multi_makes.specs.Pending.{StopsMaking}
 use Rattle.multi_makes.proofs.Going.{multi_before, multi_then}
 use Rattle.multi_makes.proofs.Reading.{full_length}
 
@@ -79,13 +79,16 @@ new_of start n s s' pairs members lists mid more went full (Err r) m =
     (λ (x : (s'.making ≡ None) × WentMulti n [] mid more × IsNotTaken start.base (multi_history more) (length members) r).
     inl (x.0, multi_then n [] [] lists mid more went x.1, inr (subst (λ z. IsNotTaken start.base (multi_history more) z r) (full_length (next_given start.base.next (history mid)) pairs members full) x.2)))
     (λ (x : (s'.making ≢ None) × (g : MultiGiven) × IsGivenIn start n s members g mid more × StopsMaking start more (by_at n s.levels.commands) r).
-    inr (x.0, record {
-      members = members;
-      read = read_of start lists mid more pairs members went.grows x.2.went.grows full;
-      given = x.1;
-      event = given_earlier start n s s.making members x.1 lists mid more went x.2;
-      stops = x.3;
-    }))
+    inr (
+      x.0,
+      record {
+        members = members;
+        read = read_of start lists mid more pairs members went.grows x.2.went.grows full;
+        given = x.1;
+        event = given_earlier start n s s.making members x.1 lists mid more went x.2;
+        stops = x.3;
+      },
+    ))
     m
 
 -- ---- behind the one before
@@ -107,11 +110,14 @@ next_of start n s s' pairs lists mid more went (Err r) m =
     inr (⊎_elim
     (λ (x : (s'.making ≡ None) × WentMulti n [] mid more × IsNoneGiven start more pairs r). inl (x.0, multi_then n [] [] lists mid more went x.1, x.2))
     (λ (x : (s'.making ≢ None) × IsStopped start n (record s { making = None }) pairs mid more r).
-    inr (x.0, record {
-      members = x.1.members;
-      read = read_earlier start lists mid more pairs x.1.members went.grows x.1.read;
-      given = x.1.given;
-      event = given_earlier start n s None x.1.members x.1.given lists mid more went x.1.event;
-      stops = x.1.stops;
-    }))
+    inr (
+      x.0,
+      record {
+        members = x.1.members;
+        read = read_earlier start lists mid more pairs x.1.members went.grows x.1.read;
+        given = x.1.given;
+        event = given_earlier start n s None x.1.members x.1.given lists mid more went x.1.event;
+        stops = x.1.stops;
+      },
+    ))
     m)

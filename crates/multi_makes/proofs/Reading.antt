@@ -1,12 +1,12 @@
 -- Members in full: they are as many as the script wrote, with the same modes, and each is a full id that was given.
-use Rattle.std.proofs.Common.{◌≡◌, ⊎_elim, inl, inr, ℕ, zero, suc, ◌+◌, ◌<◌, ◌≤◌, ◌==◌, ◌||◌, Bool, true, false, cond, nat_lt, List, [], ◌∷◌, ◌++◌, Option, None, Some, Contains, length, take, slice_get, refl, sym, ap, subst, ◌∙◌, arith}
+use Rattle.std.proofs.Common.{◌≡◌, ⊎_elim, ℕ, zero, suc, ◌+◌, ◌<◌, ◌≤◌, ◌==◌, ◌||◌, cond, nat_lt, List, [], ◌∷◌, ◌++◌, None, Some, Contains, length, take, slice_get, refl, sym, ap, subst, ◌∙◌, arith}
 use Rattle.std.proofs.lemmas.Bool.Decides.{nat_tests}
 use Rattle.std.specs.Bool.{then_some}
-use Rattle.std.specs.List.{AllByRecursion, AllZip, count_by, fold}
+use Rattle.std.specs.List.{AllByRecursion, count_by, fold}
 use Rattle.std.specs.Option.{option_or}
 use Rattle.tx_events.proofs.Membership.{Has, contains_has}
 use Rattle.tx_events.specs.After.{ids_of}
-use Rattle.tx_events.specs.Ids.{IsFullId, low_half}
+use Rattle.tx_events.specs.Ids.{IsFullId}
 use Rattle.tx_events.specs.Multis.{AreMembers, is_updater}
 use Rattle.tx_events.specs.declared.multi.Member.{Member}
 use Rattle.tx_events.specs.declared.multi.Mode.{Mode}

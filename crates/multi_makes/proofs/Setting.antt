@@ -1,17 +1,17 @@
 -- Members of a multixact that a session recorded, and its offset: they may be set, and stand then.
-use Rattle.std.proofs.Common.{◌≡◌, ◌⊎◌, ⊎_elim, inl, inr, ℕ, ◌+◌, ◌-◌, ◌<◌, ◌≤◌, ◌%◌, ◌^◌, List, [], ◌∷◌, ◌++◌, Some, Contains, length, take, take-append-drop, true, refl, sym, ap, subst, ◌∙◌, arith}
+use Rattle.std.proofs.Common.{◌≡◌, ⊎_elim, inl, inr, ℕ, ◌+◌, ◌-◌, ◌<◌, ◌≤◌, ◌%◌, ◌^◌, List, [], ◌∷◌, Some, length, take, true, refl, sym, ap, subst, ◌∙◌, arith}
 use Rattle.std.specs.List.{flat_map, slice_get, slice_range}
 use Rattle.notes.specs.Lists.{Grows, at}
 use Rattle.tx_events.specs.Base.{IsBase}
 use Rattle.tx_events.specs.Ids.{low_half}
 use Rattle.tx_events.specs.Limits.{member_stop}
-use Rattle.tx_events.specs.Multis.{AreLegalMultis, InBase, IsNextMade, MultiMayCome, free_offset, next_made, oldest_offset}
+use Rattle.tx_events.specs.Multis.{AreLegalMultis, InBase, IsNextMade, MultiMayCome, free_offset, oldest_offset}
 use Rattle.tx_events.specs.declared.event.By.{By}
 use Rattle.tx_events.specs.declared.multi.Member.{Member}
 use Rattle.tx_events.specs.declared.multi.MultiEvent.{MultiEvent}
 use Rattle.tx_events.specs.declared.multi.MultiEvent.TheVariants as multis
 use Rattle.tx_events.specs.declared.record.Rec.TheVariants as records
-use Rattle.tx_events.specs.PageOrder.{Multis, Offsets, is_cut}
+use Rattle.tx_events.specs.PageOrder.{Offsets, is_cut}
 use Rattle.tx_core.specs.declared.entry.Entry.{Entry}
 use Rattle.tx_core.specs.declared.entry.Kind.TheVariants as kinds
 use Rattle.tx_core.specs.declared.entry.Start.{Start}
@@ -20,7 +20,7 @@ use Rattle.tx_core.specs.EngineInvariant.{EngineInvariant}
 use Rattle.tx_core.specs.Entries.{Stands}
 use Rattle.tx_core.specs.Locks.{member_page, member_page_in_full, members_lock, members_lock_of, offset_page, offsets_lock, offsets_lock_of}
 use Rattle.tx_core.specs.MembersBeforeOffset.{IsRecorded, OffsetOf, SlotOf}
-use Rattle.tx_core.specs.MultiEntries.{IsOffsetSet, IsSlotSet, multi_history, slots_in}
+use Rattle.tx_core.specs.MultiEntries.{IsSlotSet, multi_history, slots_in}
 use Rattle.tx_core.specs.OwnMultis.{IsSlotDone}
 use Rattle.tx_core.specs.PagesBeforeIds.{IsMultiOf, IsOffsetOf, WasMade}
 use Rattle.tx_core.proofs.Growing.{begins_flat_map, contains_begins}

@@ -139,11 +139,11 @@ fn finish_record<R: Passing, L: LogDisk, P: PageDisk>(
     }
 }
 
-/// Goes on with the multixact that the session makes, if it makes one, until it is whole: its record, its members, page by
-/// page, and its offset. Members and the offset are set anew where they were set before.
+/// Goes on with the multixact that the session makes, if it makes one, until it is whole: its record, its members, page
+/// by page, and its offset. Members and the offset are set anew where they were set before.
 ///
-/// Refused with `LogDown`, `Full`, `DiskFault` of a bank of offsets or of members, or `Memory`; then the session still makes
-/// it.
+/// Refused with `LogDown`, `Full`, `DiskFault` of a bank of offsets or of members, or `Memory`; then the session still
+/// makes it.
 pub(crate) fn finish<R: Passing, L: LogDisk, P: PageDisk>(
     rt: &R,
     hall: &Hall<EngineLaw<L, P>>,

@@ -59,8 +59,8 @@ fn set_begin<R: Passing, L: LogDisk, P: PageDisk>(
     }
 }
 
-/// Makes the page of the offset of a multixact that the session recorded, all of whose members stand, and sets it. The page
-/// is made as one past the last made one (`ExtendMultiXactOffset`); where it was made before, nothing is wiped.
+/// Makes the page of the offset of a multixact that the session recorded, all of whose members stand, and sets it. The
+/// page is made as one past the last made one (`ExtendMultiXactOffset`); where it was made before, nothing is wiped.
 pub(crate) fn make_begin<R: Passing, L: LogDisk, P: PageDisk>(
     rt: &R,
     hall: &Hall<EngineLaw<L, P>>,

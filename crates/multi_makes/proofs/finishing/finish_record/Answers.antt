@@ -1,8 +1,8 @@
-use Rattle.std.proofs.Common.{◌≡◌, Err, Option, refl, sym, ap, subst, ◌∙◌}
+use Rattle.std.proofs.Common.{◌≡◌, Err, Option, sym, ap, subst, ◌∙◌}
 use Rattle.hall.specs.Calls.{view, start_of}
 use Rattle.engine_parts.specs.declared.session.Making.{Making}
 use Rattle.engine_parts.specs.declared.session.Session.{Session}
-use Rattle.engine_parts.specs.Adding.{IsOfMulti, IsPlain, IsToldBy, MayAdd, MayMeet}
+use Rattle.engine_parts.specs.Adding.{IsOfMulti, IsPlain, MayAdd, MayMeet}
 use Rattle.engine_parts.specs.Makings.{Makes}
 use Rattle.engine_parts.proofs.Adding.{plain_wider}
 use Rattle.multi_makes.specs.Pending.{IsPending, IsRecDone}

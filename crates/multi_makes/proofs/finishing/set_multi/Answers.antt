@@ -1,4 +1,4 @@
-use Rattle.std.proofs.Common.{◌≡◌, ℕ, List, OnOk, Result, Ok, Err, refl, sym, subst, ◌∙◌}
+use Rattle.std.proofs.Common.{ℕ, List, OnOk, Result, Ok, Err, sym, subst}
 use Rattle.hall.specs.Calls.{view, start_of}
 use Rattle.tx_events.specs.declared.multi.Member.{Member}
 use Rattle.tx_events.specs.declared.record.Rec.TheVariants as records

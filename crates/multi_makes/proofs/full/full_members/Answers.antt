@@ -1,4 +1,4 @@
-use Rattle.std.proofs.Common.{refl, Some}
+use Rattle.std.proofs.Common.{refl}
 use Rattle.std.proofs.lemmas.Option.{slice_get-get_or}
 use Rattle.multi_makes.proofs.Reading.{full_next, not_full}
 use Rattle.multi_makes.proofs.full.full_members.Goals as goal

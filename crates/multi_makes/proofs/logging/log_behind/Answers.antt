@@ -1,4 +1,4 @@
-use Rattle.std.proofs.Common.{◌≡◌, ◌∙◌}
+use Rattle.std.proofs.Common.{◌≡◌}
 use Rattle.hall.specs.Calls.{view, start_of}
 use Rattle.engine_parts.specs.Adding.{IsOfMulti, IsTruncation, MayAdd}
 use Rattle.engine_parts.specs.Sessions.{by_at}

@@ -1,8 +1,7 @@
-use Rattle.std.proofs.Common.{◌≡◌, ℕ, ◌^◌, ◌<◌, ◌≤◌, [], length, inl, inr, refl, sym, ap, subst, ◌∙◌, arith}
+use Rattle.std.proofs.Common.{◌≡◌, ℕ, ◌<◌, [], length, inl, ap, subst, ◌∙◌, arith}
 use Rattle.hall.specs.Calls.{view, start_of}
 use Rattle.tx_events.proofs.IdOrder.{nth_from}
 use Rattle.tx_events.specs.Events.{given}
-use Rattle.tx_events.specs.History.{next_given}
 use Rattle.tx_events.specs.Horizon.{oldest_id}
 use Rattle.tx_core.specs.Entries.{history}
 use Rattle.tx_core.proofs.StopLimits.{next_within, stop_upto}

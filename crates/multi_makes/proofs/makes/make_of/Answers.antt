@@ -1,13 +1,11 @@
-use Rattle.std.proofs.Common.{◌≡◌, ◌≢◌, ℕ, ◌<◌, [], ◌∷◌, Ok, Err, None, inl, inr, refl, sym, ap, subst, ◌∙◌, arith}
+use Rattle.std.proofs.Common.{◌≡◌, [], Ok, inl, inr, refl, ap, subst, ◌∙◌, arith}
 use Rattle.hall.specs.Calls.{view, start_of}
 use Rattle.tx_events.specs.declared.event.By.{By}
 use Rattle.tx_core.specs.Locks.{multi_lock}
-use Rattle.engine_parts.specs.Adding.{IsOfMulti, IsPlain, IsToldBy, MayAdd}
-use Rattle.engine_parts.specs.Sessions.{by_at, look_by}
+use Rattle.engine_parts.specs.Adding.{IsOfMulti, IsPlain, MayAdd}
+use Rattle.engine_parts.specs.Sessions.{by_at}
 use Rattle.engine_parts.proofs.Adding.{adds_wider, plain_wider}
 use Rattle.engine_parts.proofs.Sectioning.{shared_adds}
-use Rattle.multi_sections.specs.Steps.{entry_of}
-use Rattle.multi_sections.specs.Takings.{taken_event}
 use Rattle.multi_makes.specs.Pending.{StopsMaking}
 use Rattle.multi_makes.proofs.Announcing.{multi_look_adds}
 use Rattle.multi_makes.proofs.Going.{both_add, command_kept, same_making, step_of}

@@ -1,13 +1,12 @@
-use Rattle.std.proofs.Common.{◌≡◌, ℕ, List, Some, IfOk, refl, sym, ap, subst, ◌∙◌}
+use Rattle.std.proofs.Common.{◌≡◌, List, Some, sym, ap, ◌∙◌}
 use Rattle.hall.specs.Calls.{view, start_of}
 use Rattle.tx_model.specs.declared.command.Command.TheVariants as commands
 use Rattle.tx_model.specs.declared.command.Pair.{Pair}
 use Rattle.tx_model.specs.declared.reply.Reply.TheVariants as replies
-use Rattle.life_law.specs.Refused.{by_members, refused_by_members}
+use Rattle.life_law.specs.Refused.{refused_by_members}
 use Rattle.engine_parts.specs.Answers.{reply_of}
-use Rattle.engine_parts.specs.Calls.{Ran, next_command}
 use Rattle.engine_parts.proofs.Calling.{ran_counted, step_counted}
-use Rattle.multi_makes.specs.Makes.{IsMade, given_reply}
+use Rattle.multi_makes.specs.Makes.{given_reply}
 use Rattle.multi_makes.proofs.Acts.{makes_items, makes_ran, words_ran}
 use Rattle.multi_makes.proofs.makes.multi.Goals as goal
 

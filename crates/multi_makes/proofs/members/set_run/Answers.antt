@@ -1,4 +1,4 @@
-use Rattle.std.proofs.Common.{◌≡◌, ◌<◌, ℕ, Err, Some, inl, ap, refl, sym, subst, ◌∙◌}
+use Rattle.std.proofs.Common.{◌<◌, Err, inl, ap, refl, subst, ◌∙◌}
 use Rattle.hall.specs.Calls.{view, start_of}
 use Rattle.tx_events.specs.declared.refusal.Lock.TheVariants as locks
 use Rattle.tx_core.specs.declared.entry.Kind.TheVariants as kinds

@@ -33,14 +33,6 @@ pub fn multi(
     })
 }
 
-// Takes the volume of a bank out of its row.
-fn taken<P: PageDisk + Drop>(volumes: &mut Vec<P>, at: usize) -> Result<P, Fail> {
-    if at >= volumes.len() {
-        return Err("two banks".into());
-    }
-    Ok(volumes.remove(at))
-}
-
 /// Puts an offset on the page of its bank's volume.
 pub fn put_offset<P: PageDisk + Drop>(
     alloc: Global,
@@ -50,7 +42,10 @@ pub fn put_offset<P: PageDisk + Drop>(
 ) -> Result<Vec<P>, Fail> {
     let mut offsets = offsets;
     let at = (number / 2048 % 2) as usize;
-    let disk = taken(&mut offsets, at)?;
+    if at >= offsets.len() {
+        return Err("two banks".into());
+    }
+    let disk = offsets.remove(at);
     let mut bank = match SlruBank::<P, OffsetPages>::new(alloc, disk, 0, 0) {
         Ok(bank) => bank,
         Err(_) => return Err("no memory".into()),
@@ -72,7 +67,10 @@ pub fn put_member<P: PageDisk + Drop>(
 ) -> Result<Vec<P>, Fail> {
     let mut members = members;
     let at = (place / 1636 % 2) as usize;
-    let disk = taken(&mut members, at)?;
+    if at >= members.len() {
+        return Err("two banks".into());
+    }
+    let disk = members.remove(at);
     let mut bank = match SlruBank::<P, MemberPages>::new(alloc, disk, 0, 0) {
         Ok(bank) => bank,
         Err(_) => return Err("no memory".into()),

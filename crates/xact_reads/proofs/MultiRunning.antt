@@ -102,7 +102,7 @@ module _ {H L P : Type 0} {l : logs.Ghosts L} {p : disks.Ghosts P} (hall : Hall 
         ⊎_elim
         (λ q. ran_seen hall old u new name m (replies.Refused r) [] c may own ready q.0 same number tt wide standing
         (unpinned_answer p.tells (start_of hall) u.number u.session name m v w q.0.grows ready.at.kept r q.1))
-        (λ q. ran_seen hall old u new name m (replies.Refused r) (multis.Hold (by_at u.number u.session.levels.commands) q.0 ∷ multis.Unhold (by_at u.number u.session.levels.commands) q.0 ∷ []) c may own ready q.1.went same number (refl, refl, tt) wide standing
+        (λ q. ran_seen hall old u new name m (replies.Refused r) (multis.Hold (by_at u.number u.session.levels.commands) q.0 ∷ multis.Unhold (by_at u.number u.session.levels.commands) q.0 ∷ []) c may own ready q.1.went same number (refl, (refl, tt)) wide standing
         (unseen_answer p.tells (start_of hall) u.number u.session name m v w q.1.went.grows ready.at.kept r q.0 q.1 q.2))
         reads
 
@@ -117,7 +117,7 @@ module _ {H L P : Type 0} {l : logs.Ghosts L} {p : disks.Ghosts P} (hall : Hall 
           let w = (view new.pass).seen in
           let once = once_later (start_of hall) u.number u.session m.number v (view mid.pass).seen w reads.0 reads.1 went in
           let wide = adds_wider (by_at u.number u.session.levels.commands) (MayMeet r) _ v w (met_leaves (commands.SeeMulti name m) (stance_of u.session) u.session.stage (open_ids u.number (history v)) r) adds in
-          ran_seen hall old u new name m (replies.Refused r) (multis.Hold (by_at u.number u.session.levels.commands) reads.0 ∷ multis.Unhold (by_at u.number u.session.levels.commands) reads.0 ∷ []) c may own ready once.went same number (refl, refl, tt) wide standing
+          ran_seen hall old u new name m (replies.Refused r) (multis.Hold (by_at u.number u.session.levels.commands) reads.0 ∷ multis.Unhold (by_at u.number u.session.levels.commands) reads.0 ∷ []) c may own ready once.went same number (refl, (refl, tt)) wide standing
           (unjudged_answer p.tells (start_of hall) u.number u.session name m v w once.went.grows ready.at.kept r reads.0 once fault)
 
       -- and each one was judged
@@ -128,6 +128,6 @@ module _ {H L P : Type 0} {l : logs.Ghosts L} {p : disks.Ghosts P} (hall : Hall 
           let w = (view new.pass).seen in
           let once = once_later (start_of hall) u.number u.session m.number v (view mid.pass).seen w reads.0 reads.1 went in
           let wide = adds_wider (by_at u.number u.session.levels.commands) IsPlain _ v w (plain_leaves (commands.SeeMulti name m) (stance_of u.session) u.session.stage (open_ids u.number (history v)) (replies.Verdicts vs)) adds in
-          ran_seen hall old u new name m (replies.Verdicts vs) (multis.Hold (by_at u.number u.session.levels.commands) reads.0 ∷ multis.Unhold (by_at u.number u.session.levels.commands) reads.0 ∷ []) c may own ready once.went same number (refl, refl, tt) wide standing
+          ran_seen hall old u new name m (replies.Verdicts vs) (multis.Hold (by_at u.number u.session.levels.commands) reads.0 ∷ multis.Unhold (by_at u.number u.session.levels.commands) reads.0 ∷ []) c may own ready once.went same number (refl, (refl, tt)) wide standing
           (seen_answer p.tells (start_of hall) u.number u.session name m v w once.went.grows ready.at.kept reads.0 read slots vs once r snap
           (λ yes few. its_later (start_of hall) (view mid.pass).seen w reads.0 slots went.grows (reads.2 yes (few_multis_before (view mid.pass).seen w went.grows few))) judged)

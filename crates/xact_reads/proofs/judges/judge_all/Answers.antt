@@ -1,4 +1,4 @@
-use Rattle.std.proofs.Common.{[], ap, arith, length, subst, sym, take, take_all, ◌+◌, ◌∙◌, ◌≡◌, ◌≤◌, ℕ}
+use Rattle.std.proofs.Common.{List, [], ap, arith, length, subst, sym, take, take_all, ◌+◌, ◌∙◌, ◌≡◌, ◌≤◌, ℕ}
 use Rattle.std.specs.List.{filter_map}
 use Rattle.hall.specs.Calls.{view, start_of}
 use Rattle.multi_members.specs.declared.slot.Slot.{Slot}

@@ -1,4 +1,4 @@
-use Rattle.std.proofs.Common.{[], ◌∷◌, arith, inl, refl, subst, sym, ◌∙◌, ℕ}
+use Rattle.std.proofs.Common.{IsTrue, [], ◌∷◌, arith, inl, refl, subst, sym, ◌∙◌, ℕ}
 use Rattle.hall.specs.Calls.{view, start_of}
 use Rattle.tx_events.specs.declared.event.By.{By}
 use Rattle.tx_core.specs.Locks.{multi_lock}
@@ -19,12 +19,12 @@ use Rattle.xact_reads.proofs.multis.read_pinned.Goals as goal
 pub returns-in-Err-clause-adds : goal.returns-in-Err-clause-adds
 returns-in-Err-clause-adds g c =
     let old = c.args.caller.now in
-    shared_adds (start_of c.args.hall.now) (view old.pass) (view c.pin_multi-held.new.caller.pass) multi_lock (look_by old.number old.session) (by_at old.number old.session.levels.commands) old.session (MayMeet c.in-Err.refusal) (omega arith) c.requires.ready.at c.in-Err.ensures.section refl tt
+    shared_adds (start_of c.args.hall.now) (view old.pass) (view c.pin_multi.new.caller.pass) multi_lock (look_by old.number old.session) (by_at old.number old.session.levels.commands) old.session (MayMeet c.in-Err.refusal) (omega arith) c.requires.ready.at c.in-Err.ensures.section refl tt
 
 pub unpin_multi-requires-clause-pinned : goal.unpin_multi-requires-clause-pinned
 unpin_multi-requires-clause-pinned g c =
     let old = c.args.caller.now in
-    let a = c.pin_multi-held.new.caller in
+    let a = c.pin_multi.new.caller in
     let b = c.gather-gathered.new.caller in
     let p = c.in-Ok.ensures in
     let e = c.gather-gathered.ensures in
@@ -35,7 +35,7 @@ pub returns-in-Ok-gathered-clause-adds : goal.returns-in-Ok-gathered-clause-adds
 returns-in-Ok-gathered-clause-adds g c =
     let start = start_of c.args.hall.now in
     let old = c.args.caller.now in
-    let a = c.pin_multi-held.new.caller in
+    let a = c.pin_multi.new.caller in
     let b = c.gather-gathered.new.caller in
     let w = c.unpin_multi.new.caller in
     let by = by_at old.number old.session.levels.commands in
@@ -51,7 +51,7 @@ pub returns-in-Err-gathered-clause-adds : goal.returns-in-Err-gathered-clause-ad
 returns-in-Err-gathered-clause-adds g c =
     let start = start_of c.args.hall.now in
     let old = c.args.caller.now in
-    let a = c.pin_multi-held.new.caller in
+    let a = c.pin_multi.new.caller in
     let b = c.gather-gathered.new.caller in
     let w = c.unpin_multi.new.caller in
     let by = by_at old.number old.session.levels.commands in
@@ -68,7 +68,7 @@ pub returns-in-Ok-gathered-clause-reads : goal.returns-in-Ok-gathered-clause-rea
 returns-in-Ok-gathered-clause-reads g c =
     let start = start_of c.args.hall.now in
     let old = c.args.caller.now in
-    let a = c.pin_multi-held.new.caller in
+    let a = c.pin_multi.new.caller in
     let b = c.gather-gathered.new.caller in
     let w = c.unpin_multi.new.caller in
     let p = c.in-Ok.ensures in
@@ -83,7 +83,7 @@ pub returns-in-Err-gathered-clause-reads : goal.returns-in-Err-gathered-clause-r
 returns-in-Err-gathered-clause-reads g c =
     let start = start_of c.args.hall.now in
     let old = c.args.caller.now in
-    let a = c.pin_multi-held.new.caller in
+    let a = c.pin_multi.new.caller in
     let b = c.gather-gathered.new.caller in
     let w = c.unpin_multi.new.caller in
     let p = c.in-Ok.ensures in
@@ -94,4 +94,4 @@ returns-in-Err-gathered-clause-reads g c =
     (full_of start.base p.pins.2 c.args.m.number held p.pins.4 (omega arith)) c.in-Err-gathered.refusal
     (subst (λ z. WentMulti z [] (view a.pass).seen (view b.pass).seen) p.same.1 e.went)
     (subst (λ (z : ℕ × Session). WentMulti z.0 (unhold_event z.0 z.1 held.multi ∷ []) (view b.pass).seen (view w.pass).seen) (λ j. ((e.same.1 ∙ p.same.1) j, (e.same.0 ∙ p.same.0) j)) c.unpin_multi.ensures.went)
-    (subst (λ (z : ℕ × Session). IsNotRead start _ (view b.pass).seen (by_at z.0 z.1.levels.commands) held c.in-Err-gathered.refusal) (λ j. (p.same.1 j, p.same.0 j)) e.unread)
+    (subst (λ (z : ℕ × Session). IsNotRead start (IsTrue g.P.PageDisk.tells) (view b.pass).seen (by_at z.0 z.1.levels.commands) held c.in-Err-gathered.refusal) (λ j. (p.same.1 j, p.same.0 j)) e.unread)

@@ -172,11 +172,7 @@ fn check_calls(
                 "{name}: {passes} calls, {how}"
             );
             if is_whole {
-                assert_eq!(rt;
-                    written.trim_start(),
-                    row.texts,
-                    "{name}: {passes} calls"
-                );
+                assert_eq!(rt; written.trim_start(), row.texts, "{name}: {passes} calls");
                 continue;
             }
             for text in row.texts.split("+++\n") {

@@ -1,7 +1,7 @@
 -- At each moment of a recovery the pages of offsets fit, and at its end they show the base.
-use Rattle.std.proofs.Common.{◌≡◌, ◌⊎◌, inl, inr, ⊎_elim, ℕ, ◌+◌, ◌-◌, ◌*◌, ◌%◌, ◌<◌, ◌≤◌, ◌++◌, ◌^◌, List, Some, Contains, max, slice_index, refl, sym, ap, subst, arith, ◌∙◌}
+use Rattle.std.proofs.Common.{◌≡◌, ◌⊎◌, inl, inr, ⊎_elim, ℕ, ◌+◌, ◌-◌, ◌*◌, ◌%◌, ◌<◌, ◌≤◌, ◌++◌, ◌^◌, List, Some, Contains, slice_index, refl, sym, ap, subst, arith, ◌∙◌}
 use Rattle.std.specs.List.{filter}
-use Rattle.tx_events.specs.Ids.{IsFullMulti, low_half}
+use Rattle.tx_events.specs.Ids.{IsFullMulti}
 use Rattle.tx_events.specs.Limits.{multi_stop_limit}
 use Rattle.disk_core.specs.Pages.{Pages, page_bytes}
 use Rattle.store_pages.specs.Layouts.{number_in, word_page_of, word_place_of}
@@ -11,8 +11,8 @@ use Rattle.tx_events.specs.declared.record.Rec.TheVariants as records
 use Rattle.tx_events.proofs.Membership.{contains_has, filter_has, has_cases, has_contains, has_filter, has_left, has_right}
 use Rattle.log_bases.specs.LifeBase.{LifeBase, is_multi}
 use Rattle.recoverable.specs.Bytes.{byte_of, offset_byte}
-use Rattle.recoverable.specs.Fit.{KeptLog, base_at, log_end}
-use Rattle.recoverable.specs.FitMultis.{OffsetsFit, offset_at}
+use Rattle.recoverable.specs.Fit.{KeptLog, base_at}
+use Rattle.recoverable.specs.FitMultis.{OffsetsFit}
 use Rattle.recoverable.proofs.Offsets.{number_zero}
 use Rattle.replay_multis.specs.declared.share.Share.{Share}
 use Rattle.replay_multis.specs.Named.{IsOffsetByte}
@@ -100,9 +100,6 @@ module _ (share : Share) (log : KeptLog) (n : ℕ) where
   }
 
   module _ (recs : List Rec) (w : IsWholeOfMultis log n recs) where
-    abbrev oldest : ℕ
-    oldest = (end_base log).counters.oldest_multi
-
     from_end : (x : ℕ) → (base_at log log.flushed).counters.oldest_multi ≤ x → (end_base log).counters.oldest_multi ≤ x
     from_end x le = subst (λ (b : LifeBase). b.counters.oldest_multi ≤ x) (same_base log n recs w) le
 

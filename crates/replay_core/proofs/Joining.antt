@@ -70,9 +70,6 @@ module _ {L P : Type 0} (l : logs.Ghosts L) (p : disks.Ghosts P) where
 
   module _ (old vols : PageVolumes P) (log : KeptLog) (first : ℕ) (recs : List Rec) (base : Counters) (f : FoundIn log first recs base) (at : Located l p log first old) (each : (d : P) → p.images d (p.pages d)) (count : SameCounts old vols)
       (offsets_count : length old.offsets.items ≡ length old.xact.items) (members_count : length old.members.items ≡ length old.xact.items) where
-    abbrev banks : ℕ
-    banks = length old.xact.items
-
     cut_states : (bank : ℕ) (disk : P) (c : Pages) → slice_get old.xact.items bank ≡ Some disk → p.images disk c → XactFits (length old.xact.items) bank (up_to log (first + length recs)) first c
     cut_states bank disk c was image = cut_fits (length old.xact.items) bank log (first + length recs) first c f.list.from f.flushed f.upto (omega arith) (at.states bank disk c was image)
 

@@ -1,5 +1,5 @@
 -- Where a log is found that volumes fit, and each image of each bank by itself.
-use Rattle.std.proofs.Common.{Bool, IfOk, IsSome, List, None, Ok, Option, Result, Some, ap, arith, cond, false, inl, length, refl, subst, sym, true, ℕ, ◌-◌, ◌<◌, ◌==◌, ◌∙◌, ◌≡◌}
+use Rattle.std.proofs.Common.{Bool, IfOk, IsSome, List, None, Ok, Option, Result, Some, ap, arith, cond, false, inl, length, refl, subst, sym, true, ℕ, ◌<◌, ◌==◌, ◌∙◌, ◌≡◌}
 use Rattle.std.proofs.lemmas.Bool.Decides.{nat_tests}
 use Rattle.std.specs.List.{slice_get}
 use Rattle.disk_core.specs.Pages.{Pages}

@@ -1,4 +1,4 @@
-use Rattle.std.proofs.Common.{Err, List, Ok, Some, arith, length, refl, subst, sym, ◌∙◌, ◌≡◌, ◌≤◌}
+use Rattle.std.proofs.Common.{Err, List, Ok, Some, arith, length, subst, sym, ◌∙◌, ◌≡◌, ◌≤◌}
 use Rattle.std.specs.List.{slice_get}
 use Rattle.tx_events.specs.declared.record.Rec.{Rec}
 use Rattle.log_bases.specs.LifeBase.{committed_in}

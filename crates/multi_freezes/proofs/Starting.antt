@@ -1,9 +1,8 @@
 -- Where a pinned multixact begins: what was read of it is its offset, where the pages tell, in a life of few.
-use Rattle.std.proofs.Common.{◌≡◌, ◌⊎◌, ⊎_elim, inl, inr, ℕ, ◌+◌, ◌-◌, ◌%◌, ◌^◌, ◌<◌, ◌≤◌, Bool, true, false, IsTrue, cond, nat_lt, unwrap_or, Contains, List, [], ◌∷◌, ◌++◌, Option, Some, None, get_or, length, refl, sym, ap, subst, ◌∙◌, arith}
-use Rattle.std.specs.List.{flat_map, fold, slice_get}
+use Rattle.std.proofs.Common.{◌≡◌, ◌⊎◌, ⊎_elim, inl, inr, ℕ, ◌+◌, ◌%◌, ◌^◌, ◌<◌, ◌≤◌, Bool, true, false, IsTrue, cond, nat_lt, unwrap_or, Contains, List, [], ◌∷◌, ◌++◌, Some, get_or, length, refl, sym, ap, subst, ◌∙◌, arith}
+use Rattle.std.specs.List.{flat_map}
 use Rattle.std.proofs.lemmas.Bool.Decides.{nat_tests}
 use Rattle.std.proofs.lemmas.Option.{slice_get-get_or}
-use Rattle.log_bases.specs.LifeBase.{AreInOrder}
 use Rattle.notes.specs.Lists.{Grows, at}
 use Rattle.tx_events.proofs.ListSteps.{le_or_over}
 use Rattle.tx_events.proofs.Membership.{Has, all_at, by_end, contains_has, has_contains, has_flat_map, has_left, has_right}
@@ -11,7 +10,7 @@ use Rattle.tx_events.proofs.PlaceLemmas.{each_place_start}
 use Rattle.tx_events.specs.Base.{IsBase}
 use Rattle.tx_events.specs.Ids.{IsFullMulti, low_half}
 use Rattle.tx_events.specs.Limits.{member_stop}
-use Rattle.tx_events.specs.Multis.{AreLegalMultis, BeginsAt, InBase, MultiMayCome, free_offset, made, made_at, next_made, nth_multi, oldest_multi, oldest_multi_after, oldest_offset, oldest_offset_after}
+use Rattle.tx_events.specs.Multis.{AreLegalMultis, BeginsAt, InBase, MultiMayCome, made, made_at, next_made, nth_multi, oldest_multi, oldest_multi_after, oldest_offset, oldest_offset_after}
 use Rattle.tx_events.specs.declared.event.By.{By}
 use Rattle.tx_events.specs.declared.multi.Member.{Member}
 use Rattle.tx_events.specs.declared.multi.MultiEvent.{MultiEvent}
@@ -36,7 +35,6 @@ use Rattle.tx_core.proofs.MultiGiven.{raised_from}
 use Rattle.tx_core.proofs.Nearness.{multis_are_legal, raises_told}
 use Rattle.recoverable.proofs.Announced.{announced_old}
 use Rattle.recoverable.proofs.Offsets.{given_from}
-use Rattle.multi_banks.specs.Offsets.{HasOffset}
 use Rattle.multi_sections.specs.Raised.{IsOffsetTold, first_from, offset_read}
 use Rattle.multi_sections.proofs.PinnedRaises.{few_before}
 use Rattle.multi_freezes.specs.Freezes.{IsHeldSince, IsStartRead}
@@ -149,8 +147,7 @@ given_at base h multi is legal first full from to =
     (λ (past : length (made h) ≤ n). absurd (let up = nth_order base.multi (length (made h)) n past in omega (arith, up, there, to)))
     (λ (l : n < length (made h)). l)
     (le_or_over (length (made h)) n) in
-    let many = sound.as_many in
-    (
+    let many = sound.as_many in (
       get_or (made_offsets h) n 0,
       ap (λ z. made_at z h) (sym there) ∙ (sound.each n within ∙ slice_get-get_or (made_offsets h) n 0 (omega (arith, many, within))),
     )

@@ -1,5 +1,5 @@
 -- What a freeze of a pinned multixact leaves.
-use Rattle.std.specs.Prelude.{◌≡◌, ℕ, ◌+◌, ◌-◌, ◌<◌, ◌≤◌, Bool, Contains, IsTrue, List, [], ◌∷◌, ◌++◌, Option, Result, Ok, Err, drop, length, take}
+use Rattle.std.specs.Prelude.{◌≡◌, ℕ, ◌<◌, ◌≤◌, Bool, Contains, IsTrue, List, [], ◌∷◌, ◌++◌, Option, Result, Ok, Err, drop, length, take}
 use Rattle.std.specs.List.{AllByRecursion}
 use Rattle.disk_core.specs.declared.log_disk.LogDisk as logs
 use Rattle.disk_core.specs.declared.page_disk.PageDisk as disks

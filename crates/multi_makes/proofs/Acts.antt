@@ -1,6 +1,5 @@
 -- What a `multi` did.
-use Rattle.std.proofs.Common.{◌≡◌, ◌≢◌, ◌⊎◌, ⊎_elim, inl, inr, ℕ, Bool, true, false, IsTrue, List, [], ◌∷◌, ◌++◌, Option, None, Some, Result, Ok, Err, append-nil, length, refl, sym, ap, subst, ◌∙◌}
-use Rattle.std.proofs.lemmas.Bool.{false≢true}
+use Rattle.std.proofs.Common.{◌≡◌, ◌≢◌, ◌⊎◌, ⊎_elim, inl, inr, ℕ, Bool, true, false, IsTrue, List, [], ◌∷◌, IfOk, None, Some, Result, Ok, Err, append-nil, length, refl, sym, ap, subst, ◌∙◌}
 use Rattle.std.specs.Bool.{then_some}
 use Rattle.std.specs.Option.{option_or}
 use Rattle.std.specs.List.{AllByRecursion, filter}
@@ -9,11 +8,12 @@ use Rattle.disk_core.specs.declared.page_disk.PageDisk as disks
 use Rattle.hall.specs.declared.hall.Hall.{Hall}
 use Rattle.hall.specs.Calls.{IsOf, start_of, view}
 use Rattle.tx_events.specs.declared.multi.MultiEvent.{MultiEvent}
-use Rattle.tx_events.specs.declared.refusal.Lock.TheVariants as locks
 use Rattle.tx_events.specs.declared.refusal.Refusal.{Refusal}
 use Rattle.tx_events.specs.declared.refusal.Refusal.TheVariants as refusals
 use Rattle.tx_events.specs.declared.event.By.{By}
 use Rattle.tx_events.specs.Events.{is_of}
+use Rattle.tx_events.specs.History.{next_given}
+use Rattle.tx_events.specs.Horizon.{oldest_id}
 use Rattle.tx_events.specs.Multis.{multi_by}
 use Rattle.tx_events.specs.Running.{open_ids}
 use Rattle.tx_model.specs.declared.command.Command.TheVariants as commands
@@ -24,15 +24,12 @@ use Rattle.tx_model.specs.Replies.{alone}
 use Rattle.tx_model.specs.Stance.{Stance}
 use Rattle.life_law.specs.MultiLines.{HasMultiEvents, may_have_given}
 use Rattle.life_law.specs.Refused.{by_members, by_standing, is_by_members, is_by_standing, refused_by_members}
-use Rattle.session_levels.specs.Stands as levels
 use Rattle.multi_store.specs.declared.answers.MultiGiven.{MultiGiven}
 use Rattle.tx_core.specs.declared.entry.Entry.{Entry}
 use Rattle.tx_core.specs.declared.entry.Kind.{Kind}
 use Rattle.tx_core.specs.declared.entry.Start.{Start}
-use Rattle.tx_core.specs.EngineInvariant.{EngineInvariant}
 use Rattle.tx_core.specs.Entries.{history}
 use Rattle.tx_core.specs.MultiEntries.{multi_history}
-use Rattle.tx_core.specs.OwnMultis.{own_multis}
 use Rattle.tx_core.proofs.Nearness.{multis_are_legal}
 use Rattle.engine_parts.specs.declared.part.Part.{Part}
 use Rattle.engine_parts.specs.declared.session.Caller.{Caller}
@@ -50,7 +47,7 @@ use Rattle.engine_parts.proofs.Adding.{adds_nothing, adds_wider, may_wider}
 use Rattle.engine_parts.proofs.Beholding.{not_standing}
 use Rattle.engine_parts.proofs.Refusing.{keeps_stage}
 use Rattle.multi_sections.specs.Takings.{taken_event}
-use Rattle.multi_makes.specs.Makes.{IsHeldUp, IsMadeNew, IsNoneGiven, IsStopped, LeavesMaking, MakesNew, MakesNext, given_reply}
+use Rattle.multi_makes.specs.Makes.{IsHeldUp, IsMade, IsMadeNew, IsNoneGiven, IsStopped, LeavesMaking, MakesNew, MakesNext, given_reply}
 use Rattle.multi_makes.specs.Pending.{StopsMaking}
 use Rattle.multi_makes.proofs.Going.{went_nothing}
 use Rattle.multi_makes.proofs.Told.{Refuses, are_given, gave_none, gave_one, is_warned, keeps_given, keeps_held, keeps_made, keeps_none, keeps_refused, none_refuse, stops_refuse}
@@ -164,23 +161,23 @@ module _ {H L P : Type 0} {l : logs.Ghosts L} {p : disks.Ghosts P} (hall : Hall 
       (adds_wider by_now (MayAdd IsOfMulti ⊥ (λ q. ⊥)) _ before_now after_now (multi_leaves pairs (stance_of u.session) u.session.stage (open_ids u.number (history before_now)) (Ok g)) adds)
       ((made.members, refl), are_given start_now before_now after_now pairs u.number u.session made.members g made.read)
       (is_warned start_now u.number u.session made.members g before_now after_now legal made.event)
-      refl tt (keeps_made pairs _ u.session.making new.session.making g f.0)
+      refl tt (keeps_made pairs (has_more_multis u.number before_now after_now) u.session.making new.session.making g f.0)
   makes_ran (Err r) m left adds f =
       ⊎_elim
       (λ (h : IsHeldUp start_now u.number u.session new.session before_now after_now r).
       ran_refusal r [] m.own m.may left h.went tt adds (inl refl) (stops_refuse p.tells start_now before_now after_now by_now (stance_of u.session) u.session.stage pairs h.went.grows r h.stops)
-      (keeps_held pairs _ u.session.making new.session.making start_now after_now by_now r (gave_none u.number before_now after_now h.went.multis) h.old h.new h.stops))
+      (keeps_held pairs (has_more_multis u.number before_now after_now) u.session.making new.session.making start_now after_now by_now r (gave_none u.number before_now after_now h.went.multis) h.old h.new h.stops))
       (λ (n : MakesNew start_now u.number u.session new.session pairs before_now after_now (Err r)).
       ⊎_elim
       (λ (x : (new.session.making ≡ None) × WentMulti u.number [] before_now after_now × IsNoneGiven start_now after_now pairs r).
       ran_refusal r [] m.own m.may left x.1 tt adds (inl refl) (none_refuse p.tells start_now before_now after_now by_now (stance_of u.session) u.session.stage pairs x.1.grows r x.2)
-      (keeps_none pairs _ u.session.making new.session.making start_now.base (history after_now) (multi_history after_now) _ _ (length pairs) r (gave_none u.number before_now after_now x.1.multis) x.0 x.2))
+      (keeps_none pairs (has_more_multis u.number before_now after_now) u.session.making new.session.making start_now.base (multi_history after_now) (next_given start_now.base.next (history after_now)) (oldest_id start_now.base.oldest (history after_now)) (length pairs) r (gave_none u.number before_now after_now x.1.multis) x.0 x.2))
       (λ (x : (new.session.making ≢ None) × IsStopped start_now u.number u.session pairs before_now after_now r).
       let s = x.1 in
       ran_refusal r (taken_event u.number u.session s.members s.given ∷ []) m.own m.may left s.event.went (refl, tt) adds
       (inr (stops_gave start_now after_now by_now r s.stops, are_given start_now before_now after_now pairs u.number u.session s.members s.given s.read))
       (stops_refuse p.tells start_now before_now after_now by_now (stance_of u.session) u.session.stage pairs s.event.went.grows r s.stops)
-      (keeps_given pairs _ u.session.making new.session.making r (gave_one u.number before_now after_now _ s.event.went.multis) x.0))
+      (keeps_given pairs (has_more_multis u.number before_now after_now) u.session.making new.session.making r (gave_one u.number before_now after_now _ s.event.went.multis) x.0))
       n)
       f
 
@@ -205,7 +202,7 @@ module _ {H L P : Type 0} {l : logs.Ghosts L} {p : disks.Ghosts P} (hall : Hall 
       let went = went_nothing u.number lists in
       ran_multi hall u u pairs (replies.Refused r) [] m.own m.may (record { session = refl; number = refl }) went tt
       (adds_nothing (by_at u.number u.session.levels.commands) _ lists) (inl refl) (allowed r (words_are pairs r words)) (ap (λ (b : Bool). then_some b r) (words_else pairs r words)) (held r (words_are pairs r words))
-      (keeps_refused pairs _ u.session.making u.session.making r (gave_none u.number lists lists went.multis) refl (words_by pairs r words))
+      (keeps_refused pairs (has_more_multis u.number lists lists) u.session.making u.session.making r (gave_none u.number lists lists went.multis) refl (words_by pairs r words))
     where
       allowed : (r : Refusal) → (r ≡ refusals.MemberCount) ⊎ (r ≡ refusals.TwoUpdaters) → MayAnswerMulti (p.tells) (start_of hall) (view u.pass).seen (view u.pass).seen (alone (history (view u.pass).seen) (history (view u.pass).seen)) (alone_multis (view u.pass).seen (view u.pass).seen) (by_at u.number u.session.levels.commands) (stance_of u.session) u.session.stage (commands.Multi pairs) (replies.Refused r)
       allowed refusals.MemberCount q = tt
@@ -216,3 +213,12 @@ module _ {H L P : Type 0} {l : logs.Ghosts L} {p : disks.Ghosts P} (hall : Hall 
       held refusals.MemberCount q = tt
       held refusals.TwoUpdaters q = tt
       held _ q = absurd (⊎_elim (λ e. cc) (λ e. cc) q)
+
+-- one that was answered is made whole
+pub makes_done : (start : Start) (n : ℕ) (s s' : Session) (pairs : List Pair) (lists more : List (List Entry)) (result : Result MultiGiven Refusal) → MakesNext start n s s' pairs lists more result → IfOk result (IsMade start more n)
+makes_done start n s s' pairs lists more (Ok g) f = record { members = f.1.members; done = f.1.done }
+makes_done start n s s' pairs lists more (Err r) f = tt
+
+-- by the members as they were passed
+pub makes_items : (start : Start) (n : ℕ) (s s' : Session) (items pairs : List Pair) (lists more : List (List Entry)) (result : Result MultiGiven Refusal) → items ≡ pairs → MakesNext start n s s' items lists more result → MakesNext start n s s' pairs lists more result
+makes_items start n s s' items pairs lists more result same m = subst (λ (l : List Pair). MakesNext start n s s' l lists more result) same m

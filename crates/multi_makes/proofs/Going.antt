@@ -1,5 +1,5 @@
 -- What critical sections leave in which a session goes on with a multixact, one after another.
-use Rattle.std.proofs.Common.{◌≡◌, ℕ, List, [], ◌++◌, append-nil, append_assoc, refl, sym, ap, subst, ◌∙◌, arith, length, ◌≤◌}
+use Rattle.std.proofs.Common.{◌≡◌, ℕ, List, [], ◌++◌, append-nil, append_assoc, refl, sym, ap, subst, ◌∙◌, arith}
 use Rattle.std.specs.List.{filter}
 use Rattle.disk_core.specs.declared.log_disk.LogDisk as logs
 use Rattle.disk_core.specs.declared.page_disk.PageDisk as disks
@@ -31,6 +31,7 @@ use Rattle.engine_parts.specs.Steps.{WentMulti, WentOn}
 use Rattle.engine_parts.proofs.Adding.{adds_nothing, adds_then, adds_wider}
 use Rattle.engine_parts.proofs.Going.{stage_later}
 use Rattle.engine_parts.proofs.Leaving.{grows_then}
+use Rattle.engine_parts.proofs.Stepping.{went_then}
 use Rattle.multi_makes.specs.Visits.{Visited}
 
 -- ---- the lists
@@ -54,6 +55,9 @@ went_on n a b w = record {
   };
   asks = w.asks;
 }
+
+pub on_then : (n m : ℕ) (a b c : List (List Entry)) → m ≡ n → WentOn n [] a b → WentOn m [] b c → WentOn n [] a c
+on_then n m a b c same f g = went_then n [] [] a b c f (subst (λ z. WentOn z [] b c) same g)
 
 -- what is few was few
 pub few_before : (lists more : List (List Entry)) → Grows lists more → AreFewMultis more → AreFewMultis lists

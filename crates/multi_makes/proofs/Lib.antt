@@ -7,3 +7,5 @@ pub mod Places
 pub mod Told
 pub mod Acts
 pub mod Making
+pub mod Announcing
+pub mod Outcomes

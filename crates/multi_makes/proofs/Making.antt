@@ -1,5 +1,5 @@
 -- The multixact that a session makes, from its record to its end.
-use Rattle.std.proofs.Common.{◌≡◌, ◌≢◌, ⊎_elim, inl, inr, ℕ, Bool, true, false, List, [], Option, None, Some, IfSome, Contains, refl, sym, ap, subst, ◌∙◌}
+use Rattle.std.proofs.Common.{◌≡◌, ◌≢◌, ⊎_elim, inl, ℕ, Bool, true, false, List, Option, None, Some, IfSome, Contains, Result, Ok, Err, refl, sym, subst, ◌∙◌}
 use Rattle.tx_events.proofs.Membership.{contains_has}
 use Rattle.tx_events.specs.declared.multi.Member.{Member}
 use Rattle.tx_events.specs.declared.multi.MultiEvent.{MultiEvent}
@@ -12,7 +12,7 @@ use Rattle.tx_core.specs.EngineInvariant.{EngineInvariant}
 use Rattle.tx_core.specs.Entries.{IsAppended}
 use Rattle.tx_core.specs.MembersBeforeOffset.{IsRecorded}
 use Rattle.tx_core.specs.MultiEntries.{multi_history}
-use Rattle.tx_core.specs.OwnMultis.{AreMultisDone, IsMultiDone}
+use Rattle.tx_core.specs.OwnMultis.{IsMultiDone}
 use Rattle.tx_core.specs.RecordsFollow.{IsGenOf}
 use Rattle.tx_core.proofs.MultiGiven.{one_gen}
 use Rattle.tx_core.proofs.Nearness.{multis_are_legal}
@@ -20,8 +20,11 @@ use Rattle.engine_parts.specs.declared.session.Making.{Making}
 use Rattle.engine_parts.specs.declared.session.Session.{Session}
 use Rattle.engine_parts.specs.Holds.{Knowledge}
 use Rattle.engine_parts.specs.Makings.{Makes}
-use Rattle.engine_parts.specs.Sessions.{IsAt, MayCall}
+use Rattle.engine_parts.specs.Sessions.{MayCall}
 use Rattle.log_sections.specs.MultiRecords.{IsMakingRecord, making_logged, session_logged}
+use Rattle.tx_events.specs.declared.refusal.Refusal.{Refusal}
+use Rattle.multi_store.specs.declared.answers.MultiGiven.{MultiGiven}
+use Rattle.multi_sections.specs.Takings.{session_taken}
 use Rattle.multi_makes.specs.Pending.{IsLogged, IsPending, IsRecDone, IsRecordedRec}
 
 -- ---- the record
@@ -108,3 +111,17 @@ call_over start v n s rec m p d =
       };
       stage = m.stage;
     }
+
+-- by the members as they are passed
+pub recorded_items : (lists : List (List Entry)) (n multi offset : ℕ) (members items : List Member) (rec : Rec) → rec ≡ records.Multi multi offset members → items ≡ members → IsRecordedRec lists n rec → IsRecorded lists n multi offset items
+recorded_items lists n multi offset members items rec is same r = subst (λ (l : List Member). IsRecorded lists n multi offset l) (sym same) (recorded_is lists n multi offset members rec is r)
+
+pub same_logged : (s s' : Session) → s' ≡ session_logged s → s' ≡ record s { making = s'.making }
+same_logged s s' q = q ∙ (λ j. record s { making = (sym q j).making })
+
+pub logged_some : (o : Option Making) (rec : Rec) → IsPending o rec → making_logged o ≢ None
+logged_some o rec p = pending_some (making_logged o) rec (pending_logged o rec p)
+
+pub same_taken : (s s' : Session) (members : List Member) (result : Result MultiGiven Refusal) → s' ≡ session_taken s members result → s' ≡ record s { making = s'.making }
+same_taken s s' members (Ok g) q = q ∙ (λ j. record s { making = (sym q j).making })
+same_taken s s' members (Err r) q = q ∙ (λ j. record s { making = (sym q j).making })

@@ -1,8 +1,7 @@
 -- Places of the two histories.
-use Rattle.std.proofs.Common.{◌≡◌, ◌⊎◌, ⊎_elim, inl, inr, ℕ, zero, suc, ◌+◌, ◌<◌, ◌≤◌, List, [], ◌∷◌, ◌++◌, None, Some, Contains, length, take, drop, refl, sym, ap, subst, ◌∙◌, arith}
+use Rattle.std.proofs.Common.{◌≡◌, ◌⊎◌, ⊎_elim, inl, inr, ℕ, zero, suc, ◌<◌, ◌≤◌, List, [], ◌∷◌, ◌++◌, None, Some, Contains, length, take, drop, refl, sym, ap, subst, ◌∙◌, arith}
 use Rattle.std.specs.List.{AllByRecursion, slice_get}
 use Rattle.notes.specs.Lists.{Grows}
-use Rattle.tx_events.proofs.ListSteps.{le_or_over}
 use Rattle.tx_events.proofs.Membership.{Has, by_end, contains_has, has_place}
 use Rattle.tx_events.proofs.PlaceLemmas.{each_place_last, each_place_start}
 use Rattle.tx_events.specs.declared.event.By.{By}
@@ -12,8 +11,7 @@ use Rattle.tx_events.specs.declared.multi.MultiEvent.{MultiEvent}
 use Rattle.tx_events.specs.declared.multi.MultiEvent.TheVariants as multis
 use Rattle.tx_events.specs.declared.record.Counters.{Counters}
 use Rattle.tx_events.specs.Events.{by_of}
-use Rattle.tx_events.specs.Multis.{AreLegalMultis, InBase, IsNextMade, MultiMayCome, multi_by, next_made}
-use Rattle.tx_model.specs.Replies.{RoundSpan}
+use Rattle.tx_events.specs.Multis.{AreLegalMultis, InBase, IsNextMade, MultiMayCome, multi_by}
 use Rattle.life_law.specs.MultiPlaces.{MayReadIn, MayReadMultis}
 use Rattle.tx_core.specs.declared.entry.Entry.{Entry}
 use Rattle.tx_core.specs.Entries.{history}

@@ -1,16 +1,17 @@
 -- Members of a multixact that a session recorded, and its offset: they may be set, and stand then.
-use Rattle.std.proofs.Common.{◌≡◌, ◌⊎◌, ⊎_elim, inl, inr, ℕ, ◌+◌, ◌-◌, ◌<◌, ◌≤◌, ◌%◌, List, [], ◌++◌, Some, Contains, length, take, take-append-drop, true, refl, sym, ap, subst, ◌∙◌, arith}
-use Rattle.std.specs.List.{flat_map, slice_get}
+use Rattle.std.proofs.Common.{◌≡◌, ⊎_elim, inl, inr, ℕ, ◌+◌, ◌-◌, ◌<◌, ◌≤◌, ◌%◌, ◌^◌, List, [], ◌∷◌, Some, length, take, true, refl, sym, ap, subst, ◌∙◌, arith}
+use Rattle.std.specs.List.{flat_map, slice_get, slice_range}
 use Rattle.notes.specs.Lists.{Grows, at}
 use Rattle.tx_events.specs.Base.{IsBase}
 use Rattle.tx_events.specs.Ids.{low_half}
-use Rattle.tx_events.specs.Multis.{free_offset, next_made}
+use Rattle.tx_events.specs.Limits.{member_stop}
+use Rattle.tx_events.specs.Multis.{AreLegalMultis, InBase, IsNextMade, MultiMayCome, free_offset, oldest_offset}
 use Rattle.tx_events.specs.declared.event.By.{By}
 use Rattle.tx_events.specs.declared.multi.Member.{Member}
 use Rattle.tx_events.specs.declared.multi.MultiEvent.{MultiEvent}
 use Rattle.tx_events.specs.declared.multi.MultiEvent.TheVariants as multis
 use Rattle.tx_events.specs.declared.record.Rec.TheVariants as records
-use Rattle.tx_events.specs.PageOrder.{Multis, Offsets, is_cut}
+use Rattle.tx_events.specs.PageOrder.{Offsets, is_cut}
 use Rattle.tx_core.specs.declared.entry.Entry.{Entry}
 use Rattle.tx_core.specs.declared.entry.Kind.TheVariants as kinds
 use Rattle.tx_core.specs.declared.entry.Start.{Start}
@@ -19,7 +20,7 @@ use Rattle.tx_core.specs.EngineInvariant.{EngineInvariant}
 use Rattle.tx_core.specs.Entries.{Stands}
 use Rattle.tx_core.specs.Locks.{member_page, member_page_in_full, members_lock, members_lock_of, offset_page, offsets_lock, offsets_lock_of}
 use Rattle.tx_core.specs.MembersBeforeOffset.{IsRecorded, OffsetOf, SlotOf}
-use Rattle.tx_core.specs.MultiEntries.{IsOffsetSet, IsSlotSet, multi_history, slots_in}
+use Rattle.tx_core.specs.MultiEntries.{IsSlotSet, multi_history, slots_in}
 use Rattle.tx_core.specs.OwnMultis.{IsSlotDone}
 use Rattle.tx_core.specs.PagesBeforeIds.{IsMultiOf, IsOffsetOf, WasMade}
 use Rattle.tx_core.proofs.Growing.{begins_flat_map, contains_begins}
@@ -27,11 +28,16 @@ use Rattle.tx_core.proofs.Lasting.{appended_grows}
 use Rattle.tx_core.proofs.MultiGiven.{gen_below}
 use Rattle.tx_core.proofs.Nearness.{multis_are_legal}
 use Rattle.tx_core.proofs.Rising.{multis_grow}
-use Rattle.tx_events.proofs.Membership.{contains_has}
+use Rattle.tx_events.proofs.ListSteps.{le_or_over}
+use Rattle.tx_events.proofs.Membership.{Has, by_end, contains_has}
+use Rattle.tx_events.proofs.PlaceLemmas.{each_place_last, each_place_start}
+use Rattle.tx_events.specs.declared.record.Counters.{Counters}
+use Rattle.tx_core.proofs.MultiOrder.{last_cases}
 use Rattle.recoverable.proofs.Offsets.{given_from}
 use Rattle.multi_banks.specs.Members.{SharePage}
 use Rattle.multi_banks.proofs.Adding.{place_within, share_lock, share_stored}
 use Rattle.multi_banks.proofs.Later.{given_offset, grows_same}
+use Rattle.multi_makes.proofs.Slicing.{get_range, range_get}
 use Rattle.multi_makes.specs.Pending.{AreSlotsDone}
 use Rattle.multi_makes.specs.Slots.{AreRecordedAt, HasBegun, IsOffsetPageMade, IsPageMade, MayBegin}
 
@@ -107,7 +113,8 @@ part_wanted start lists n offset members by own base k some r =
     (o.0, length h, omega arith, subst (λ (t : List MultiEvent). offset ≤ free_offset start.base.offset t) (sym (take_all h)) o.1)
   where
     take_all : (h : List MultiEvent) → take (length h) h ≡ h
-    take_all h = search arith
+    take_all [] = refl
+    take_all (x ∷ h) = ap (λ (t : List MultiEvent). x ∷ t) (take_all h)
 
 pub page_stands : (start : Start) (lists : List (List Entry)) (offset bank : ℕ) → members_lock_of start offset ≡ members_lock bank → Stands lists (members_lock bank) (kinds.Zero (member_page_in_full offset)) → IsPageMade start lists offset
 page_stands start lists offset bank here s = inr (subst (λ z. Stands lists z (kinds.Zero (member_page_in_full offset))) (sym here) s)
@@ -156,3 +163,69 @@ offset_page_at start lists multi bank here made = subst (λ z. WasMade (at lists
 pub begin_gone : (start : Start) (lists more : List (List Entry)) (multi offset bank : ℕ) → offsets_lock_of start multi ≡ offsets_lock bank → Grows lists more → IsOffsetGone (at lists (offsets_lock bank)) multi → HasBegun start more multi offset
 begin_gone start lists more multi offset bank here g c =
     inr (subst (λ z. IsOffsetGone (at more z) multi) (sym here) (c.0, c.1, contains_begins (at lists (offsets_lock bank)) (at more (offsets_lock bank)) _ (g.begins (offsets_lock bank)) c.2, c.3, c.4))
+
+-- ---- parts
+
+-- a part of them stands behind its first one
+pub part_of : (lists : List (List Entry)) (n offset : ℕ) (members : List Member) (a b : ℕ) → AreRecordedAt lists n offset members → AreRecordedAt lists n (offset + a) (slice_range members a b)
+part_of lists n offset members a b r =
+    let behind = r.behind in
+    record {
+      multi = r.multi;
+      first = r.first;
+      all = r.all;
+      recorded = r.recorded;
+      skip = r.skip + a;
+      behind = omega arith;
+      among = λ k member q.
+          let place : r.skip + (a + k) ≡ r.skip + a + k = omega arith in
+          subst (λ z. slice_get r.all z ≡ Some member) place (r.among (a + k) member (range_get members a b k member q).1);
+    }
+
+-- all of them are a part
+pub whole_part : (lists : List (List Entry)) (n multi offset : ℕ) (members : List Member) → IsRecorded lists n multi offset members → AreRecordedAt lists n offset members
+whole_part lists n multi offset members r = record {
+  multi = multi;
+  first = offset;
+  all = members;
+  recorded = r;
+  skip = 0;
+  behind = omega arith;
+  among = λ k member q. let place : k ≡ 0 + k = omega arith in subst (λ z. slice_get members z ≡ Some member) place q;
+}
+
+-- a part more is done
+pub upto_more : (start : Start) (lists : List (List Entry)) (offset : ℕ) (members : List Member) (a b : ℕ) → AreDoneUpto start lists offset members a → AreSlotsDone start lists (offset + a) (slice_range members a b) → AreDoneUpto start lists offset members b
+upto_more start lists offset members a b first part k member lt among =
+    ⊎_elim
+    (λ (le : a ≤ k).
+    let j : a + (k - a) ≡ k = omega arith in
+    let there : offset + a + (k - a) ≡ offset + k = omega arith in
+    subst (λ z. IsSlotDone start lists z member) there (part (k - a) member (get_range members a b (k - a) member (omega arith) (subst (λ z. slice_get members z ≡ Some member) (sym j) among))))
+    (λ (l : k < a). first k member l among)
+    (le_or_over a k)
+
+pub all_done : (start : Start) (lists : List (List Entry)) (offset : ℕ) (members : List Member) (upto : ℕ) → length members ≤ upto → AreDoneUpto start lists offset members upto → AreSlotsDone start lists offset members
+all_done start lists offset members upto le done k member among = let within = place_within members k member among in done k member (omega arith) among
+
+-- members that were given end below 2^63
+pub ends_below : (base : Counters) (h : List MultiEvent) → AreLegalMultis base (InBase base) h → (by : By) (multi offset : ℕ) (members : List Member) → Has h (multis.Gen by multi offset members) → offset + length members < 2 ^ 63
+ends_below base = by_end (λ h. AreLegalMultis base (InBase base) h → (by : By) (multi offset : ℕ) (members : List Member) → Has h (multis.Gen by multi offset members) → offset + length members < 2 ^ 63)
+    (λ legal by multi offset members k. absurd k)
+    (λ h e before legal by multi offset members k.
+    ⊎_elim
+    (λ old. before (each_place_start (MultiMayCome base (InBase base)) h (e ∷ []) legal) by multi offset members old)
+    (λ (new : e ≡ multis.Gen by multi offset members).
+    let rule : IsNextMade base h multi offset members = subst (MultiMayCome base (InBase base) h) new (each_place_last (MultiMayCome base (InBase base)) h e legal) in
+    let stop = below (oldest_offset base.oldest_offset h) in
+    let end = rule.below_member_stop in
+    omega arith)
+    (last_cases h e (multis.Gen by multi offset members) k))
+  where
+    below : (o : ℕ) → member_stop o ≤ 2 ^ 63 - 1
+    below o = omega arith
+
+pub recorded_below : (start : Start) (lists : List (List Entry)) (n multi offset : ℕ) (members : List Member) → EngineInvariant start lists → IsRecorded lists n multi offset members → offset + length members < 2 ^ 64
+recorded_below start lists n multi offset members k r =
+    let b = ends_below start.base (multi_history lists) (multis_are_legal start lists k) r.by multi offset members (contains_has (multi_history lists) (multis.Gen r.by multi offset members) r.given) in
+    omega arith

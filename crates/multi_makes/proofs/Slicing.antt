@@ -1,5 +1,5 @@
 -- Parts of a list, by place.
-use Rattle.std.proofs.Common.{◌≡◌, ℕ, zero, suc, ◌+◌, ◌-◌, ◌<◌, ◌≤◌, List, [], ◌∷◌, None, Some, length, take, drop, refl, sym, ap, subst, ◌∙◌, arith}
+use Rattle.std.proofs.Common.{◌≡◌, ℕ, zero, suc, ◌+◌, ◌-◌, ◌<◌, ◌≤◌, List, [], ◌∷◌, Some, length, take, drop, refl, sym, ap, subst, arith}
 use Rattle.std.specs.List.{slice_get, slice_range}
 
 get_drop : {A : Type 0} (xs : List A) (a k : ℕ) (x : A) → slice_get (drop a xs) k ≡ Some x → slice_get xs (a + k) ≡ Some x

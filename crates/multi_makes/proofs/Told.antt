@@ -1,5 +1,5 @@
 -- What a `multi` is answered, and what it leaves of the one that its session makes.
-use Rattle.std.proofs.Common.{◌≡◌, ◌≢◌, ◌⊎◌, ◌↔◌, ⊎_elim, inl, inr, ℕ, ◌+◌, ◌<◌, ◌≤◌, Bool, true, false, IsTrue, nat_lt, List, [], ◌∷◌, ◌++◌, Option, None, Some, IfSome, Contains, length, take, refl, sym, ap, subst, ◌∙◌, arith}
+use Rattle.std.proofs.Common.{◌≡◌, ◌≢◌, ◌⊎◌, ◌↔◌, ⊎_elim, inl, inr, ℕ, ◌+◌, ◌<◌, ◌≤◌, Bool, true, false, IsTrue, List, [], ◌∷◌, ◌++◌, Option, None, Some, IfSome, Contains, length, take, refl, sym, ap, subst, ◌∙◌, arith}
 use Rattle.std.proofs.lemmas.Bool.Decides.{nat_tests}
 use Rattle.std.specs.List.{AllByRecursion, AllZip, slice_get}
 use Rattle.notes.specs.Lists.{Grows}
@@ -8,7 +8,6 @@ use Rattle.tx_events.specs.declared.event.Event.{Event}
 use Rattle.tx_events.specs.declared.event.Event.TheVariants as events
 use Rattle.tx_events.specs.declared.multi.Member.{Member}
 use Rattle.tx_events.specs.declared.multi.MultiEvent.{MultiEvent}
-use Rattle.tx_events.specs.declared.multi.MultiEvent.TheVariants as multis
 use Rattle.tx_events.specs.declared.record.Counters.{Counters}
 use Rattle.tx_events.specs.declared.refusal.Lock.TheVariants as locks
 use Rattle.tx_events.specs.declared.refusal.Refusal.{Refusal}
@@ -23,7 +22,7 @@ use Rattle.tx_model.specs.declared.command.Pair.{Pair}
 use Rattle.tx_model.specs.declared.reply.Reply.TheVariants as replies
 use Rattle.tx_model.specs.Replies.{alone}
 use Rattle.tx_model.specs.Stance.{Stance}
-use Rattle.life_law.specs.MultiLines.{AreGiven, HasMultiEvents, IsMemberOf, IsMultiWarned, IsUngiven, MayCarry}
+use Rattle.life_law.specs.MultiLines.{AreGiven, IsMemberOf, IsMultiWarned, IsUngiven, MayCarry}
 use Rattle.life_law.specs.MultiStanding.{Unfinished, none, perhaps, still, sure}
 use Rattle.life_law.specs.Refused.{is_by_members, is_by_standing}
 use Rattle.multi_store.specs.declared.answers.MultiGiven.{MultiGiven}
@@ -32,7 +31,7 @@ use Rattle.tx_core.specs.declared.entry.Start.{Start}
 use Rattle.tx_core.specs.Entries.{history}
 use Rattle.tx_core.specs.MultiEntries.{multi_history}
 use Rattle.tx_core.specs.OwnMultis.{own_multis}
-use Rattle.tx_core.proofs.StopLimits.{IsFound, found_announced}
+use Rattle.tx_core.proofs.StopLimits.{found_announced}
 use Rattle.engine_parts.specs.declared.session.Making.{Making}
 use Rattle.engine_parts.specs.declared.session.Session.{Session}
 use Rattle.engine_parts.specs.declared.session.Stage.{Stage}
@@ -42,7 +41,7 @@ use Rattle.engine_parts.specs.Makings.{IsToldMaking, KeepsMaking, has_more_multi
 use Rattle.engine_parts.specs.MultiAnswers.{MayAnswerMulti}
 use Rattle.engine_parts.specs.Sessions.{by_at}
 use Rattle.multi_sections.specs.Takings.{IsNotTaken, taken_event}
-use Rattle.multi_makes.specs.Full.{AreFullOf, AreNotFull, IsBeforeOldest, IsFirstRefused, IsFullOf, IsNotMember}
+use Rattle.multi_makes.specs.Full.{AreFullOf, AreNotFull, IsBeforeOldest, IsFullOf}
 use Rattle.multi_makes.specs.Makes.{AreRead, IsGivenIn, IsNoneGiven}
 use Rattle.multi_makes.specs.Pending.{StopsMaking}
 use Rattle.multi_makes.proofs.Places.{has_at, multis_longer, one_place, reads_end, reads_multis_end, seen_place, split_at, split_take, take_all}
@@ -95,8 +94,8 @@ is_warned start n s members g lists more legal e =
         late = subst (λ (t : List MultiEvent). multi_warn_limit (oldest_multi start.base.oldest_multi t) ≤ g.multi) (sym front) (e.taken.warn.0 w);
       },
       λ (w : IsMultiWarned start.base all (by_at n s.levels.commands) g.multi).
-      let same = one_place start.base all legal (by_at n s.levels.commands) (by_at n s.levels.commands) g.multi w.offset g.offset w.members members w.place (length e.before) w.given here in
-      e.taken.warn.1 (subst (λ (t : List MultiEvent). multi_warn_limit (oldest_multi start.base.oldest_multi t) ≤ g.multi) (ap (λ z. take z all) same ∙ front) w.late),
+          let same = one_place start.base all legal (by_at n s.levels.commands) (by_at n s.levels.commands) g.multi w.offset g.offset w.members members w.place (length e.before) w.given here in
+          e.taken.warn.1 (subst (λ (t : List MultiEvent). multi_warn_limit (oldest_multi start.base.oldest_multi t) ≤ g.multi) (ap (λ z. take z all) same ∙ front) w.late),
     )
 
 -- ---- refusals
@@ -216,7 +215,8 @@ pub gave_none : (n : ℕ) (lists more : List (List Entry)) → own_multis n more
 gave_none n lists more same = let long : length (own_multis n more) ≡ length (own_multis n lists) = ap length same ∙ same_length (own_multis n lists) in grind (arith, nat_tests)
   where
     same_length : (xs : List MultiEvent) → length (xs ++ []) ≡ length xs
-    same_length xs = search arith
+    same_length [] = refl
+    same_length (x ∷ xs) = let r = same_length xs in omega arith
 
 pub gave_one : (n : ℕ) (lists more : List (List Entry)) (e : MultiEvent) → own_multis n more ≡ own_multis n lists ++ e ∷ [] → has_more_multis n lists more ≡ true
 gave_one n lists more e same = let long : length (own_multis n more) ≡ length (own_multis n lists) + 1 = ap length same ∙ one_longer (own_multis n lists) in grind (arith, nat_tests)
@@ -234,8 +234,8 @@ module _ (pairs : List Pair) (gave : Bool) (old new : Option Making) where
   keeps_given r is some = subst (λ b. KeepsMaking (commands.Multi pairs) (replies.Refused r) b old new) (sym is) (λ u told. some)
 
   -- none is
-  pub keeps_none : (base : Counters) (h : List Event) (all : List MultiEvent) (next oldest count : ℕ) (r : Refusal) → gave ≡ false → new ≡ None → AreNotFull next oldest pairs r ⊎ IsNotTaken base all count r → KeepsMaking (commands.Multi pairs) (replies.Refused r) gave old new
-  keeps_none base h all next oldest count r is empty c = subst (λ b. KeepsMaking (commands.Multi pairs) (replies.Refused r) b old new) (sym is) (of r c)
+  pub keeps_none : (base : Counters) (all : List MultiEvent) (next oldest count : ℕ) (r : Refusal) → gave ≡ false → new ≡ None → AreNotFull next oldest pairs r ⊎ IsNotTaken base all count r → KeepsMaking (commands.Multi pairs) (replies.Refused r) gave old new
+  keeps_none base all next oldest count r is empty c = subst (λ b. KeepsMaking (commands.Multi pairs) (replies.Refused r) b old new) (sym is) (of r c)
     where
       memory : KeepsMaking (commands.Multi pairs) (replies.Refused refusals.Memory) false old new
       memory none told = empty

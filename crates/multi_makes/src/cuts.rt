@@ -41,8 +41,8 @@ fn read_base<R: Passing, L: LogDisk, P: PageDisk>(
     base
 }
 
-/// Goes on where a page was cut: the life has given few multixacts, so an entry cut it, and whoever forgot it needs no more
-/// of what stood there. A life that gave 2,900,000 waits for ever.
+/// Goes on where a page was cut: the life has given few multixacts, so an entry cut it, and whoever forgot it needs no
+/// more of what stood there. A life that gave 2,900,000 waits for ever.
 pub(crate) fn pass_cut<R: Passing, L: LogDisk, P: PageDisk>(
     rt: &R,
     hall: &Hall<EngineLaw<L, P>>,

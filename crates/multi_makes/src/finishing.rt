@@ -1,5 +1,5 @@
 //! The multixact that a session makes is made whole.
-ghost use Rattle.std.specs.Prelude.{◌≡◌, IfErr, IfOk, OnOk};
+ghost use Rattle.std.specs.Prelude.{◌≡◌, ◌≢◌, IfErr, MatchResult, None, OnOk};
 ghost use Rattle.hall.specs.Calls.{view, start_of};
 ghost use Rattle.tx_core.specs.MembersBeforeOffset.{IsRecorded};
 ghost use Rattle.engine_parts.specs.Adding.{IsOfMulti, IsToldBy, MayAdd, MayFault};
@@ -20,7 +20,7 @@ use tx_events::{Copied, FullMulti, Member, Memory, Rec, Refusal};
 
 /// The record of the multixact that is made, where one is.
 fn pending_record(making: &Option<Making>) -> Result<Option<Rec>, Memory>
-    ensures { IfOk result (ArePending making.now) }
+    ensures { MatchResult result (ArePending making.now) (λ _. making.now ≢ None) }
 {
     match making {
         None => Ok(None),
@@ -139,11 +139,11 @@ fn finish_record<R: Passing, L: LogDisk, P: PageDisk>(
     }
 }
 
-/// Goes on with the multixact that the session makes, if it makes one, until it is whole: its record, its members, page by
-/// page, and its offset. Members and the offset are set anew where they were set before.
+/// Goes on with the multixact that the session makes, if it makes one, until it is whole: its record, its members, page
+/// by page, and its offset. Members and the offset are set anew where they were set before.
 ///
-/// Refused with `LogDown`, `Full`, `DiskFault` of a bank of offsets or of members, or `Memory`; then the session still makes
-/// it.
+/// Refused with `LogDown`, `Full`, `DiskFault` of a bank of offsets or of members, or `Memory`; then the session still
+/// makes it.
 pub(crate) fn finish<R: Passing, L: LogDisk, P: PageDisk>(
     rt: &R,
     hall: &Hall<EngineLaw<L, P>>,

@@ -7,8 +7,8 @@ use std::alloc::Global;
 use tx_events::{FullXid, Member, MemberList, Memory, Refusal, Xid, near};
 use tx_model::Pair;
 
-/// The full id that a stored half means near the next one. `NotGiven` where it is a special one or wasn't given, `TooOld`
-/// where it means none or one before the oldest.
+/// The full id that a stored half means near the next one. `NotGiven` where it is a special one or wasn't given,
+/// `TooOld` where it means none or one before the oldest.
 fn full_id(found: &Horizons, x: Xid) -> Result<FullXid, Refusal>
     requires from { 3 ≤ found.now.next }
     requires to { found.now.next < 2 ^ 63 }
@@ -35,9 +35,13 @@ fn full_id(found: &Horizons, x: Xid) -> Result<FullXid, Refusal>
     }
 }
 
-/// The members in full, by the next and the oldest id that were found. They are walked in order: the first one that wasn't
-/// given, or is too old, is told.
-pub(crate) fn full_members(alloc: Global, found: &Horizons, pairs: &[Pair]) -> Result<MemberList, Refusal>
+/// The members in full, by the next and the oldest id that were found. They are walked in order: the first one that
+/// wasn't given, or is too old, is told.
+pub(crate) fn full_members(
+    alloc: Global,
+    found: &Horizons,
+    pairs: &[Pair],
+) -> Result<MemberList, Refusal>
     requires from { 3 ≤ found.now.next }
     requires to { found.now.next < 2 ^ 63 }
     ensures { MatchResult result (AreFullOf found.now.next pairs.now) (AreNotFull found.now.next found.now.oldest pairs.now) }

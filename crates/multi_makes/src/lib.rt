@@ -1,5 +1,5 @@
-//! The call of an engine over its lock table that makes a multixact: it is given, its record comes to the log, its members
-//! and its offset are set. What a fault stopped is gone on with. See `docs/ENGINE.md`.
+//! The call of an engine over its lock table that makes a multixact: it is given, its record comes to the log, its
+//! members and its offset are set. What a fault stopped is gone on with. See `docs/ENGINE.md`.
 #![tactic(auto)]
 
 mod cuts;

@@ -17,8 +17,8 @@ use multi_sections::read_multis;
 use proc_sections::read_oldest;
 use tx_events::{Rec, Refusal};
 
-/// Appends the record of a truncation to the announced oldest id and the announced oldest multixact with its offset, which
-/// the log's records may not tell yet: one look at the ProcArray and one at the generator.
+/// Appends the record of a truncation to the announced oldest id and the announced oldest multixact with its offset,
+/// which the log's records may not tell yet: one look at the ProcArray and one at the generator.
 fn log_truncation<R: Passing, L: LogDisk, P: PageDisk>(
     rt: &R,
     hall: &Hall<EngineLaw<L, P>>,
@@ -85,9 +85,9 @@ fn log_behind<R: Passing, L: LogDisk, P: PageDisk>(
     }
 }
 
-/// Appends the record of the multixact that the session makes, which has none yet. Where the counters behind it would be no
-/// base, since the oldest numbers that the log's records tell are too far behind, a truncation's record comes first. That
-/// one stays also where the log then refuses the multixact's.
+/// Appends the record of the multixact that the session makes, which has none yet. Where the counters behind it would
+/// be no base, since the oldest numbers that the log's records tell are too far behind, a truncation's record comes
+/// first. That one stays also where the log then refuses the multixact's.
 ///
 /// Refused with `LogDown`, or where the log isn't down with `Full` or `Memory`; then the multixact's wasn't appended.
 pub(crate) fn log_multi<R: Passing, L: LogDisk, P: PageDisk>(

@@ -107,16 +107,16 @@ fn make_next<R: Passing, L: LogDisk, P: PageDisk>(
     }
 }
 
-/// Makes a multixact of these members (`MultiXactIdCreateFromMembers` of `src/backend/access/transam/multixact.c`): it is
-/// given, its record comes to the log, unflushed, its members are set, page by page, and then its offset. Members are the
-/// full ids near the next one. A multixact of the session that a fault stopped is made whole before. `banks` is the number
-/// of banks of each store, 1 to 16; the lists are of `alloc`.
+/// Makes a multixact of these members (`MultiXactIdCreateFromMembers` of `src/backend/access/transam/multixact.c`): it
+/// is given, its record comes to the log, unflushed, its members are set, page by page, and then its offset. Members
+/// are the full ids near the next one. A multixact of the session that a fault stopped is made whole before. `banks` is
+/// the number of banks of each store, 1 to 16; the lists are of `alloc`.
 ///
-/// Refused, in this order, with `MemberCount` where there are none or more than 64 members, with `TwoUpdaters` where two of
-/// them update, and with what stops the pending one; then with `NotGiven` or `TooOld`, by the first member that is refused,
-/// with `MultiStop` or `MemberStop`, or with `Memory`; then none was given. And with `LogDown`, `Full`, `DiskFault` of a
-/// bank of offsets or of members, or `Memory`; then the multixact that was given is pending. The session has run fewer than
-/// 2^48 commands.
+/// Refused, in this order, with `MemberCount` where there are none or more than 64 members, with `TwoUpdaters` where
+/// two of them update, and with what stops the pending one; then with `NotGiven` or `TooOld`, by the first member that
+/// is refused, with `MultiStop` or `MemberStop`, or with `Memory`; then none was given. And with `LogDown`, `Full`,
+/// `DiskFault` of a bank of offsets or of members, or `Memory`; then the multixact that was given is pending. The
+/// session has run fewer than 2^48 commands.
 pub fn multi<R: Passing, L: LogDisk, P: PageDisk>(
     rt: &R,
     hall: &Hall<EngineLaw<L, P>>,

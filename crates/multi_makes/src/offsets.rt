@@ -1,6 +1,8 @@
 //! The offset of a multixact is set.
 ghost use Rattle.std.specs.Prelude.{◌≡◌, ◌%◌, ◌<◌, ◌≤◌, IfErr, OnOk};
 ghost use Rattle.hall.specs.Calls.{view, start_of};
+ghost use Rattle.tx_events.specs.Ids.{low_half};
+ghost use Rattle.tx_events.specs.Pages.{offset_page};
 ghost use Rattle.engine_parts.specs.Adding.{MayFault};
 ghost use Rattle.engine_parts.specs.Calls.{MayStep};
 ghost use Rattle.engine_parts.specs.Sessions.{by_at};
@@ -57,8 +59,8 @@ fn set_begin<R: Passing, L: LogDisk, P: PageDisk>(
     }
 }
 
-/// Makes the page of the offset of a multixact that the session recorded, all of whose members stand, and sets it. The page
-/// is made as one past the last made one (`ExtendMultiXactOffset`); where it was made before, nothing is wiped.
+/// Makes the page of the offset of a multixact that the session recorded, all of whose members stand, and sets it. The
+/// page is made as one past the last made one (`ExtendMultiXactOffset`); where it was made before, nothing is wiped.
 pub(crate) fn make_begin<R: Passing, L: LogDisk, P: PageDisk>(
     rt: &R,
     hall: &Hall<EngineLaw<L, P>>,

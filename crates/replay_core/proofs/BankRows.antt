@@ -1,5 +1,5 @@
 -- The volumes of a store's banks, all of them or as far as it went.
-use Rattle.std.proofs.Common.{IfErr, List, Ok, OnOk, Err, Result, Some, ap, arith, inl, inr, length, refl, subst, sym, ℕ, ⊎_elim, IsTrue, ◌∙◌, ◌≡◌, ◌≤◌}
+use Rattle.std.proofs.Common.{List, Ok, Err, Result, Some, ap, arith, inl, inr, length, refl, subst, sym, ℕ, ⊎_elim, IsTrue, ◌∙◌, ◌≡◌, ◌≤◌}
 use Rattle.std.specs.List.{slice_get}
 use Rattle.disk_core.specs.Faults.{HasRisen}
 use Rattle.disk_core.specs.Pages.{Pages}

@@ -1,16 +1,15 @@
 -- At each moment of a recovery the pages of members fit, and at its end they show the base.
-use Rattle.std.proofs.Common.{◌≡◌, ◌⊎◌, inl, inr, ⊎_elim, ℕ, ◌+◌, ◌%◌, ◌<◌, ◌≤◌, ◌++◌, ◌^◌, List, length, Option, Some, None, Contains, max, slice_index, refl, sym, ap, subst, arith, ◌∙◌}
+use Rattle.std.proofs.Common.{◌≡◌, ◌⊎◌, ⊎_elim, ℕ, ◌+◌, ◌%◌, ◌<◌, ◌≤◌, ◌^◌, List, length, Option, Some, None, Contains, slice_index, refl, sym, ap, subst, arith, ◌∙◌}
 use Rattle.std.specs.List.{slice_get}
 use Rattle.tx_events.specs.Ids.{low_half}
 use Rattle.tx_events.specs.Limits.{member_stop}
 use Rattle.disk_core.specs.Pages.{Pages, page_bytes}
 use Rattle.store_pages.specs.Layouts.{member_page_of, member_place_of, mode_place_of}
-use Rattle.tx_events.specs.Pages.{member_page_in_full}
 use Rattle.tx_events.specs.declared.multi.Member.{Member}
 use Rattle.tx_events.specs.declared.record.Rec.{Rec}
 use Rattle.tx_events.specs.declared.record.Rec.TheVariants as records
 use Rattle.log_bases.specs.LifeBase.{LifeBase}
-use Rattle.recoverable.specs.Bytes.{slot_byte, slot_bytes, slot_place_of}
+use Rattle.recoverable.specs.Bytes.{ImageHasZeroTails, slot_byte, slot_bytes, slot_place_of}
 use Rattle.recoverable.specs.Fit.{KeptLog, base_at, log_end}
 use Rattle.recoverable.specs.FitMultis.{MembersFit, member_at}
 use Rattle.recoverable.proofs.Offsets.{number_zero}
@@ -56,10 +55,10 @@ module _ (share : Share) (log : KeptLog) (n : ℕ) where
         (subst (λ z. member_at c z ≡ 0) (sym e) (f.no_gap multi offset members among from (subst (λ z. low_half z ≡ 0) e low) (subst (λ z. member_page_of z % share.banks ≡ share.bank) e on)));
   }
 
-  fits_of : (c : Pages) → ((x : ℕ) → member_page_of x % share.banks ≡ share.bank → (i : ℕ) → i < 5 → SlotFits log n x i (slot_byte c x i)) → Rattle.recoverable.specs.Bytes.ImageHasZeroTails c → MembersFit share.banks share.bank log n c
+  fits_of : (c : Pages) → ((x : ℕ) → member_page_of x % share.banks ≡ share.bank → (i : ℕ) → i < 5 → SlotFits log n x i (slot_byte c x i)) → ImageHasZeroTails c → MembersFit share.banks share.bank log n c
   fits_of c each tails = record {
     recorded = λ multi offset k members member among from at on i lt. (each (offset + k) on i lt).recorded multi offset k members member among from at refl;
-    no_gap = λ multi offset members among from low on. let x : ℕ = offset + length members in
+    no_gap = λ multi offset members among from low on.
         number_zero (page_bytes (c (member_page_of (offset + length members)))) (member_place_of (offset + length members)) (λ i lt.
         sym (id_byte c (offset + length members) i lt) ∙ (each (offset + length members) on i (omega (arith, lt))).gap lt multi offset members among from low refl);
     tails = tails;
@@ -91,9 +90,6 @@ module _ (share : Share) (log : KeptLog) (n : ℕ) where
     not_next x m o k i ms member lt among from at e past =
         let win = near_end in let inside = get_inside ms k member at in let l = lies m o ms among from in let l0 = l.0 in let l1 = l.1 in
         not_past_slot (end_base log).counters.offset x i lt (omega arith) (omega arith) past
-
-    abbrev Named : ℕ → ℕ → ℕ → Type 0
-    Named = IsMemberByte share (end_base log).counters.oldest_multi (end_base log).counters.oldest_offset recs
 
     -- a named byte at the place of an offset of the window is of its slot
     named_is : (x i b : ℕ) → i < 5 → (end_base log).counters.oldest_offset ≤ x → x ≤ (end_base log).counters.offset → (h : IsMemberByte share (end_base log).counters.oldest_multi (end_base log).counters.oldest_offset recs (member_page_of x) (slot_place_of x i) b)
@@ -200,7 +196,6 @@ shows_member_base share log n recs m new c w map all has =
     let flushed : (y : ℕ) → (end_base log).counters.oldest_multi ≤ y → (base_at log log.flushed).counters.oldest_multi ≤ y = λ y le. subst (λ (b : LifeBase). b.counters.oldest_multi ≤ y) (sym (same_base log n recs w)) le in
     record {
       recorded = λ multi offset k members member among from at on i lt.
-          let x : ℕ = offset + k in
           here (offset + k) i ∙ ⊎_elim
           (λ old. (after (offset + k) on i lt).recorded multi offset k members member old (flushed multi from) at refl)
           (λ later.

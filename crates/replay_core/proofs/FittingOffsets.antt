@@ -1,9 +1,9 @@
 -- At each moment of a recovery the pages of offsets fit, and at its end they show the base.
-use Rattle.std.proofs.Common.{◌≡◌, ◌⊎◌, ⊎_elim, ℕ, ◌+◌, ◌*◌, ◌%◌, ◌<◌, ◌≤◌, ◌++◌, ◌^◌, List, Some, Contains, max, slice_index, sym, ap, subst, arith, ◌∙◌}
+use Rattle.std.proofs.Common.{◌≡◌, ◌⊎◌, inl, inr, ⊎_elim, ℕ, ◌+◌, ◌-◌, ◌*◌, ◌%◌, ◌<◌, ◌≤◌, ◌++◌, ◌^◌, List, Some, Contains, slice_index, refl, sym, ap, subst, arith, ◌∙◌}
 use Rattle.std.specs.List.{filter}
-use Rattle.tx_events.specs.Ids.{IsFullMulti, low_half}
+use Rattle.tx_events.specs.Ids.{IsFullMulti}
 use Rattle.tx_events.specs.Limits.{multi_stop_limit}
-use Rattle.disk_core.specs.Pages.{Pages}
+use Rattle.disk_core.specs.Pages.{Pages, page_bytes}
 use Rattle.store_pages.specs.Layouts.{number_in, word_page_of, word_place_of}
 use Rattle.tx_events.specs.declared.multi.Member.{Member}
 use Rattle.tx_events.specs.declared.record.Rec.{Rec}
@@ -11,14 +11,14 @@ use Rattle.tx_events.specs.declared.record.Rec.TheVariants as records
 use Rattle.tx_events.proofs.Membership.{contains_has, filter_has, has_cases, has_contains, has_filter, has_left, has_right}
 use Rattle.log_bases.specs.LifeBase.{LifeBase, is_multi}
 use Rattle.recoverable.specs.Bytes.{byte_of, offset_byte}
-use Rattle.recoverable.specs.Fit.{KeptLog, base_at, log_end}
-use Rattle.recoverable.specs.FitMultis.{OffsetsFit, offset_at}
+use Rattle.recoverable.specs.Fit.{KeptLog, base_at}
+use Rattle.recoverable.specs.FitMultis.{OffsetsFit}
 use Rattle.recoverable.proofs.Offsets.{number_zero}
 use Rattle.replay_multis.specs.declared.share.Share.{Share}
 use Rattle.replay_multis.specs.Named.{IsOffsetByte}
 use Rattle.replay_multis.specs.Restore.{IsCleared, IsPastMulti, MayBecome}
 use Rattle.replay_core.specs.Laws.{end_base}
-use Rattle.replay_core.specs.LawsMultis.{FitsWithinOffsets, IsWholeOfMultis, MayRestoreOffsets, ShowsOffsetBase, first_multi}
+use Rattle.replay_core.specs.LawsMultis.{FitsWithinOffsets, IsWholeOfMultis, ShowsOffsetBase, first_multi}
 use Rattle.replay_core.proofs.PastMultis.{is_past, not_past, one_number, word_halves}
 
 -- the number is 0 only if each byte is
@@ -41,6 +41,9 @@ zero_byte_of bytes place i lt e =
     (λ (q : i ≡ 3). ap (λ k. slice_index bytes (place + k)) q ∙ all.3)
     k) h)
     (which i lt)
+
+way : (a b : ℕ) → (a < b) ⊎ (b ≤ a)
+way a b = grind arith
 
 -- ---- what a whole log gives
 
@@ -87,19 +90,16 @@ module _ (share : Share) (log : KeptLog) (n : ℕ) where
   words_of : (c : Pages) → OffsetsFit share.banks share.bank log n c → (x : ℕ) → word_page_of x % share.banks ≡ share.bank → (i : ℕ) → i < 4 → WordFits log n x i (offset_byte c x i)
   words_of c f x on i lt = record {
     recorded = λ offset members among from. f.recorded x offset members among from on i lt;
-    none = λ full from to no. zero_byte_of (Rattle.disk_core.specs.Pages.page_bytes (c (word_page_of x))) (word_place_of x) i lt (f.no_other x full from to no on);
+    none = λ full from to no. zero_byte_of (page_bytes (c (word_page_of x))) (word_place_of x) i lt (f.no_other x full from to no on);
   }
 
   fits_of : (c : Pages) → ((x : ℕ) → word_page_of x % share.banks ≡ share.bank → (i : ℕ) → i < 4 → WordFits log n x i (offset_byte c x i)) → OffsetsFit share.banks share.bank log n c
   fits_of c each = record {
     recorded = λ x offset members among from on i lt. (each x on i lt).recorded offset members among from;
-    no_other = λ x full from to no on. number_zero (Rattle.disk_core.specs.Pages.page_bytes (c (word_page_of x))) (word_place_of x) (λ i lt. (each x on i lt).none full from to no);
+    no_other = λ x full from to no on. number_zero (page_bytes (c (word_page_of x))) (word_place_of x) (λ i lt. (each x on i lt).none full from to no);
   }
 
   module _ (recs : List Rec) (w : IsWholeOfMultis log n recs) where
-    abbrev oldest : ℕ
-    oldest = (end_base log).counters.oldest_multi
-
     from_end : (x : ℕ) → (base_at log log.flushed).counters.oldest_multi ≤ x → (end_base log).counters.oldest_multi ≤ x
     from_end x le = subst (λ (b : LifeBase). b.counters.oldest_multi ≤ x) (same_base log n recs w) le
 
@@ -169,10 +169,10 @@ shows_offset_base share log n recs m new c w map all has =
     (λ (e : slice_index (new (word_page_of x)) (word_place_of x + i) ≡ slice_index (m (word_page_of x)) (word_place_of x + i)). subst (WordFits log n x i) (sym e) (words_of share log n (λ q. Some (m q)) map x on i lt))
     (λ k. become_fits share log n recs w x i (slice_index (new (word_page_of x)) (word_place_of x + i)) lt k)
     (all.each (word_page_of x) (word_place_of x + i) (small_page x)) in
-    let flushed : {x : ℕ} → (end_base log).counters.oldest_multi ≤ x → (base_at log log.flushed).counters.oldest_multi ≤ x = λ le. subst (λ (b : LifeBase). b.counters.oldest_multi ≤ _) (sym (same_base log n recs w)) le in
+    let flushed : (x : ℕ) → (end_base log).counters.oldest_multi ≤ x → (base_at log log.flushed).counters.oldest_multi ≤ x = λ x le. subst (λ (b : LifeBase). b.counters.oldest_multi ≤ x) (sym (same_base log n recs w)) le in
     record {
       recorded = λ x offset members among from on i lt. here x i ∙ ⊎_elim
-          (λ old. (after x on i lt).recorded offset members old (flushed from))
+          (λ old. (after x on i lt).recorded offset members old (flushed x from))
           (λ later.
           let at : IsOffsetByte share (end_base log).counters.oldest_multi recs (word_page_of x) (word_place_of x + i) (byte_of offset i) = record { multi = x; offset = offset; members = members; among = later; from = from; on = on; word = record { k = i; small = lt; page = refl; place = refl; byte = refl } } in
           let stands = all.done (word_page_of x) (word_place_of x + i) (byte_of offset i) (small_page x) at (not_next share log n recs w x offset members i lt among from) in
@@ -183,7 +183,7 @@ shows_offset_base share log n recs m new c w map all has =
           stands.word.byte ∙ ap (λ z. byte_of z stands.word.k) same ∙ ap (byte_of offset) (sym is.1))
           (among_cases log n recs w x offset members among);
       other = λ x full from to no on. number_zero _ (word_place_of x) (λ i lt. here x i ∙ ⊎_elim
-          (λ (low : x < (base_at log (n + 1)).counters.multi). (after x on i lt).none full (flushed from) low (λ offset members k. no offset members (subst (λ (b : LifeBase). Contains b.recorded (records.Multi x offset members)) (same_base log n recs w) k)))
+          (λ (low : x < (base_at log (n + 1)).counters.multi). (after x on i lt).none full (flushed x from) low (λ offset members k. no offset members (subst (λ (b : LifeBase). Contains b.recorded (records.Multi x offset members)) (same_base log n recs w) k)))
           (λ (high : (base_at log (n + 1)).counters.multi ≤ x).
           let win = window log n recs w in
           let past = is_past (first_multi log n) x i (omega arith) (omega arith) in

@@ -1,6 +1,5 @@
 -- From what became of each volume to that all of them fit.
-use Rattle.std.proofs.Common.{Bool, IfOk, IsSome, List, None, Ok, Option, Result, Some, [], ap, append_assoc, arith, cond, false, inl, inr, length, refl, subst, suc, sym, true, zero, ℕ, ◌%◌, ◌++◌, ◌+◌, ◌-◌, ◌<◌, ◌==◌, ◌∙◌, ◌∷◌, ◌^◌, ◌≡◌, ◌≤◌}
-use Rattle.std.proofs.lemmas.Bool.Decides.{nat_tests}
+use Rattle.std.proofs.Common.{List, Some, [], ap, append_assoc, arith, inl, inr, length, refl, subst, suc, sym, zero, ℕ, ◌%◌, ◌++◌, ◌+◌, ◌-◌, ◌<◌, ◌∙◌, ◌∷◌, ◌^◌, ◌≡◌, ◌≤◌}
 use Rattle.std.specs.List.{slice_get}
 use Rattle.disk_core.specs.Pages.{Pages, page_bytes}
 use Rattle.disk_core.specs.Volume.{Volume}
@@ -11,19 +10,16 @@ use Rattle.tx_events.specs.declared.record.Counters.{Counters}
 use Rattle.tx_events.specs.declared.record.Rec.{Rec}
 use Rattle.tx_events.specs.declared.record.Rec.TheVariants as records
 use Rattle.wal_core.specs.Kept.{HasFlushed}
-use Rattle.wal_core.specs.Log.{EndsWithin}
 use Rattle.wal_core.specs.LogViews.{KeepsAll, log_disk, log_first, log_flushed, log_next, log_recs}
 use Rattle.wal_core.specs.declared.wal_log.WalLog.{WalLog}
-use Rattle.wal_core.specs.Opening.{Opened, opened}
 use Rattle.recoverable.specs.Fit.{IsCommitCode, KeptLog, MayBegin, XactFits, base_at, log_end, recs_below}
 use Rattle.recoverable.specs.FitMultis.{MembersFit, OffsetsFit}
 use Rattle.log_bases.specs.LifeBase.{LifeBase, committed_in}
-use Rattle.recoverable.specs.Volumes.{ImageFits, IsNextOf, Left, ListFits, Restored, VolumesFit}
+use Rattle.recoverable.specs.Volumes.{IsNextOf, Left, ListFits, Restored, VolumesFit}
 use Rattle.tx_events.specs.Pages.{member_page_in_full}
 use Rattle.replay_core.specs.Spans.{member_span, offset_span}
 use Rattle.recoverable.specs.XactImages.{code_at}
 use Rattle.recoverable.proofs.Checkpoints.{get_past}
-use Rattle.recoverable.proofs.Stretches.{get_inside}
 use Rattle.std.proofs.lemmas.List.{length-take-le}
 use Rattle.std.proofs.Math.Nat.{mod-lt}
 use Rattle.replay_multis.specs.declared.share.Share.{Share}
@@ -31,7 +27,7 @@ use Rattle.replay_core.specs.Redo.{IsNamed, code_in}
 use Rattle.replay_core.specs.Restore.{MayRestore, RestoresAll, bytes_on}
 use Rattle.replay_core.specs.Laws.{MapFits, ShowBase, end_base, up_to, with_checkpoint}
 use Rattle.replay_core.proofs.Fitting.{fits_within, shows_base}
-use Rattle.replay_core.proofs.Phases.{checkpoint_before, checkpoint_fits, checkpoint_same, cut_base, cut_fits}
+use Rattle.replay_core.proofs.Phases.{checkpoint_fits, checkpoint_same, cut_fits}
 use Rattle.replay_core.specs.Banks.{AreMembersRestored, AreMembersRestoring, AreOffsetsRestored, AreOffsetsRestoring, AreRestored, AreRestoring, members_become, members_leave, offsets_become, offsets_leave}
 use Rattle.replay_core.specs.PageVolumes.{ArePagesLeft, ArePagesRestored, SameCounts}
 use Rattle.replay_core.specs.declared.volumes.PageVolumes.{PageVolumes}
@@ -41,21 +37,13 @@ use Rattle.replay_core.proofs.FittingOffsets.{fits_within_offsets, shows_offset_
 use Rattle.replay_core.proofs.LaterMultis.{checkpoint_fits_members, checkpoint_fits_offsets, cut_fits_members, cut_fits_offsets}
 use Rattle.replay_multis.specs.declared.offsets.OffsetSpan.{OffsetSpan}
 use Rattle.replay_multis.specs.declared.redo_members.MemberSpan.{MemberSpan}
-use Rattle.replay_core.specs.Opened.{EachHas, OpensStill}
-use Rattle.recoverable.specs.Clusters.{AreLeft, Fit, IsLeft}
+use Rattle.replay_core.specs.Opened.{EachHas}
+use Rattle.recoverable.specs.Clusters.{IsLeft}
 use Rattle.replay_core.specs.Volumes.{LeavesFit, RecoversLog}
 use Rattle.replay_core.proofs.Prefixed.{keeps_before}
-use Rattle.replay_core.proofs.LaterLogs.{BeginsIn, FoundIn, begins_in, checkpoint_keeps, counters_are, cut_base_is, cut_end_is, cut_keeps, cut_list_fits, cut_split, found_in, front, front_place, keeps_itself, low, member_span_is, offset_span_is, pending_fits, settled_fits, whole_from, whole_multis}
-use Rattle.replay_core.proofs.Rows.{had, some_same}
-
-abbrev nothing : Pages
-nothing q = None
-
-same_number : (a b : ℕ) → (a == b) ≡ true → a ≡ b
-same_number a b e = grind (arith, nat_tests, e)
-
-itself : (a : ℕ) → (a == a) ≡ true
-itself a = grind (arith, nat_tests)
+use Rattle.replay_core.proofs.LaterLogs.{BeginsIn, FoundIn, begins_in, checkpoint_keeps, counters_are, cut_base_is, cut_end_is, cut_keeps, cut_list_fits, cut_split, front, front_place, low, member_span_is, offset_span_is, pending_fits, settled_fits, whole_from, whole_multis}
+use Rattle.replay_core.proofs.Rows.{had}
+use Rattle.replay_core.proofs.Locating.{Located}
 
 -- an image and a map that has its bytes fit the same
 map_fits : (share : Share) (log : KeptLog) (n : ℕ) (c : Pages) → XactFits share.banks share.bank log n c → MapFits share log n (λ q. page_bytes (c q))
@@ -78,120 +66,10 @@ get_some (x ∷ xs) zero l = (x, refl)
 get_some (x ∷ xs) (suc n) l = get_some xs n (omega arith)
 
 module _ {L P : Type 0} (l : logs.Ghosts L) (p : disks.Ghosts P) where
-  abbrev pages_of : Option P → Pages
-  pages_of None = nothing
-  pages_of (Some d) = p.pages d
-
-  -- what reads give of the volumes of a store, and of one bank this image
-  abbrev pages_at : List P → ℕ → Pages
-  pages_at xs b = pages_of (slice_get xs b)
-
-  abbrev pick_at : List P → ℕ → Pages → ℕ → Pages
-  pick_at xs bank c b = cond (b == bank) c (pages_of (slice_get xs b))
-
-  reads_left : ((d : P) → p.images d (p.pages d)) → (xs : List P) → AreLeft l p xs (pages_at xs)
-  reads_left each xs b d e = subst (λ (o : Option P). p.images d (pages_of o)) (sym e) (each d)
-
-  pick_left : ((d : P) → p.images d (p.pages d)) → (xs : List P) (bank : ℕ) (disk : P) (c : Pages) → slice_get xs bank ≡ Some disk → p.images disk c → AreLeft l p xs (pick_at xs bank c)
-  pick_left each xs bank disk c at image b d e = pick (b == bank) refl
-    where
-      pick : (t : Bool) → (b == bank) ≡ t → p.images d (cond t c (pages_of (slice_get xs b)))
-      pick true q =
-          let here : b ≡ bank = same_number b bank q in
-          let same : disk ≡ d = some_same disk d (sym at ∙ ap (slice_get xs) (sym here) ∙ e) in
-          subst (λ z. p.images z c) same image
-      pick false q = subst (λ (o : Option P). p.images d (pages_of o)) (sym e) (each d)
-
-  -- each image of each bank fits the log as it begins here
-  pub record Located (log : KeptLog) (first : ℕ) (old : PageVolumes P) : Type 0 where
-    pub states : (bank : ℕ) (disk : P) (c : Pages) → slice_get old.xact.items bank ≡ Some disk → p.images disk c → XactFits (length old.xact.items) bank log first c
-    pub offsets : (bank : ℕ) (disk : P) (c : Pages) → slice_get old.offsets.items bank ≡ Some disk → p.images disk c → OffsetsFit (length old.xact.items) bank log first c
-    pub members : (bank : ℕ) (disk : P) (c : Pages) → slice_get old.members.items bank ≡ Some disk → p.images disk c → MembersFit (length old.xact.items) bank log first c
-
-  module _ (v : L) (old : PageVolumes P) (offsets_count : length old.offsets.items ≡ length old.xact.items) (members_count : length old.members.items ≡ length old.xact.items) (log : KeptLog)
-      (fit : Fit l p log v old.xact.items old.offsets.items old.members.items) (reads : l.images v (l.reads v)) (each : (d : P) → p.images d (p.pages d)) where
-    fits_at : (x o m : ℕ → Pages) → AreLeft l p old.xact.items x → AreLeft l p old.offsets.items o → AreLeft l p old.members.items m → ImageFits (length old.xact.items) log (record { log = l.reads v; xact = x; offsets = o; members = m })
-    fits_at x o m a b c = fit.each (record { log = l.reads v; xact = x; offsets = o; members = m }) (record { log_image = reads; states = a; offsets_are = b; members_are = c })
-
-    read_fits : ImageFits (length old.xact.items) log (record { log = l.reads v; xact = pages_at old.xact.items; offsets = pages_at old.offsets.items; members = pages_at old.members.items })
-    read_fits = fits_at (pages_at old.xact.items) (pages_at old.offsets.items) (pages_at old.members.items) (reads_left each old.xact.items) (reads_left each old.offsets.items) (reads_left each old.members.items)
-
-    pub ends_within : EndsWithin (l.reads v)
-    ends_within = subst (λ (r : Result Opened ℕ). IfOk r (λ o. IsSome o.history → o.gate < length (l.reads v).bytes)) (sym read_fits.opens.opens) (λ s. read_fits.opens.within)
-
-    -- after a refusal at the log each image opens as one of before
-    pub still_fits : (new : L) → OpensStill l v new → LeavesFit l p old.xact.items new old.xact.items old.offsets.items old.members.items log
-    still_fits new still = record {
-      later = log;
-      recovers = record { upto = log_end log; keeps = inl (keeps_itself log fit.list) };
-      fits = record {
-        list = fit.list;
-        each = λ left is.
-            let was = still left.log is.log_image in
-            let before : Left = record { log = was.0; xact = left.xact; offsets = left.offsets; members = left.members } in
-            let f : ImageFits (length old.xact.items) log before = fit.each before (record { log_image = was.1; states = is.states; offsets_are = is.offsets_are; members_are = is.members_are }) in
-            let within : EndsWithin was.0 = subst (λ (r : Result Opened ℕ). IfOk r (λ o. IsSome o.history → o.gate < length was.0.bytes)) (sym f.opens.opens) (λ s. f.opens.within) in
-            let ends : EndsWithin left.log = was.2.1 within in
-            let opens : opened left.log ≡ Ok (record { history = Some f.opens.history; gate = f.opens.gate }) = was.2.0 ∙ f.opens.opens in
-            record {
-              begins = f.begins;
-              may_begin = f.may_begin;
-              opens = record {
-                history = f.opens.history;
-                gate = f.opens.gate;
-                opens = opens;
-                within = (subst (λ (r : Result Opened ℕ). IfOk r (λ o. IsSome o.history → o.gate < length left.log.bytes)) opens ends) refl;
-                first = f.opens.first;
-                from = f.opens.from;
-                recs = f.opens.recs;
-                counters = f.opens.counters;
-                flushed = f.opens.flushed;
-                upto = f.opens.upto;
-              };
-              xact = f.xact;
-              offsets = f.offsets;
-              members = f.members;
-            };
-      };
-    }
-
-    module _ (first gate : ℕ) (recs : List Rec) (base : Counters)
-        (opens : opened (l.reads v) ≡ Ok (record { history = Some (record { first = first; recs = recs; counters = base }); gate = gate })) where
-      begins_at : (x o m : ℕ → Pages) (f : ImageFits (length old.xact.items) log (record { log = l.reads v; xact = x; offsets = o; members = m })) → (f.begins ≡ first) × FoundIn log first recs base
-      begins_at x o m f = found_in log f.begins first gate recs base (l.reads v) fit.list f.may_begin f.opens opens
-
-      pub is_found : FoundIn log first recs base
-      is_found = (begins_at (pages_at old.xact.items) (pages_at old.offsets.items) (pages_at old.members.items) read_fits).1
-
-      pub located : Located log first old
-      located = record {
-        states = λ bank disk c at image.
-            let x = pick_at old.xact.items bank c in let o = pages_at old.offsets.items in let m = pages_at old.members.items in
-            let f = fits_at x o m (pick_left each old.xact.items bank disk c at image) (reads_left each old.offsets.items) (reads_left each old.members.items) in
-            let inside : bank < length old.xact.items = get_inside old.xact.items bank disk at in
-            subst (λ n. XactFits (length old.xact.items) bank log n c) (begins_at x o m f).0
-            (subst (λ (t : Bool). XactFits (length old.xact.items) bank log f.begins (cond t c (pages_at old.xact.items bank))) (itself bank) (f.xact bank inside));
-        offsets = λ bank disk c at image.
-            let x = pages_at old.xact.items in let o = pick_at old.offsets.items bank c in let m = pages_at old.members.items in
-            let f = fits_at x o m (reads_left each old.xact.items) (pick_left each old.offsets.items bank disk c at image) (reads_left each old.members.items) in
-            let inside : bank < length old.xact.items = let z = get_inside old.offsets.items bank disk at in omega (arith, z, offsets_count) in
-            subst (λ n. OffsetsFit (length old.xact.items) bank log n c) (begins_at x o m f).0
-            (subst (λ (t : Bool). OffsetsFit (length old.xact.items) bank log f.begins (cond t c (pages_at old.offsets.items bank))) (itself bank) (f.offsets bank inside));
-        members = λ bank disk c at image.
-            let x = pages_at old.xact.items in let o = pages_at old.offsets.items in let m = pick_at old.members.items bank c in
-            let f = fits_at x o m (reads_left each old.xact.items) (reads_left each old.offsets.items) (pick_left each old.members.items bank disk c at image) in
-            let inside : bank < length old.xact.items = let z = get_inside old.members.items bank disk at in omega (arith, z, members_count) in
-            subst (λ n. MembersFit (length old.xact.items) bank log n c) (begins_at x o m f).0
-            (subst (λ (t : Bool). MembersFit (length old.xact.items) bank log f.begins (cond t c (pages_at old.members.items bank))) (itself bank) (f.members bank inside));
-      }
-
   -- ---- behind the start of the log
 
-  module _ (old vols : PageVolumes P) (log : KeptLog) (first : ℕ) (recs : List Rec) (base : Counters) (f : FoundIn log first recs base) (at : Located log first old) (each : (d : P) → p.images d (p.pages d)) (count : SameCounts old vols)
+  module _ (old vols : PageVolumes P) (log : KeptLog) (first : ℕ) (recs : List Rec) (base : Counters) (f : FoundIn log first recs base) (at : Located l p log first old) (each : (d : P) → p.images d (p.pages d)) (count : SameCounts old vols)
       (offsets_count : length old.offsets.items ≡ length old.xact.items) (members_count : length old.members.items ≡ length old.xact.items) where
-    abbrev banks : ℕ
-    banks = length old.xact.items
-
     cut_states : (bank : ℕ) (disk : P) (c : Pages) → slice_get old.xact.items bank ≡ Some disk → p.images disk c → XactFits (length old.xact.items) bank (up_to log (first + length recs)) first c
     cut_states bank disk c was image = cut_fits (length old.xact.items) bank log (first + length recs) first c f.list.from f.flushed f.upto (omega arith) (at.states bank disk c was image)
 

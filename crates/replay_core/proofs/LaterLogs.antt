@@ -1,7 +1,7 @@
 -- The logs on the way through a recovery: cut at the last record that was found, and then with the checkpoint.
 use Rattle.std.proofs.Common.{Contains, List, Option, None, Some, Ok, Err, Result, [], ap, append-nil, append_assoc, arith, drop, length, length-append, max, refl, subst, suc, sym, take, zero, ℕ, ⊎_elim, ◌++◌, ◌+◌, ◌-◌, ◌<◌, ◌∙◌, ◌∷◌, ◌^◌, ◌≡◌, ◌≤◌}
-use Rattle.std.proofs.Math.Seq.{take-add, take-length}
-use Rattle.std.proofs.lemmas.List.{drop-take, length-take-le, take-append-drop}
+use Rattle.std.proofs.Math.Seq.{take-length}
+use Rattle.std.proofs.lemmas.List.{length-take-le, take-append-drop}
 use Rattle.std.specs.List.{filter, slice_get}
 use Rattle.disk_core.specs.Volume.{Volume}
 use Rattle.tx_events.proofs.Membership.{contains_has, has_cases, has_contains, has_filter}
@@ -28,8 +28,6 @@ use Rattle.replay_core.specs.Redo.{AreNear}
 use Rattle.replay_core.specs.Restore.{IsWindow}
 use Rattle.replay_core.specs.Laws.{IsWholeFrom, end_base, up_to, with_checkpoint}
 use Rattle.replay_core.proofs.Phases.{checkpoint_before, checkpoint_end, checkpoint_same, cut_base, cut_end, cut_end_base}
-use Rattle.replay_multis.specs.declared.offsets.OffsetSpan.{OffsetSpan}
-use Rattle.replay_multis.specs.declared.redo_members.MemberSpan.{MemberSpan}
 use Rattle.replay_core.specs.LawsMultis.{IsWholeOfMultis, first_multi, first_offset}
 use Rattle.replay_core.specs.Spans.{AreMultisInReach, begun_counters, member_span, offset_span}
 use Rattle.replay_core.proofs.LaterMultis.{IsLater, is_later_at}

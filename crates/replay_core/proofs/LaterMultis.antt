@@ -1,16 +1,15 @@
 -- The log's part of a recovery keeps what fits of offsets and members.
-use Rattle.std.proofs.Common.{◌≡◌, ⊎_elim, ℕ, ◌+◌, ◌-◌, ◌<◌, ◌≤◌, ◌⊎◌, ◌++◌, List, length, Contains, refl, sym, ap, subst, arith, ◌∙◌}
+use Rattle.std.proofs.Common.{◌≡◌, ⊎_elim, ℕ, ◌+◌, ◌-◌, ◌<◌, ◌≤◌, ◌⊎◌, ◌++◌, Contains, sym, take, ap, subst, arith}
 use Rattle.std.specs.List.{filter}
 use Rattle.tx_events.specs.declared.record.Rec.{Rec}
 use Rattle.tx_events.specs.declared.record.Rec.TheVariants as records
-use Rattle.tx_events.specs.declared.multi.Member.{Member}
 use Rattle.tx_events.proofs.Membership.{contains_has, has_contains, has_left}
 use Rattle.log_bases.specs.LifeBase.{LifeBase, base_after, is_multi}
 use Rattle.recoverable.specs.Fit.{KeptLog, base_at, log_end}
 use Rattle.recoverable.proofs.LogBases.{multi_grows, offset_grows, oldest_multi_grows}
 use Rattle.replay_core.specs.Laws.{end_base, up_to, with_checkpoint}
 use Rattle.replay_core.specs.LawsMultis.{CheckpointFitsMembers, CheckpointFitsOffsets, CutFitsMembers, CutFitsOffsets}
-use Rattle.replay_core.proofs.Phases.{checkpoint_before, checkpoint_same, cut_base, cut_end_base, later_base}
+use Rattle.replay_core.proofs.Phases.{checkpoint_before, checkpoint_end, checkpoint_same, cut_base, cut_end_base, later_base}
 
 -- what a later base knows of an earlier one
 pub record IsLater (old new : LifeBase) : Type 0 where
@@ -35,12 +34,12 @@ is_later_at log f k le = ⊎_elim
     (λ (from : log.first ≤ f). is_later log f k from le)
     (λ (low : f < log.first).
     let none : f - log.first ≡ log.first - log.first = omega arith in
-    let same : base_at log log.first ≡ base_at log f = ap (λ z. base_after log.base (Rattle.std.specs.Prelude.take z log.recs)) (sym none) in
+    let same : base_at log log.first ≡ base_at log f = ap (λ z. base_after log.base (take z log.recs)) (sym none) in
     ⊎_elim
     (λ (up : log.first ≤ k). subst (λ (b : LifeBase). IsLater b (base_at log k)) same (is_later log log.first k (omega arith) up))
     (λ (down : k < log.first).
     let nought : k - log.first ≡ log.first - log.first = omega arith in
-    let again : base_at log log.first ≡ base_at log k = ap (λ z. base_after log.base (Rattle.std.specs.Prelude.take z log.recs)) (sym nought) in
+    let again : base_at log log.first ≡ base_at log k = ap (λ z. base_after log.base (take z log.recs)) (sym nought) in
     subst (λ (b : LifeBase). IsLater b (base_at log k)) same (subst (λ (b : LifeBase). IsLater (base_at log log.first) b) again (is_later log log.first log.first (omega arith) (omega arith))))
     (way log.first k))
     (way log.first f)
@@ -113,7 +112,7 @@ checkpoint_fits_offsets share log flushed n c le begins shows =
 pub checkpoint_fits_members : CheckpointFitsMembers
 checkpoint_fits_members share log flushed n c le begins shows =
     let same = at_flushed log flushed n le begins in
-    let last : base_at (with_checkpoint log flushed) (log_end (with_checkpoint log flushed)) ≡ end_base log = checkpoint_same log flushed (log_end (with_checkpoint log flushed)) (let e = Rattle.replay_core.proofs.Phases.checkpoint_end log flushed in omega (arith, e)) in
+    let last : base_at (with_checkpoint log flushed) (log_end (with_checkpoint log flushed)) ≡ end_base log = checkpoint_same log flushed (log_end (with_checkpoint log flushed)) (let e = checkpoint_end log flushed in omega (arith, e)) in
     record {
       recorded = λ m x j ms member among old. shows.recorded m x j ms member ((at_first log flushed n le begins).more (records.Multi m x ms) among) (subst (λ (b : LifeBase). b.counters.oldest_multi ≤ m) same old);
       no_gap = λ m x ms among old. shows.no_gap m x ms (subst (λ (b : LifeBase). Contains b.recorded (records.Multi m x ms)) last among) (subst (λ (b : LifeBase). b.counters.oldest_multi ≤ m) same old);

@@ -13,6 +13,7 @@ pub mod Rows
 mod BankRows
 mod StoreRows
 mod LaterLogs
+mod Locating
 mod Joining
 mod Settling
 mod Prefixed

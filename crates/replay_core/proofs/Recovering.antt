@@ -18,7 +18,8 @@ use Rattle.replay_core.specs.Volumes.{LeavesFit, RecoversLog}
 use Rattle.replay_core.specs.declared.found.Found.{Found}
 use Rattle.replay_core.specs.declared.refusal.RecoverRefusal.{RecoverRefusal}
 use Rattle.replay_core.specs.declared.volumes.PageVolumes.{PageVolumes}
-use Rattle.replay_core.proofs.Joining.{is_found, is_recovered, located, not_recovered_cut, not_recovered_pending, not_recovered_settled}
+use Rattle.replay_core.proofs.Joining.{is_recovered, not_recovered_cut, not_recovered_pending, not_recovered_settled}
+use Rattle.replay_core.proofs.Locating.{is_found, located}
 use Rattle.replay_core.proofs.Settling.{each_kept}
 
 module _ {L P : Type 0} {l : logs.Ghosts L} (p : disks.Ghosts P) (recs : List Rec) (base : Counters) (log : WalLog L l) (old new : PageVolumes P) where

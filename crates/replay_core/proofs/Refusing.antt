@@ -3,8 +3,6 @@ use Rattle.std.proofs.Common.{Global, List, Vec, length, subst, sym, ℕ, ⊎_el
 use Rattle.disk_core.specs.Faults.{HasRisen}
 use Rattle.disk_core.specs.declared.log_disk.LogDisk as logs
 use Rattle.disk_core.specs.declared.page_disk.PageDisk as disks
-use Rattle.tx_events.specs.declared.record.Counters.{Counters}
-use Rattle.tx_events.specs.declared.record.Rec.{Rec}
 use Rattle.tx_events.specs.declared.record.Rec.TheVariants as records
 use Rattle.tx_events.specs.declared.refusal.Lock.{Lock}
 use Rattle.tx_events.specs.declared.refusal.Lock.TheVariants as locks
@@ -15,7 +13,6 @@ use Rattle.wal_records.specs.Spelling.{rec_bytes}
 use Rattle.replay_core.proofs.Redoing.{risen_since}
 use Rattle.replay_core.specs.Banks.{AreBecome, Becoming, IsStoreRefusal}
 use Rattle.replay_core.specs.Begun.{AreOnDisk}
-use Rattle.replay_core.specs.PageVolumes.{ArePagesRestored}
 use Rattle.replay_core.specs.declared.volumes.PageVolumes.{PageVolumes}
 use Rattle.replay_core.specs.Opened.{IsFound}
 use Rattle.recoverable.specs.Clusters.{HasFailedAt}

@@ -15,7 +15,7 @@ use Rattle.replay_core.specs.Redo.{IsNamed}
 use Rattle.replay_core.specs.Spans.{member_span, offset_span}
 use Rattle.replay_core.specs.declared.refusal.RecoverRefusal.{RecoverRefusal}
 use Rattle.replay_core.specs.declared.volumes.PageVolumes.{PageVolumes}
-use Rattle.replay_core.proofs.BankRows.{OnlyNow, StaysSame, left_same, same_volumes}
+use Rattle.replay_core.proofs.BankRows.{OnlyNow, left_same, same_volumes}
 use Rattle.replay_core.proofs.Restoring.{may_same}
 
 pub same_states : (banks : ℕ) (recs : List Rec) (base : Counters) (bank : ℕ) (m : ℕ → List ℕ) (c : Pages) → states_leave banks recs base bank m c c

@@ -1,17 +1,15 @@
 -- What becomes of the volumes of a store's banks, each in its place.
-use Rattle.std.specs.Prelude.{◌≡◌, ◌≢◌, ◌⊎◌, ℕ, ◌^◌, ◌<◌, ◌≤◌, IsTrue, List, length, Some, Result, OnOk, IfErr, slice_get}
+use Rattle.std.specs.Prelude.{◌≡◌, ◌≢◌, ◌⊎◌, ℕ, ◌≤◌, IsTrue, List, length, Some, Result, OnOk, IfErr, slice_get}
 use Rattle.disk_core.specs.Faults.{HasRisen}
 use Rattle.disk_core.specs.Pages.{Pages}
 use Rattle.disk_core.specs.declared.page_disk.PageDisk as disks
 use Rattle.tx_events.specs.declared.record.Counters.{Counters}
 use Rattle.tx_events.specs.declared.record.Rec.{Rec}
 use Rattle.tx_events.specs.declared.refusal.Lock.{Lock}
-use Rattle.tx_events.specs.declared.refusal.Lock.TheVariants as locks
 use Rattle.log_bases.specs.LifeBase.{committed_in}
 use Rattle.slru_bank.specs.Crash.{CrashLeaves}
 use Rattle.replay_multis.specs.declared.offsets.OffsetSpan.{OffsetSpan}
 use Rattle.replay_multis.specs.declared.redo_members.MemberSpan.{MemberSpan}
-use Rattle.replay_multis.specs.declared.share.Share.{Share}
 use Rattle.replay_multis.specs.declared.refusal.RestoreRefusal.{RestoreRefusal}
 use Rattle.replay_multis.specs.declared.refusal.RestoreRefusal.TheVariants as restores
 use Rattle.replay_multis.specs.Named.{IsMemberByte, IsOffsetByte}

@@ -1,6 +1,6 @@
 -- What the recovery of a bank of offsets, and of members, gives: its images fit at each moment, and the pages show the base
 -- when it is done.
-use Rattle.std.specs.Prelude.{◌≡◌, ℕ, ◌+◌, ◌%◌, ◌<◌, ◌≤◌, ◌++◌, ◌^◌, List, Some, length, max}
+use Rattle.std.specs.Prelude.{◌≡◌, ℕ, ◌+◌, ◌%◌, ◌<◌, ◌≤◌, ◌++◌, List, Some, max}
 use Rattle.std.specs.List.{filter}
 use Rattle.disk_core.specs.Pages.{Pages, page_bytes}
 use Rattle.store_pages.specs.Layouts.{member_page_of, word_page_of}

@@ -5,7 +5,6 @@ use Rattle.disk_core.specs.Volume.{Volume}
 use Rattle.disk_core.specs.declared.log_disk.LogDisk as logs
 use Rattle.disk_core.specs.declared.page_disk.PageDisk as disks
 use Rattle.tx_events.specs.declared.record.Counters.{Counters}
-use Rattle.tx_events.specs.declared.record.Rec.{Rec}
 use Rattle.tx_events.specs.declared.record.Rec.TheVariants as records
 use Rattle.tx_events.specs.declared.refusal.Lock.TheVariants as locks
 use Rattle.wal_core.specs.Log.{IsFull}

@@ -1,7 +1,6 @@
 // The log of a cluster is opened.
-ghost use Rattle.std.specs.Prelude.{◌≡◌, IfErr, IfOk, IsTrue};
+ghost use Rattle.std.specs.Prelude.{IfErr, IfOk, IsTrue};
 ghost use Rattle.wal_core.specs.Log.{EndsWithin};
-ghost use Rattle.wal_core.specs.LogViews.{log_disk};
 ghost use Rattle.replay_core.specs.Opened.{IsFound, OpensStill};
 ghost use Rattle.replay_core.specs.Refused.{IsOpenRefusal};
 

@@ -1,5 +1,5 @@
 // The pages of all stores, as the log gives them.
-ghost use Rattle.std.specs.Prelude.{◌≡◌, ◌≤◌, ◌+◌, ◌^◌, ◌<◌, length};
+ghost use Rattle.std.specs.Prelude.{◌+◌, ◌<◌};
 ghost use Rattle.log_bases.specs.LifeBase.{committed_in};
 ghost use Rattle.replay_core.specs.PageVolumes.{AreFew, RestoresPages};
 ghost use Rattle.replay_core.specs.Redo.{AreNear};

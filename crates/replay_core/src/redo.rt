@@ -1,5 +1,5 @@
 // Commits are put on the pages again.
-ghost use Rattle.std.specs.Prelude.{◌≡◌, ℕ, ◌+◌, ◌^◌, ◌<◌, ◌≤◌, Contains, [], ◌∷◌};
+ghost use Rattle.std.specs.Prelude.{◌≡◌, ◌+◌, ◌<◌, ◌≤◌, [], ◌∷◌};
 ghost use Rattle.slru_bank.specs.Calls.{IsCut, cutoff_of};
 ghost use Rattle.store_pages.specs.Layouts.{xact_page_of};
 ghost use Rattle.log_bases.specs.LifeBase.{committed_by, committed_in};

@@ -1,8 +1,8 @@
 -- Which bytes are named, by lists of records and of members.
-use Rattle.std.proofs.Common.{◌≡◌, ◌⊎◌, true, inl, inr, ⊎_elim, ℕ, zero, suc, ◌+◌, ◌%◌, ◌<◌, ◌≤◌, ◌^◌, List, [], ◌∷◌, ◌++◌, length, take, get_or, Option, Some, None, Contains, refl, sym, ap, subst, arith, ◌∙◌}
+use Rattle.std.proofs.Common.{◌≡◌, ◌⊎◌, true, inl, inr, ⊎_elim, ℕ, zero, suc, ◌+◌, ◌%◌, ◌<◌, ◌≤◌, ◌^◌, List, [], ◌∷◌, ◌++◌, length, take, get_or, Some, Contains, refl, sym, ap, subst, arith, ◌∙◌}
 use Rattle.std.specs.List.{slice_get}
 use Rattle.std.proofs.lemmas.List.{take_more}
-use Rattle.tx_events.proofs.Membership.{Has, contains_has, has_cases, has_contains, has_left, has_right, has_take}
+use Rattle.tx_events.proofs.Membership.{Has, contains_has, has_cases, has_contains}
 use Rattle.tx_events.proofs.PlaceLemmas.{slice_get-push}
 use Rattle.tx_events.proofs.ListSteps.{not_both}
 use Rattle.tx_events.specs.PageOrder.{Multis, Offsets, is_cut}
@@ -49,11 +49,6 @@ module _ {X : Type 0} where
   pub last_at : (xs : List X) (x : X) → slice_get (xs ++ x ∷ []) (length xs) ≡ Some x
   last_at [] x = refl
   last_at (y ∷ xs) x = last_at xs x
-
-  pub inside : (xs : List X) (i : ℕ) (x : X) → slice_get xs i ≡ Some x → i < length xs
-  inside [] i x e = absurd cc
-  inside (y ∷ xs) zero x e = omega arith
-  inside (y ∷ xs) (suc i) x e = let a = inside xs i x e in omega arith
 
 -- ---- offsets
 

@@ -1,6 +1,6 @@
 -- Clearing, redo, clearing and writing, one after another.
-use Rattle.std.proofs.Common.{◌≡◌, ◌⊎◌, true, inl, inr, ⊎_elim, ℕ, ◌<◌, ◌≤◌, ◌^◌, List, slice_index, Result, Ok, Err, OnOk, IsTrue, refl, sym, ap, subst, arith, ◌∙◌}
-use Rattle.disk_core.specs.Pages.{Pages, page_bytes, zero_page}
+use Rattle.std.proofs.Common.{◌≡◌, ◌⊎◌, true, inl, inr, ⊎_elim, ℕ, ◌<◌, ◌≤◌, ◌^◌, List, slice_index, Result, Ok, Err, OnOk, IsTrue, sym, ap, subst, ◌∙◌}
+use Rattle.disk_core.specs.Pages.{Pages}
 use Rattle.disk_core.specs.declared.page_disk.PageDisk as disks
 use Rattle.store_pages.specs.declared.page_rule.PageRule as rules
 use Rattle.tx_events.specs.PageOrder.{Shape, page_precedes}

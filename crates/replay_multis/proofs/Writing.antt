@@ -1,8 +1,9 @@
 -- Numbers and bytes that are put on a page.
-use Rattle.std.proofs.Common.{◌≡◌, ◌⊎◌, inl, inr, ⊎_elim, ℕ, ◌+◌, ◌-◌, ◌*◌, ◌/◌, ◌%◌, ◌<◌, ◌≤◌, ◌==◌, ◌^◌, Bool, true, false, cond, List, [], ◌∷◌, length, slice_index, Result, Ok, Err, OnOk, OnErr, IsTrue, refl, sym, ap, subst, arith, ◌∙◌}
+use Rattle.std.proofs.Common.{◌≡◌, ◌⊎◌, inl, inr, ⊎_elim, ℕ, ◌+◌, ◌-◌, ◌*◌, ◌/◌, ◌%◌, ◌<◌, ◌≤◌, ◌==◌, ◌^◌, Bool, false, cond, List, [], ◌∷◌, slice_index, Result, Ok, Err, OnOk, OnErr, IsTrue, sym, ap, subst, arith, ◌∙◌}
 use Rattle.std.proofs.lemmas.Bool.Decides.{nat_tests}
 use Rattle.tx_events.specs.Ids.{low_half}
 use Rattle.tx_events.specs.Modes.{mode_number}
+use Rattle.tx_events.specs.PageOrder.{is_cut}
 use Rattle.tx_events.specs.declared.multi.Member.{Member}
 use Rattle.store_pages.specs.Layouts.{member_page_of, member_place_of, mode_place_of, number_in, word_page_of, word_place_of}
 use Rattle.slru_bank.specs.Bank.{PutsPage, StaysAPage, placed}
@@ -171,7 +172,7 @@ module _ {P O : Type 0} {g : disks.Ghosts P} {r : rules.Ghosts O} where
 
   -- a page that isn't cut isn't behind a call that keeps the cutoff
   pub still_kept : (page : ℕ) (b0 b1 : SlruBank P O g r) → cutoff_of b1 ≡ cutoff_of b0 → (IsCut page b0 → ⊥) → IsCut page b1 → ⊥
-  still_kept page b0 b1 same kept cut = kept (subst (λ z. IsTrue (Rattle.tx_events.specs.PageOrder.is_cut r.shape r.per_page z page)) same cut)
+  still_kept page b0 b1 same kept cut = kept (subst (λ z. IsTrue (is_cut r.shape r.per_page z page)) same cut)
 
   pub word_redone : (multi offset : ℕ) (b0 b1 : SlruBank P O g r) (result : Result (Unit {0}) BankRefusal) → RedoesBank (IsNumberByte (word_page_of multi) (word_place_of multi) offset) b0 b1 result → RedoesBank (IsWordByte multi offset) b0 b1 result
   word_redone multi offset b0 b1 result s = same_named (IsNumberByte (word_page_of multi) (word_place_of multi) offset) (IsWordByte multi offset) b0 b1 result (word_bytes multi offset) (bytes_word multi offset) s

@@ -22,7 +22,8 @@ use std::alloc::Global;
 use store_pages::{MemberPages, id_position, member_page};
 use tx_events::Rec;
 
-// Clears the members from an offset on, and each later page (`TrimMultiXact`). The modes in front of the first cleared id stay.
+// Clears the members from an offset on, and each later page (`TrimMultiXact`). The modes in front of the first cleared id
+// stay.
 fn clear_members<P: PageDisk>(
     bank: &mut SlruBank<P, MemberPages>,
     from: u64,
@@ -54,9 +55,10 @@ fn restore_bank<P: PageDisk>(
     bank.flush_all()
 }
 
-/// The volume of a bank of members shows the multixacts of these records from the oldest one on, from `from` on nothing else,
-/// and nothing from the next one on; what it has before `from` else is left. All of that is on the disk. The volume comes
-/// back with the outcome; after an error it is restored in part, and the same may be done again.
+/// The volume of a bank of members shows those of the multixacts of these records from the oldest one on, from the offset
+/// `from` on nothing else, and nothing from the next free one on; what it has before `from` else is left. All of that is on
+/// the disk. A mode may stay in front of the first cleared id in its group of four. The volume comes back with the outcome;
+/// after an error it is restored in part, and the same may be done again.
 pub fn restore_members<P: PageDisk + Drop>(
     alloc: Global,
     disk: P,

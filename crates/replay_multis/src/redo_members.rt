@@ -1,9 +1,9 @@
 // Members are put on the pages again.
 ghost use Rattle.std.specs.Prelude.{◌≡◌, ◌+◌, ◌<◌, ◌≤◌, ◌^◌, [], ◌∷◌, length};
 ghost use Rattle.slru_bank.specs.Calls.{IsCut, cutoff_of};
-ghost use Rattle.store_pages.specs.Layouts.{member_page_of, member_place_of, mode_place_of};
+ghost use Rattle.store_pages.specs.Layouts.{member_page_of};
 ghost use Rattle.replay_multis.specs.Named.{AreMembersBelow, IsMemberByte, IsRunByte, IsSlotByte};
-ghost use Rattle.replay_multis.specs.Steps.{RedoesBank, StepsBank};
+ghost use Rattle.replay_multis.specs.Steps.{RedoesBank};
 
 use crate::redo_offsets::low_offset;
 use crate::share::Share;

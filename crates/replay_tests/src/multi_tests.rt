@@ -92,13 +92,22 @@ fn recover_and_crash<M: Media>(
 fn recover_and_look<M: Media>(
     alloc: Global,
     media: &mut M,
-) -> Result<(Result<(u64, u64), RecoverRefusal>, [Option<u32>; 5], [Slot; 6]), Fail>
+) -> Result<
+    (
+        Result<(u64, u64), RecoverRefusal>,
+        [Option<u32>; 5],
+        [Slot; 6],
+    ),
+    Fail,
+>
     requires { IsTrue (M.is_idle media.old) }
 {
     let volumes = media.mount(2)?;
     let Told { volumes, outcome } = recover_mounted(alloc, volumes)?;
     let Volumes {
-        offsets, members, ..
+        offsets,
+        members,
+        ..
     } = volumes;
     Ok((
         outcome,
@@ -112,7 +121,10 @@ fn a_second_life_has_the_multixacts_on_disk_and_no_others(rt: HostRuntime) -> Re
     let alloc = rt.alloc();
     let mut media = MemMedia::new(alloc);
     first_life(alloc, &mut media)?;
-    assert_eq!(rt; recover_and_look(alloc, &mut media)?, (Ok((3, 6)), OFFSETS, MEMBERS));
+    assert_eq!(rt;
+        recover_and_look(alloc, &mut media)?,
+        (Ok((3, 6)), OFFSETS, MEMBERS)
+    );
     Ok(())
 }
 

@@ -152,7 +152,7 @@ reply_less told told' NotYet NotYet' base committed recorded h all span multis b
 
 -- a multixact that the life began with is one of a record
 recorded_is : (rec : Rec) (multi offset : ℕ) (members : List Member) → recorded_by rec ≡ Some (multi, offset, members) → rec ≡ records.Multi multi offset members
-recorded_is (records.Multi m o ms) multi offset members e = let same : (m, o, ms) ≡ (multi, offset, members) = cc in λ j. records.Multi (same j).0 (same j).1 (same j).2
+recorded_is (records.Multi m o ms) multi offset members e = let left : Recorded = (m, o, ms) in let right : Recorded = (multi, offset, members) in let same : left ≡ right = cc in λ j. records.Multi (same j).0 (same j).1 (same j).2
 recorded_is rec multi offset members e = absurd cc
 
 pub recorded_has : (start : Start) (multi offset : ℕ) (members : List Member) → Contains (recorded_in start) (multi, offset, members) → Contains start.recorded (records.Multi multi offset members)

@@ -1,12 +1,13 @@
 -- The promises of all sessions make lawful lines, round by round.
 use Rattle.std.proofs.Common.{Bool, IsTrue, List, None, Option, Some, [], ap, append-nil, append_assoc, arith, cond, drop, length, refl, subst, sym, take, true, zero, suc, ℕ, ◌+◌, ◌++◌, ◌-◌, ◌<◌, ◌≡◌, ◌∙◌, ◌∷◌}
-use Rattle.std.specs.List.{All, count_by, filter, flat_map, slice_get}
+use Rattle.std.specs.List.{All, count_by, filter, filter_map, flat_map, slice_get}
 use Rattle.std.proofs.Math.Seq.{take-append_seam}
 use Rattle.std.proofs.lemmas.Grind.{flat_map-append}
 use Rattle.std.proofs.lemmas.List.{map-append, take-append-drop}
 use Rattle.std.proofs.lemmas.List.Elements.{All-from_recursion, filter-append}
 use Rattle.std.proofs.lemmas.List.Sums.{length-filter}
 use Rattle.tx_events.specs.declared.event.Event.{Event}
+use Rattle.tx_events.specs.declared.multi.MultiEvent.{MultiEvent}
 use Rattle.tx_events.specs.declared.record.Rec.{Rec}
 use Rattle.tx_events.specs.declared.record.Rec.TheVariants as records
 use Rattle.tx_events.specs.declared.record.Counters.{Counters}
@@ -16,7 +17,7 @@ use Rattle.tx_events.specs.declared.refusal.Refusal.TheVariants as refusals
 use Rattle.tx_events.specs.Events.{events_of, given}
 use Rattle.tx_events.specs.Places.{EachPlace}
 use Rattle.tx_events.proofs.ListSteps.{eqb-refl, filter_all, filter_passes}
-use Rattle.tx_events.proofs.Membership.{all_at, all_from, place_has}
+use Rattle.tx_events.proofs.Membership.{all_at, all_from, contains_has, has_contains, has_right, place_has}
 use Rattle.tx_events.proofs.PlaceLemmas.{each_place_none, last_at, slice_get-grows}
 use Rattle.tx_model.specs.declared.command.Command.{Command}
 use Rattle.tx_model.specs.declared.command.Command.TheVariants as commands
@@ -36,19 +37,26 @@ use Rattle.life_law.specs.LawfulLife.{AreLawfulSteps, facts_of}
 use Rattle.life_law.specs.Lines.{IsLawfulLine, IsLawfulRound}
 use Rattle.life_law.specs.Pending.{is_recorded, pending, pending_after, pending_from}
 use Rattle.life_law.specs.Refused.{refused_by}
-use Rattle.life_law.specs.Replies.{IsLawfulReply}
+use Rattle.life_law.specs.Answering.{IsLawfulAnswer, IsLogged}
+use Rattle.life_law.specs.MultiLines.{HasMultiEvents}
+use Rattle.life_law.specs.MultiPlaces.{has_multi_line, multi_span, multis_of, recorded_by}
+use Rattle.notes.specs.Lists.{at}
+use Rattle.tx_core.specs.Locks.{log_lock}
+use Rattle.tx_core.specs.MultiEntries.{AreFewMultis, multi_history}
 use Rattle.tx_core.specs.declared.entry.Entry.{Entry}
 use Rattle.tx_core.specs.declared.entry.Start.{Start}
 use Rattle.tx_core.specs.Entries.{AreFewIds, history}
 use Rattle.engine_parts.specs.Stages.{pending_in}
 use Rattle.session_promise.specs.Checkpoints.{AreCheckpointsTold}
 use Rattle.session_promise.specs.Closing.{BeginsAt, IsOver, IsReportOf, PromisesMakeSteps}
-use Rattle.session_promise.specs.Promise.{IsToldWell, recs_of}
-use Rattle.session_promise.specs.Told.{Follow, Told, ToldRound, all_lines, lines_by, lines_of, steps_of, told_by, told_in, told_of}
+use Rattle.session_promise.specs.Promise.{IsMadeFor, IsToldWell, recs_of}
+use Rattle.session_promise.specs.Told.{Follow, Told, ToldRound, all_lines, in_events, in_multis, lines_by, lines_of, steps_of, told_by, told_in, told_of}
 use Rattle.session_promise.proofs.Between.{each_between, in_turn_between, lines_of_rounds, step_lines}
 use Rattle.session_promise.proofs.FewIds.{levels_bound_ids}
-use Rattle.session_promise.proofs.LawfulReplies.{facts, lawful_reply}
-use Rattle.session_promise.proofs.Standing.{all_told, follow_split, front_counts, lines_have, stands_first}
+use Rattle.session_promise.proofs.FewMultis.{lines_bound_multis}
+use Rattle.session_promise.proofs.LawfulReplies.{facts, lawful_answer}
+use Rattle.session_promise.proofs.Standing.{all_told, follow_split, front_counts, lines_have, multi_counts, stands_first}
+use Rattle.session_promise.proofs.RecordPlaces.{rec_has}
 use Rattle.session_promise.proofs.Telling.{lines_in_round, lines_of_both, lines_told}
 
 -- ---- lists
@@ -79,7 +87,7 @@ step_at n i [] step e = absurd cc
 step_at n zero (r ∷ rounds) step e = let same : steps.Round n r.lines ≡ step = cc in record { round = r; at = refl; lines = ap lines_in (sym same) }
 step_at n (suc i) (r ∷ rounds) step e = let s = step_at (n + 1) i rounds step e in record { round = s.round; at = s.at; lines = s.lines }
 
-take_lines : (n i : ℕ) (rounds : List ToldRound) → flat_map lines_in (take i (steps_of n rounds)) ≡ all_lines (take i rounds)
+pub take_lines : (n i : ℕ) (rounds : List ToldRound) → flat_map lines_in (take i (steps_of n rounds)) ≡ all_lines (take i rounds)
 take_lines n zero rounds = refl
 take_lines n (suc i) [] = refl
 take_lines n (suc i) (r ∷ rounds) = ap (λ ls. r.lines ++ ls) (take_lines (n + 1) i rounds)

@@ -22,6 +22,7 @@ pub mod Summing
 pub mod FewIds
 pub mod FewMultis
 pub mod Standing
+pub mod Devices
 pub mod OneFault
 pub mod HostFaults
 pub mod Between
@@ -32,9 +33,11 @@ pub mod LawfulCheckpoints
 pub mod LawfulLog
 pub mod Opened
 pub mod LawfulDumps
+pub mod LawfulMultis
 pub mod LawfulLives
 pub mod Rounding
 pub mod PendingStays
+pub mod MakingsStay
 pub mod CheckpointRecords
 pub mod Flushing
 pub mod CheckpointsStay

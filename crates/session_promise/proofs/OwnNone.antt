@@ -21,6 +21,11 @@ use Rattle.tx_core.specs.ProgramOrder.{IsOfHost}
 use Rattle.tx_core.proofs.Asking.{if_some, upheld_has}
 use Rattle.tx_core.proofs.Opening.{sessions_known}
 
+-- an entry's event is of the entry's command
+pub multi_own : (start : Start) (lists : List (List Entry)) (lock : ℕ) (before : List Entry) (e : Entry) (event : MultiEvent) → NeedsMulti start lists lock before e → multi_of e ≡ Some event → multi_by event ≡ e.by
+multi_own start lists lock before e event need is =
+    (if_some (multi_of e) (λ (event : MultiEvent). (multi_by event ≡ e.by) × MultiMayCome start.base (InBase start.base) (multis_in before) event × ToldOf start event) event need is).0
+
 -- the entry of an event of a multixact, which is of the event's command
 pub entry_of : (start : Start) (lists : List (List Entry)) (e : MultiEvent) → EngineInvariant start lists → Has (multi_history lists) e → (f : Entry) × Has (at lists multi_lock) f × (multi_of f ≡ Some e) × (multi_by e ≡ f.by)
 entry_of start lists e k h =

@@ -1,6 +1,7 @@
 -- Where the rounds' events stand in the history.
 use Rattle.std.proofs.Common.{Bool, IsTrue, List, Some, [], ap, arith, cond, drop, false, inl, inr, length, refl, subst, sym, take, true, zero, suc, ℕ, ⊎_elim, ◌+◌, ◌++◌, ◌<◌, ◌==◌, ◌≡◌, ◌≤◌, ◌∙◌, ◌∷◌}
 use Rattle.std.specs.List.{AllByRecursion, count_by, list_any, slice_get}
+use Rattle.std.proofs.lemmas.Bool.{false≢true}
 use Rattle.std.proofs.lemmas.List.{length-take-le, take-append-drop}
 use Rattle.std.proofs.lemmas.List.Elements.{All-from_recursion}
 use Rattle.std.proofs.lemmas.List.Sums.{sum_by-append, sum_by-cons}
@@ -26,7 +27,7 @@ use Rattle.tx_core.specs.MultiEntries.{multi_history}
 use Rattle.tx_core.proofs.Taking.{get_of_take}
 use Rattle.session_promise.specs.Closing.{IsOver}
 use Rattle.session_promise.specs.Promise.{IsInRound, IsToldWell}
-use Rattle.session_promise.specs.Told.{Follow, Told, ToldRound, all_lines, in_events, in_multis, lines_by, lines_of, told_by, told_in, told_of}
+use Rattle.session_promise.specs.Told.{Follow, Span, Told, ToldRound, all_lines, in_events, in_multis, lines_by, lines_of, told_by, told_in, told_of}
 use Rattle.session_promise.proofs.FewIds.{event_known}
 use Rattle.session_promise.proofs.FewMultis.{multi_known}
 use Rattle.session_promise.proofs.Sides.{same_is}
@@ -182,6 +183,12 @@ module _ (tells : Bool) (start : Start) (lists : List (List Entry)) (rounds : Li
       let low : l.by.session < start.sessions = all_at (λ (l : Line). l.by.session < start.sessions) (all_lines rounds) l over.lines (lines_have rounds r l k j) in
       let there = has_place (told_by l.by.session rounds) (record { line = l; span = r.span }) (told_has l.by.session rounds r l k j refl) in
       (lines_of (take there.0 (told_by l.by.session rounds)), (over.each l.by.session low).1.each there.0 (record { line = l; span = r.span }) there.1)
+
+  pub line_in : (l : Line) → Has (all_lines rounds) l → (span : Span) × (before : List Line) × IsToldWell tells start lists l.by.session before (record { line = l; span = span })
+  line_in l k =
+      let r = has_flat_map (λ (r : ToldRound). r.lines) rounds l k in
+      let t = line_told r.0 l r.1 r.2 in
+      (r.0.span, t.0, t.1)
 
   in_rounds : (r : ToldRound) (l : Line) → Has rounds r → Has r.lines l → IsInRound by_of (history lists) r.span.events l.by
   in_rounds r l k j = (line_told r l k j).1.place

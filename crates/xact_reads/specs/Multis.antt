@@ -55,14 +55,16 @@ pub record WasPinned (start : Start) (lists : List (List Entry)) (held : Held) :
 
 -- ---- where its members lie
 
--- No offset stands of it, or of the one behind it, where this isn't the next one at the pin.
-abbrev pub IsAsked : Held → ℕ → Type 0
-IsAsked held multi = (multi ≡ held.multi) ⊎ ((multi ≡ next_multi held.multi) × (IsTrue held.last → ⊥))
+-- No offset stands of the pinned multixact, or of the one behind it, which was given when it was pinned.
+pub record IsWanting (start : Start) (lists : List (List Entry)) (held : Held) (multi : ℕ) : Type 0 where
+  pub from : held.multi ≤ multi
+  pub below : (p : WasPinned start lists held) → multi < next_made start.base.multi p.before
+  pub none : HasNoOffset start lists multi
 
 -- why the members weren't read: an offset is wanting, or a volume failed
 abbrev pub IsNotRead : Start → Type 0 → List (List Entry) → By → Held → Refusal → Type 0
 IsNotRead start told lists by held (refusals.NotYet multi) =
-    told → AreFewMultis lists → IsAsked held multi × HasNoOffset start lists multi
+    told → AreFewMultis lists → IsWanting start lists held multi
 IsNotRead start told lists by held r = IsMultiFault lists by r
 
 -- The low halves that were read are of the offset of the multixact, and of that of the one behind it; of the last one it is
@@ -137,6 +139,16 @@ pub record IsJudged (start : Start) (lists : List (List Entry)) (k : RegisteredS
 -- that of a special id isn't told: no member has one
 abbrev pub IsJudgedNormal : Start → List (List Entry) → RegisteredSnapshot → Pair → MemberVerdict → Type 0
 IsJudgedNormal start lists k pair v = 3 ≤ pair.x.number → IsJudged start lists k pair v
+
+-- a slot with a member gets one verdict more, another none
+abbrev pub JudgesSlot : Start → List (List Entry) → RegisteredSnapshot → Option Pair → List MemberVerdict → List MemberVerdict → Type 0
+JudgesSlot start lists k None old new = new ≡ old
+JudgesSlot start lists k (Some pair) old new = (v : MemberVerdict) × (new ≡ old ++ v ∷ []) × IsJudgedNormal start lists k pair v
+
+-- what is made of a refusal of one member
+abbrev pub judged_refusal : Refusal → Result Verdict Refusal
+judged_refusal (refusals.TooOld oldest) = Ok verdicts.TooOld
+judged_refusal refusal = Err refusal
 
 -- ---- the call
 

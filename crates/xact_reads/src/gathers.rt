@@ -1,7 +1,6 @@
 //! The slots of a pinned multixact's members.
-ghost use Rattle.std.specs.Prelude.{◌≡◌, ℕ, ◌+◌, ◌*◌, ◌^◌, ◌<◌, ◌≤◌, ◌++◌, [], IfErr, IsTrue, List, OnErr, OnOk, length, vec_capacity};
+ghost use Rattle.std.specs.Prelude.{◌≡◌, ℕ, ◌+◌, ◌-◌, ◌*◌, ◌^◌, ◌<◌, ◌≤◌, [], IfErr, IsTrue, OnOk, length, vec_capacity};
 ghost use Rattle.hall.specs.Calls.{view, IsOf, start_of};
-ghost use Rattle.multi_members.specs.declared.slot.Slot.{Slot};
 ghost use Rattle.tx_events.specs.Multis.{free_offset, oldest_offset};
 ghost use Rattle.tx_core.specs.MultiEntries.{AreFewMultis, multi_history};
 ghost use Rattle.engine_parts.specs.Adding.{Adds, MayFault};

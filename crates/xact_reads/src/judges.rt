@@ -10,7 +10,7 @@ ghost use Rattle.engine_parts.specs.Adding.{Adds, MayFault};
 ghost use Rattle.engine_parts.specs.Sessions.{IsReady, by_at};
 ghost use Rattle.engine_parts.specs.Steps.{WentOn};
 ghost use Rattle.xact_reads.specs.Glances.{HasGlanced, IsNamed};
-ghost use Rattle.xact_reads.specs.Multis.{AreJudged, IsCarried, IsJudgedNormal, IsVerdictOn, pair_in};
+ghost use Rattle.xact_reads.specs.Multis.{AreJudged, IsCarried, IsJudgedNormal, IsVerdictOn, JudgesSlot, judged_refusal, pair_in};
 
 use crate::glances::{Glance, glance_at};
 use crate::shows::show;
@@ -40,6 +40,16 @@ fn verdict_on(shown: bool) -> Verdict
         Verdict::Visible
     } else {
         Verdict::Hidden
+    }
+}
+
+/// An id whose state is cut is too old; any other refusal is one of the command.
+fn refused_on(refusal: Refusal) -> Result<Verdict, Refusal>
+    ensures { result ≡ judged_refusal refusal }
+{
+    match refusal {
+        Refusal::TooOld { .. } => Ok(Verdict::TooOld),
+        other => Err(other),
     }
 }
 
@@ -78,8 +88,7 @@ fn judge_glance<R: Passing, L: LogDisk, P: PageDisk>(
     }
     match show(rt, hall, caller, banks, name, glance) {
         Ok(shown) => Ok(verdict_on(shown)),
-        Err(Refusal::TooOld { .. }) => Ok(Verdict::TooOld),
-        Err(refusal) => Err(refusal),
+        Err(refusal) => refused_on(refusal),
     }
 }
 
@@ -128,18 +137,63 @@ fn judge<R: Passing, L: LogDisk, P: PageDisk>(
             let verdict = Verdict::TooOld;
             Ok(MemberVerdict { id, mode, verdict })
         }
-        Some(glance) => match judge_glance(rt, hall, caller, banks, name, glance, oldest) {
-            Ok(verdict) => {
-                let id = glance.id;
-                Ok(MemberVerdict { id, mode, verdict })
+        Some(glance) => {
+            let id = glance.id;
+            match judge_glance(rt, hall, caller, banks, name, glance, oldest) {
+                Ok(verdict) => Ok(MemberVerdict { id, mode, verdict }),
+                Err(refusal) => Err(refusal),
             }
-            Err(refusal) => Err(refusal),
-        },
+        }
     }
 }
 
-/// The verdicts on the members in these slots, in order: the oldest id is read once, and then each member is judged. A slot
-/// whose mode no member has counts as unused; it can be met over a store that tells nothing alone.
+/// The verdict on the member in a slot, behind those on the slots before it. A slot whose mode no member has counts as
+/// unused; it can be met over a store that tells nothing alone.
+fn judge_slot<R: Passing, L: LogDisk, P: PageDisk>(
+    rt: &R,
+    hall: &Hall<EngineLaw<L, P>>,
+    caller: &mut Caller<L, P>,
+    banks: u32,
+    name: &Name,
+    slot: Slot,
+    oldest: FullXid,
+    into: &mut Vec<MemberVerdict>,
+) -> Result<(), Refusal>
+    requires own { IsOf hall.now caller.old.pass }
+    requires laid { hall.now.cells ≡ 3 + 4 * (start_of hall.now).banks }
+    requires banks { (banks ≡ (start_of hall.now).banks) × (1 ≤ banks) × (banks ≤ 16) }
+    requires ready { IsReady (start_of hall.now) (view caller.old.pass) caller.old.number caller.old.session }
+    requires named { (k : RegisteredSnapshot) × IsNamed caller.old.session.levels name.now k }
+    requires oldest { IsCarried (start_of hall.now) (view caller.old.pass).seen oldest }
+    requires from { (start_of hall.now).base.oldest ≤ oldest }
+    requires room { length into.old.items < vec_capacity into.old }
+    ensures own { IsOf hall.now caller.new.pass }
+    ensures ready { IsReady (start_of hall.now) (view caller.new.pass) caller.new.number caller.new.session }
+    ensures went { WentOn caller.old.number [] (view caller.old.pass).seen (view caller.new.pass).seen }
+    ensures adds { Adds (by_at caller.old.number caller.old.session.levels.commands) (MayFault result)
+        (view caller.old.pass).seen (view caller.new.pass).seen }
+    ensures said { IsTrue P.tells → AreFewIds (view caller.new.pass).seen → (k : RegisteredSnapshot)
+        → IsNamed caller.old.session.levels name.now k → OnOk result
+        (JudgesSlot (start_of hall.now) (view caller.new.pass).seen k (pair_in slot) into.old.items into.new.items) }
+    ensures long { length into.new.items ≤ length into.old.items + 1 }
+    ensures room { vec_capacity into.new ≡ vec_capacity into.old }
+    ensures fault { IfErr result (IsBankFault (view caller.new.pass).seen
+        (by_at caller.old.number caller.old.session.levels.commands)) }
+    ensures same { (caller.new.session ≡ caller.old.session) × (caller.new.number ≡ caller.old.number) }
+{
+    match slot {
+        Slot::Is { x, mode } => match judge(rt, hall, caller, banks, name, x, mode, oldest) {
+            Ok(verdict) => {
+                into.push_reserved(verdict);
+                Ok(())
+            }
+            Err(refusal) => Err(refusal),
+        },
+        Slot::Unused | Slot::Odd { .. } => Ok(()),
+    }
+}
+
+/// The verdicts on the members in these slots, in order: the oldest id is read once, and then each member is judged.
 pub(crate) fn judge_all<R: Passing, L: LogDisk, P: PageDisk>(
     rt: &R,
     hall: &Hall<EngineLaw<L, P>>,
@@ -171,11 +225,10 @@ pub(crate) fn judge_all<R: Passing, L: LogDisk, P: PageDisk>(
     let oldest = read_oldest(rt, hall, caller);
     let mut place = 0;
     while place < slots.len() {
-        if let Slot::Is { x, mode } = slots[place] {
-            match judge(rt, hall, caller, banks, name, x, mode, oldest) {
-                Ok(verdict) => into.push_reserved(verdict),
-                Err(refusal) => return Err(refusal),
-            }
+        let slot = slots[place];
+        match judge_slot(rt, hall, caller, banks, name, slot, oldest, into) {
+            Ok(()) => {}
+            Err(refusal) => return Err(refusal),
         }
         place += 1;
     }

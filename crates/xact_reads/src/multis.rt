@@ -55,7 +55,10 @@ fn read_pinned<R: Passing, L: LogDisk, P: PageDisk>(
     };
     let gathered = gather(rt, hall, caller, banks, &held, into);
     unpin_multi(rt, hall, caller, held.multi);
-    gathered
+    match gathered {
+        Ok(()) => Ok(()),
+        Err(refusal) => Err(refusal),
+    }
 }
 
 /// What the session's snapshot of this name says of each member of the multixact that `m` means near the next one, in the

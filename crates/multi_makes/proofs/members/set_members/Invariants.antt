@@ -1,4 +1,4 @@
-use Rattle.std.proofs.Common.{◌≡◌, ℕ, ◌-◌, ◌≤◌, length}
+use Rattle.std.proofs.Common.{◌≡◌, ◌-◌, ◌≤◌, length}
 use Rattle.hall.specs.Calls.{view, start_of}
 use Rattle.engine_parts.specs.Adding.{IsPlain}
 use Rattle.multi_makes.specs.Visits.{Visited}

@@ -1,11 +1,15 @@
-use Rattle.std.proofs.Common.{Err, List, Ok, length, rules, subst}
-use Rattle.tx_events.specs.declared.refusal.Lock.TheVariants as locks
+use Rattle.std.proofs.Common.{rules, subst, sym}
 use Rattle.replay_multis.specs.declared.offsets.OffsetSpan.{OffsetSpan}
 use Rattle.replay_multis.specs.declared.redo_members.MemberSpan.{MemberSpan}
 use Rattle.replay_multis.specs.Named.{AreMembersBelow, AreMultisNear}
-use Rattle.replay_core.specs.Banks.{RestoresBanks, members_become, members_leave, offsets_become, offsets_leave}
 use Rattle.replay_core.proofs.StoreRows.{members_failed, offsets_failed, states_failed, with_parents}
 use Rattle.replay_core.proofs.pages.restore_pages.Goals as goal
+
+pub restore_all_offsets-requires-clause-near : goal.restore_all_offsets-requires-clause-near
+restore_all_offsets-requires-clause-near g c = subst (λ (s : OffsetSpan). AreMultisNear s.oldest c.args.recs.now) (sym c.offset_span-offsets.ensures) c.requires.multis.near
+
+pub restore_all_members-requires-clause-below : goal.restore_all_members-requires-clause-below
+restore_all_members-requires-clause-below g c = subst (λ (s : MemberSpan). AreMembersBelow s.next c.args.recs.now) (sym c.member_span-members.ensures) c.requires.multis.below
 
 pub returns-in_err-restore_all_states : goal.returns-in_err-restore_all_states
 returns-in_err-restore_all_states g c =

@@ -1,4 +1,4 @@
-use Rattle.std.proofs.Common.{Err, List, Ok, Some, arith, length, refl, subst, sym, ◌∙◌, ◌≡◌, ◌≤◌}
+use Rattle.std.proofs.Common.{Err, List, Ok, Some, arith, length, subst, sym, ◌∙◌, ◌≡◌, ◌≤◌}
 use Rattle.std.specs.List.{slice_get}
 use Rattle.tx_events.specs.declared.record.Rec.{Rec}
 use Rattle.log_bases.specs.LifeBase.{committed_in}
@@ -8,7 +8,7 @@ use Rattle.replay_core.specs.Banks.{NoCountFell, members_become, offsets_become,
 use Rattle.replay_core.specs.Replay.{Replays}
 use Rattle.replay_core.specs.Spans.{AreMultisInReach, member_span, offset_span}
 use Rattle.replay_core.specs.Volumes.{LeavesFit, RecoversLog}
-use Rattle.replay_core.proofs.Joining.{ends_within, still_fits}
+use Rattle.replay_core.proofs.Locating.{ends_within, still_fits}
 use Rattle.replay_core.proofs.LaterLogs.{ids_near, multis_in_reach}
 use Rattle.replay_core.proofs.Recovering.{replay_leaves, replay_recovers}
 use Rattle.replay_core.proofs.Refusing.{on_disk, pages_of, refusal_is}

@@ -1,4 +1,4 @@
-use Rattle.std.proofs.Common.{◌/◌, ◌%◌, ◌∙◌, ◌<◌, ◌≡◌, ap, arith, rules, sym}
+use Rattle.std.proofs.Common.{◌/◌, ◌%◌, ◌∙◌, ◌<◌, ◌≡◌, ap, rules}
 use Rattle.store_pages.specs.Layouts.{member_page_of, member_place_of, mode_place_of}
 use Rattle.tx_events.specs.Modes.{mode_number}
 use Rattle.tx_events.specs.Pages.{id_at, mode_at}

@@ -1,4 +1,4 @@
-use Rattle.std.proofs.Common.{List, [], ap, arith, length, subst, sym, ◌+◌, ◌∷◌, ◌≡◌, ◌≤◌}
+use Rattle.std.proofs.Common.{List, [], ap, arith, length, subst, ◌∷◌, ◌≡◌, ◌≤◌}
 use Rattle.tx_events.specs.declared.multi.Member.{Member}
 use Rattle.replay_multis.specs.Named.{IsMemberByte, IsRunByte}
 use Rattle.replay_multis.specs.Steps.{RedoesBank}

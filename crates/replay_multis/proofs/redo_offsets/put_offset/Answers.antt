@@ -1,6 +1,5 @@
-use Rattle.std.proofs.Common.{◌*◌, ◌/◌, ◌%◌, ◌∙◌, ◌≡◌, ap, IsTrue, OnOk, sym}
+use Rattle.std.proofs.Common.{◌*◌, ◌/◌, ◌%◌, ◌∙◌, ◌≡◌, ap}
 use Rattle.store_pages.specs.Layouts.{word_page_of, word_place_of}
-use Rattle.slru_bank.specs.Calls.{pages_of}
 use Rattle.replay_multis.proofs.Writing.{number_redone, word_redone}
 use Rattle.replay_multis.proofs.redo_offsets.put_offset.Goals as goal
 

@@ -1,5 +1,5 @@
 -- What a command's reply tells that touches no multixact.
-use Rattle.std.proofs.Common.{◌≡◌, ◌⊎◌, ◌<◌, ℕ, Bool, Contains, Err, IfOk, IsTrue, List, None, Ok, OnOk, Result, false, inl, inr, refl, sym, ◌∙◌, ⊎_elim}
+use Rattle.std.proofs.Common.{◌≡◌, ◌⊎◌, ◌<◌, ℕ, Bool, Contains, Err, IfOk, IsTrue, List, None, Ok, Result, false, inl, inr, refl, sym, ◌∙◌, ⊎_elim}
 use Rattle.tx_events.specs.declared.event.By.{By}
 use Rattle.tx_events.specs.declared.multi.MultiEvent.TheVariants as multis
 use Rattle.tx_events.specs.declared.refusal.Refusal.{Refusal}
@@ -19,7 +19,7 @@ use Rattle.multi_store.specs.declared.answers.MultiGiven.{MultiGiven}
 use Rattle.engine_parts.specs.declared.session.Stage.{Stage}
 use Rattle.engine_parts.specs.Answers.{MayAnswerAny, reply_of}
 use Rattle.multi_makes.specs.Makes.{IsMade, given_reply}
-use Rattle.multi_freezes.specs.Trims.{IsCut}
+use Rattle.multi_freezes.specs.Trims.{HasTrimmed as HasCut}
 use Rattle.session_promise.specs.Promise.{HasTrimmed, IsMadeFor, IsRaisedAsTold, IsRecordedIn}
 
 -- whether a command makes a multixact
@@ -89,7 +89,7 @@ made_by start lists n (Ok g) done = (done.members, done.done)
 made_by start lists n (Err r) done = tt
 
 -- a truncation that a call did has its record on disk
-pub trimmed_by : {T : Type 0} (start : Start) (lists : List (List Entry)) (by : By) (result : Result T Refusal) → OnOk result (IsCut start lists by) → reply_of (λ _. replies.Done) result ≡ replies.Done → HasTrimmed start lists by
+pub trimmed_by : {T : Type 0} (start : Start) (lists : List (List Entry)) (by : By) (result : Result T Refusal) → IfOk result (λ _. HasCut start lists by) → reply_of (λ _. replies.Done) result ≡ replies.Done → HasTrimmed start lists by
 trimmed_by start lists by (Ok x) cut done = record { place = cut.place; to = cut.to; oldest = cut.oldest; multi = cut.multi; offset = cut.offset; stands = cut.stands; past = cut.past; flushed = cut.flushed }
 trimmed_by start lists by (Err r) cut done = absurd cc
 

@@ -38,7 +38,8 @@ use Rattle.xact_reads.proofs.Standings.{Stood, stood}
 pub full_is : (offset end low : ℕ) → low ≡ low_half offset → offset ≤ end → end < offset + 2 ^ 32 → full_upto end low ≡ offset
 full_is offset end low is upto near =
     let back : (end + 2 ^ 32 - low) % 2 ^ 32 ≡ end - offset = omega arith in
-    ap (λ b. cond (nat_le b end) (end - b) low) back ∙ within (end - offset) offset end low (omega arith) (omega arith)
+    let same : full_upto end low ≡ cond (nat_le (end - offset) end) (end - (end - offset)) low = ap (λ (b : ℕ). cond (nat_le b end) (end - b) low) back in
+    same ∙ within (end - offset) offset end low (omega arith) (omega arith)
   where
     within : (b offset end low : ℕ) → b ≤ end → end - b ≡ offset → cond (nat_le b end) (end - b) low ≡ offset
     within b offset end low le same = ap (λ (c : Bool). cond c (end - b) low) (grind (arith, nat_tests)) ∙ same
@@ -46,7 +47,8 @@ full_is offset end low is upto near =
 pub between_is : (begin end : ℕ) (ends : Ends) → ends.begin ≡ low_half begin → ends.end ≡ low_half end → begin ≤ end → end ≤ begin + 65 → slots_between ends ≡ end - begin
 between_is begin end ends b e le near =
     let between : (ends.end + 2 ^ 32 - ends.begin) % 2 ^ 32 ≡ end - begin = omega arith in
-    ap (λ n. min 65 n) between ∙ least (end - begin) (omega arith)
+    let same : slots_between ends ≡ min 65 (end - begin) = ap (λ (n : ℕ). min 65 n) between in
+    same ∙ least (end - begin) (omega arith)
   where
     least : (n : ℕ) → n ≤ 65 → min 65 n ≡ n
     least n le = grind arith

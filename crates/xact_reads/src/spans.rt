@@ -100,7 +100,7 @@ pub(crate) fn ends_of<R: Passing, L: LogDisk, P: PageDisk>(
         Err(refusal) => return Err(refusal),
     };
     if held.last {
-        let end = (held.end & 0xffff_ffff) as u32;
+        let end = (held.end % 0x1_0000_0000) as u32;
         return Ok(Ends { begin, end });
     }
     let next = held.multi.advance();

@@ -5,8 +5,6 @@
 #[cfg(test)]
 mod cluster;
 #[cfg(test)]
-mod multi_tests;
-#[cfg(test)]
 mod multis;
 #[cfg(test)]
 mod recover_tests;

@@ -9,25 +9,23 @@ use std::test::Fail;
 use store_pages::{MemberPages, OffsetPages};
 use tx_events::{FullMulti, Member, MemberList, Mode, MultiId, Rec};
 
-/// A multixact of one member, which holds the row in this mode, or of two, whose second one changes it.
+/// A multixact of two members, which hold the row.
 pub fn multi(
     alloc: Global,
     number: u64,
     offset: u64,
     first: u64,
-    second: Option<u64>,
+    second: u64,
 ) -> Result<Rec, Fail> {
     let mut members = Vec::new(alloc);
     members.push(Member {
         id: id(first)?,
         mode: Mode::Sh,
     })?;
-    if let Some(second) = second {
-        members.push(Member {
-            id: id(second)?,
-            mode: Mode::Upd,
-        })?;
-    }
+    members.push(Member {
+        id: id(second)?,
+        mode: Mode::KeySh,
+    })?;
     Ok(Rec::Multi {
         multi: FullMulti::new(number).ok_or("a multixact")?,
         offset,
@@ -87,27 +85,23 @@ pub fn put_member<P: PageDisk + Drop>(
     Ok(members)
 }
 
-/// The offsets of multixacts in their banks, of which there are two.
+/// The offsets of multixacts in their banks, of which there are two; 0 for none.
 pub fn offsets_of<P: PageDisk + Drop>(
     alloc: Global,
     offsets: Vec<P>,
-    numbers: [u32; 5],
-) -> Result<[Option<u32>; 5], Fail> {
-    let mut found = [None; 5];
+    numbers: [u32; 3],
+) -> Result<[u32; 3], Fail> {
+    let mut found = [0; 3];
     let mut bank = 0;
     for disk in offsets {
         let mut pages = match SlruBank::<P, OffsetPages>::new(alloc, disk, 0, 0) {
             Ok(pages) => pages,
             Err(_) => return Err("no memory".into()),
         };
-        for at in 0..5 {
-            if numbers[at] / 2048 % 2 == bank {
-                found[at] = offset(
-                    &mut pages,
-                    MultiId {
-                        number: numbers[at],
-                    },
-                )?;
+        for at in 0..3 {
+            let number = numbers[at];
+            if number / 2048 % 2 == bank {
+                found[at] = offset(&mut pages, MultiId { number })?.unwrap_or(0);
             }
         }
         bank = 1;
@@ -115,22 +109,25 @@ pub fn offsets_of<P: PageDisk + Drop>(
     Ok(found)
 }
 
-/// The members at these offsets in their banks, of which there are two.
+/// The ids at these member offsets in their banks, of which there are two; 0 where the slot is unused.
 pub fn members_of<P: PageDisk + Drop>(
     alloc: Global,
     members: Vec<P>,
-    places: [u32; 6],
-) -> Result<[Slot; 6], Fail> {
-    let mut found = [Slot::Unused; 6];
+    places: [u32; 4],
+) -> Result<[u32; 4], Fail> {
+    let mut found = [0; 4];
     let mut bank = 0;
     for disk in members {
         let mut pages = match SlruBank::<P, MemberPages>::new(alloc, disk, 0, 0) {
             Ok(pages) => pages,
             Err(_) => return Err("no memory".into()),
         };
-        for at in 0..6 {
-            if places[at] / 1636 % 2 == bank {
-                found[at] = read_member(&mut pages, places[at])?;
+        for at in 0..4 {
+            let place = places[at];
+            if place / 1636 % 2 == bank {
+                if let Slot::Is { x, .. } = read_member(&mut pages, place)? {
+                    found[at] = x.number;
+                }
             }
         }
         bank = 1;

@@ -57,7 +57,8 @@ fn words_and_what_they_write(rt: HostRuntime) -> Result<(), Fail> {
         let (words, wanted) = row.split_once(":").ok_or("a row is cut")?;
         let (status, written, left) = run_beside_a_source(&rt, words)?;
         let found = format!(in rt.alloc(); "{status}:{written}")?;
-        assert_eq!(rt; found.as_str().strip_suffix("\n"), Some(wanted), "{row}");
+        let wanted = format!(in rt.alloc(); "{wanted}\n")?;
+        assert_eq!(rt; found.as_str(), wanted.as_str(), "{row}");
         assert_eq!(rt; left, 8, "{row}");
     }
     Ok(())

@@ -22,9 +22,9 @@ get_at (x ∷ xs) zero lt = (x, refl)
 get_at (x ∷ xs) (suc n) lt = get_at xs n (omega arith)
 
 -- what a crash leaves of a store's volumes
-store_left : {P : Type 0} (p : disks.Ghosts P) (banks : ℕ) (Follows : ℕ → Pages → Type 0) (volumes : List P) (left : ℕ → Pages) → AllFollow p banks Follows volumes → AreLeft p volumes left
+store_left : {L P : Type 0} (l : logs.Ghosts L) (p : disks.Ghosts P) (banks : ℕ) (Follows : ℕ → Pages → Type 0) (volumes : List P) (left : ℕ → Pages) → AllFollow p banks Follows volumes → AreLeft l p volumes left
     → (bank : ℕ) → bank < banks → Follows bank (left bank)
-store_left p banks Follows volumes left all is bank inside =
+store_left l p banks Follows volumes left all is bank inside =
     let count = all.count in
     let disk = get_at volumes bank (omega (arith, count, inside)) in
     all.each bank disk.0 disk.1 (left bank) (is bank disk.0 disk.1)
@@ -35,9 +35,9 @@ module _ {L P : Type 0} (l : logs.Ghosts L) (p : disks.Ghosts P) where
     follows : LeftFollows start lists kept left
     follows = record {
       log_image = record { kept = first; opens = holds.log_holds.keeps.each left.log is.log_image; forgotten = holds.log_holds.beginning };
-      states = store_left p start.banks _ xact left.xact holds.states is.states;
-      offsets_are = store_left p start.banks _ offsets left.offsets holds.offsets_are is.offsets_are;
-      members_are = store_left p start.banks _ members left.members holds.members_are is.members_are;
+      states = store_left l p start.banks _ xact left.xact holds.states is.states;
+      offsets_are = store_left l p start.banks _ offsets left.offsets holds.offsets_are is.offsets_are;
+      members_are = store_left l p start.banks _ members left.members holds.members_are is.members_are;
     }
 
     fits : ImageFits start.banks kept left

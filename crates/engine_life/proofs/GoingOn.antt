@@ -5,12 +5,12 @@ use Rattle.disk_core.specs.declared.page_disk.PageDisk as disks
 use Rattle.disk_core.specs.declared.media.Volumes.{Volumes}
 use Rattle.disk_core.specs.Images.{Only}
 use Rattle.recoverable.specs.Fit.{KeptLog}
-use Rattle.replay_core.specs.Volumes.{LeavesFit}
 use Rattle.replay_core.specs.declared.refusal.RecoverRefusal.{RecoverRefusal}
 use Rattle.replay_core.specs.declared.refusal.RecoverRefusal.TheVariants as refusals
 use Rattle.engine_life.specs.declared.refusal.NotReopened.TheVariants as not_reopened
 use Rattle.recoverable.proofs.Crashed.{crash_keeps_fit}
 use Rattle.engine_life.specs.NextLives.{CrashGoesOn, StayFit, WhenRefused}
+use Rattle.engine_life.specs.Reopening.{LeavesLog}
 
 module _ {L P : Type 0} (l : logs.Ghosts L) (p : disks.Ghosts P) where
   -- behind a crash the next life may go on from what it left
@@ -18,12 +18,11 @@ module _ {L P : Type 0} (l : logs.Ghosts L) (p : disks.Ghosts P) where
   crash_goes_on kept old new crashed may told =
       let was = may told in
       let c = crashed was.0 told in
-      (was.0, crash_keeps_fit l p kept old.log new.log old.xact.items new.xact.items c.log c.xact was.1)
+      (was.0, crash_keeps_fit l p kept old.log new.log old.xact.items new.xact.items old.offsets.items new.offsets.items old.members.items new.members.items c.log c.xact c.offsets c.members was.1)
 
-  pub when_fits : (kept : KeptLog) (old new : Volumes L P) (refusal : RecoverRefusal) → LeavesFit l p old.xact.items new.log new.xact.items kept → WhenRefused l p kept old new refusal
+  pub when_fits : (kept : KeptLog) (old new : Volumes L P) (refusal : RecoverRefusal) → LeavesLog l p old new kept → WhenRefused l p kept old new refusal
   when_fits kept old new (refusals.Damaged at) fit = fit
   when_fits kept old new refusals.NoRecord fit = fit
-  when_fits kept old new refusals.HasMultis fit = fit
   when_fits kept old new refusals.LogFault fit = fit
   when_fits kept old new (refusals.DiskFault lock) fit = fit
   when_fits kept old new refusals.Full fit = fit

@@ -5,3 +5,6 @@ mod Reopened
 mod GoingOn
 mod LogEnds
 mod Fitting
+mod SetsInRoom
+mod MembersTails
+mod MultisFollowed

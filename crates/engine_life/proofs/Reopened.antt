@@ -1,12 +1,13 @@
 -- What a recovery leaves is what a life begins with.
 use Rattle.std.proofs.Common.{Bool, IsTrue, List, None, Option, Some, [], ap, arith, cond, false, inr, length, refl, subst, suc, sym, take, true, zero, ℕ, ◌%◌, ◌+◌, ◌-◌, ◌/◌, ◌==◌, ◌<◌, ◌∙◌, ◌∷◌, ◌≡◌, ◌≤◌}
 use Rattle.std.proofs.Math.Seq.{take-length}
+use Rattle.std.proofs.lemmas.Option.{slice_get_within}
 use Rattle.std.specs.List.{slice_get, slice_index}
 use Rattle.disk_core.specs.declared.log_disk.LogDisk as logs
+use Rattle.disk_core.specs.declared.media.Volumes.{Volumes}
 use Rattle.disk_core.specs.declared.page_disk.PageDisk as disks
-use Rattle.disk_core.specs.Pages.{Pages, page_bytes, zero_page}
-use Rattle.slru_bank.proofs.ZeroBytes.{zero_byte}
-use Rattle.store_pages.specs.Layouts.{member_place_of, mode_place_of, number_in, state_in, word_place_of, xact_page_of, xact_place_of}
+use Rattle.disk_core.specs.Pages.{Pages, page_bytes}
+use Rattle.store_pages.specs.Layouts.{member_page_of, state_in, word_page_of, xact_page_of, xact_place_of}
 use Rattle.tx_events.proofs.Membership.{contains_has}
 use Rattle.tx_events.specs.Ids.{IsFullMulti}
 use Rattle.tx_events.specs.declared.record.Counters.{Counters}
@@ -15,31 +16,32 @@ use Rattle.tx_events.specs.declared.record.Rec.TheVariants as records
 use Rattle.wal_core.specs.LogViews.{log_checkpoint, KeepsAll, log_counters, log_disk, log_down, log_first, log_flushed, log_next, log_recs}
 use Rattle.wal_core.specs.declared.wal_log.WalLog.{WalLog}
 use Rattle.tx_core.specs.declared.entry.Start.{Start}
-use Rattle.tx_core.specs.CleanMultis.{CleanMembers, CleanOffsets}
+use Rattle.tx_core.specs.StoredBytes.{byte_held}
 use Rattle.recoverable.specs.Fit.{KeptLog, base_at, log_end, recs_below}
 use Rattle.recoverable.specs.Laws.{life_base}
 use Rattle.log_bases.specs.LifeBase.{LifeBase, base_after}
 use Rattle.recoverable.specs.Volumes.{EndsSettled, KeepsUpTo, Left, Restored, checkpoint_of}
 use Rattle.recoverable.specs.Whole.{BeganClean, BeganRight}
 use Rattle.recoverable.proofs.Settled.{recovery_settles}
-use Rattle.bank_follows.specs.Begins.{state_of_code}
+use Rattle.bank_follows.specs.Begins.{offset_bytes_on, slot_bytes_on, state_of_code}
 use Rattle.bank_follows.specs.Restored.{GoesOn, pages_of, shown_on}
-use Rattle.bank_follows.proofs.Begins.{bits_small}
+use Rattle.bank_follows.proofs.Begins.{bits_small, offset_held, slot_held}
 use Rattle.bank_follows.proofs.Restored.{restored_begins}
 use Rattle.replay_core.specs.Banks.{NoCountFell}
 use Rattle.replay_core.specs.Begun.{AreEmpty, IsSettled}
-use Rattle.recoverable.specs.Clusters.{IsLeft}
+use Rattle.recoverable.specs.Clusters.{AreLeft, IsLeft}
 use Rattle.replay_core.specs.Volumes.{LeavesFit, Recovers}
+use Rattle.replay_core.specs.declared.cluster.Recovered.{Recovered}
 use Rattle.replay_core.proofs.Rows.{had}
 use Rattle.engine_parts.specs.Sessions.{AreGivenBefore}
 use Rattle.engine_parts.specs.Stand.{GivesStart, number_of_state}
 use Rattle.engine_host.specs.declared.cluster.Cluster.{Cluster}
 use Rattle.engine_host.specs.Counted.{AreCounted}
 use Rattle.engine_host.specs.declared.cluster.BankVolumes.{BankVolumes}
-use Rattle.engine_host.specs.Opening.{AllOnDisk, AllShowNothing, AllShowStates, Beginning, HasNoMultis, IsBegunLog, life_from}
-use Rattle.engine_host.specs.Stores.{Store, of_members, of_offsets, of_subtrans, of_xact, volumes_in}
-use Rattle.engine_host.proofs.Starting.{log_begins, zero_number}
-use Rattle.engine_life.specs.Reopening.{IsBaseAt, KeepsStart, behind, cluster_over}
+use Rattle.engine_host.specs.Opening.{AllOnDisk, AllShow, AllShowNothing, Beginning, IsBegunLog, ShowMembers, ShowOffsets, ShowStates, life_from}
+use Rattle.engine_host.specs.Stores.{Store, banks_of, of_members, of_offsets, of_subtrans, of_xact, volumes_in}
+use Rattle.engine_host.proofs.Starting.{log_begins}
+use Rattle.engine_life.specs.Reopening.{IsBaseAt, KeepsStart, LeavesLog, banks_in, behind, cluster_over}
 
 -- the records that are kept, and that they give the life's begin where the volumes told it
 kept_told : (told : Bool) (K G : ℕ → List Rec → Type 0) → (IsTrue told → (number : ℕ) × (past : List Rec) × K number past × G number past) → (number : ℕ) × (past : List Rec) × K number past
@@ -78,24 +80,30 @@ module _ {L P : Type 0} (l : logs.Ghosts L) (p : disks.Ghosts P) where
   pages_read None = λ q. None
   pages_read (Some disk) = p.pages disk
 
-  abbrev as_read : L → List P → Left
-  as_read log xact = record {
+  abbrev on_banks : List P → ℕ → Pages
+  on_banks volumes bank = pages_read (slice_get volumes bank)
+
+  abbrev as_read : L → List P → List P → List P → Left
+  as_read log xact offsets members = record {
     log = l.reads log;
-    xact = λ bank. pages_read (slice_get xact bank);
-    offsets = λ bank q. None;
-    members = λ bank q. None;
+    xact = on_banks xact;
+    offsets = on_banks offsets;
+    members = on_banks members;
   }
 
-  left_as_read : (log : L) (xact : List P) → l.images log (l.reads log) → ((disk : P) → p.images disk (p.pages disk)) → IsLeft l p log xact (as_read log xact)
-  left_as_read log xact reads each = record {
+  store_as_read : (volumes : List P) → ((disk : P) → p.images disk (p.pages disk)) → AreLeft l p volumes (on_banks volumes)
+  store_as_read volumes each bank disk at = subst (λ (o : Option P). p.images disk (pages_read o)) (sym at) (each disk)
+
+  left_as_read : (log : L) (xact offsets members : List P) → l.images log (l.reads log) → ((disk : P) → p.images disk (p.pages disk)) → IsLeft l p log xact offsets members (as_read log xact offsets members)
+  left_as_read log xact offsets members reads each = record {
     log_image = reads;
-    states = λ bank disk at. subst (λ (o : Option P). p.images disk (pages_read o)) (sym at) (each disk);
-    no_offsets = λ bank q. refl;
-    no_members = λ bank q. refl;
+    states = store_as_read xact each;
+    offsets_are = store_as_read offsets each;
+    members_are = store_as_read members each;
   }
 
-  module _ (old new : L) (xact xact' : List P) (from sessions : ℕ) (counters : Counters) (kept : KeptLog) (count : length xact' ≡ length xact) (some : 1 ≤ length xact) (full : IsFullMulti counters.multi)
-      (reads : l.images new (l.reads new)) (each : (disk : P) → p.images disk (p.pages disk)) (r : Recovers l p old xact new xact' from counters kept) where
+  module _ (old new : L) (xact xact' offsets' members' : List P) (from sessions : ℕ) (counters : Counters) (kept : KeptLog) (count : length xact' ≡ length xact) (some : 1 ≤ length xact) (full : IsFullMulti counters.multi)
+      (reads : l.images new (l.reads new)) (each : (disk : P) → p.images disk (p.pages disk)) (r : Recovers l p old xact new xact' offsets' members' from counters kept) where
     abbrev cluster : Cluster
     cluster = cluster_over counters (length xact') sessions
 
@@ -106,7 +114,7 @@ module _ {L P : Type 0} (l : logs.Ghosts L) (p : disks.Ghosts P) where
     start = life_from cluster begins []
 
     abbrev left : Left
-    left = as_read new xact'
+    left = as_read new xact' offsets' members'
 
     -- the base that was answered is the life's
     base_is : r.base ≡ life_base start
@@ -125,31 +133,12 @@ module _ {L P : Type 0} (l : logs.Ghosts L) (p : disks.Ghosts P) where
 
     restored : Restored (length xact') r.recovered.later from counters left
     restored =
-        let here : Restored (length xact) r.recovered.later from r.base.counters left = r.recovered.restored left (left_as_read new xact' reads each) in
+        let here : Restored (length xact) r.recovered.later from r.base.counters left = r.recovered.restored left (left_as_read new xact' offsets' members' reads each) in
         subst (λ (n : ℕ). Restored n r.recovered.later from counters left) (sym count)
         (subst (λ (b : Counters). Restored (length xact) r.recovered.later from b left) r.counters_are here)
 
     clean : BeganClean start (shown_on (length xact') left)
     clean = restored_begins start r.recovered.later from left goes_on restored
-
-    -- pages that are empty show no multixact, and the life is clean over them
-    pub no_multis : HasNoMultis cluster begins
-    no_multis = record {
-      offsets = subst (CleanOffsets start) (λ i x. no_offset x i) clean.offsets;
-      members = subst (CleanMembers start) (λ i x. no_member x i) clean.members;
-    }
-      where
-        none_on : {V : Type 0} (n : ℕ) (v : Option V) → n ≡ 0 → cond (n == 0) None v ≡ None
-        none_on n v q = ap (λ m. cond (m == 0) None v) q
-
-        no_offset : (x : ℕ) → (shown_on (length xact') left).offsets x ≡ None
-        no_offset x = none_on (number_in zero_page (word_place_of x)) _ (zero_number (word_place_of x))
-
-        no_member : (x : ℕ) → (shown_on (length xact') left).members x ≡ None
-        no_member x =
-            let number = zero_number (member_place_of x) in
-            let mode = zero_byte (mode_place_of x) in
-            none_on (number_in zero_page (member_place_of x) + slice_index zero_page (mode_place_of x)) _ (omega (arith, number, mode))
 
     pub given_before : AreGivenBefore start
     given_before = clean.right.base.committed
@@ -158,17 +147,44 @@ module _ {L P : Type 0} (l : logs.Ghosts L) (p : disks.Ghosts P) where
     pub began_right : (counts : List ℕ) → BeganRight (life_from cluster begins counts)
     began_right counts = record { told = clean.right.told; full = clean.right.full; base = clean.right.base }
 
-    pub states_shown : AllShowStates p cluster begins false 0 xact'
+    -- a page of a bank, as it is read
+    same_page : (volumes : List P) (banks place n q : ℕ) (disk : P) → slice_get volumes n ≡ Some disk → place % banks ≡ 0 + n → pages_of (on_banks volumes) (place % banks) q ≡ page_bytes (p.pages disk q)
+    same_page volumes banks place n q disk at on =
+        let first : 0 + n ≡ n = omega arith in
+        ap (λ (b : ℕ). page_bytes (pages_read (slice_get volumes b) q)) (on ∙ first) ∙ ap (λ (o : Option P). page_bytes (pages_read o q)) at
+
+    pub states_shown : AllShow p (ShowStates cluster begins) false 0 xact'
     states_shown n disk at = record {
       shown = (shown_on (length xact') left).xact;
       clean = clean.xact;
       each = λ x on.
           let bytes : List ℕ = page_bytes (p.pages disk (xact_page_of x)) in
-          let first : 0 + n ≡ n = omega arith in
-          let place : xact_page_of x % length xact' ≡ n = on ∙ first in
-          let same : pages_of left.xact (xact_page_of x % length xact') (xact_page_of x) ≡ bytes
-          = ap (λ (b : ℕ). page_bytes (pages_read (slice_get xact' b) (xact_page_of x))) place ∙ ap (λ (o : Option P). page_bytes (pages_read o (xact_page_of x))) at in
+          let same = same_page xact' (length xact') (xact_page_of x) n (xact_page_of x) disk at on in
           sym (ap (λ (t : List ℕ). number_of_state (state_of_code (state_in t (xact_place_of x)))) same ∙ number_of_code (state_in bytes (xact_place_of x)) (state_small bytes (xact_place_of x)));
+    }
+
+    pub offsets_shown : AllShow p (ShowOffsets cluster begins) false 0 offsets'
+    offsets_shown n disk at = record {
+      shown = (shown_on (length xact') left).offsets;
+      clean = clean.offsets;
+      each = λ x i lt on.
+          let bytes : List ℕ = page_bytes (p.pages disk (word_page_of x)) in
+          let same = same_page offsets' (length xact') (word_page_of x) n (word_page_of x) disk at on in
+          offset_held bytes x i lt ∙ sym (ap (λ (t : List ℕ). byte_held (offset_bytes_on t x) i) same);
+    }
+
+    pub members_shown : length members' ≡ length xact' → AllShow p (ShowMembers cluster begins) false 0 members'
+    members_shown as_many n disk at = record {
+      shown = (shown_on (length xact') left).members;
+      clean = clean.members;
+      each = λ x i lt on.
+          let bytes : List ℕ = page_bytes (p.pages disk (member_page_of x)) in
+          let same = same_page members' (length xact') (member_page_of x) n (member_page_of x) disk at on in
+          slot_held bytes x i lt ∙ sym (ap (λ (t : List ℕ). byte_held (slot_bytes_on t x) i) same);
+      tails = λ q i small past.
+          let within = slice_get_within members' n disk at in
+          let here = (restored.members n (omega (arith, within, as_many))).tails q i small past in
+          ap (λ (o : Option P). slice_index (page_bytes (pages_read o q)) i) (sym at) ∙ here;
     }
 
     -- the list that a later recovery goes by gives what the life begins with
@@ -202,7 +218,7 @@ module _ {L P : Type 0} (l : logs.Ghosts L) (p : disks.Ghosts P) where
         record { flushed = k.flushed_before; upto = k.upto; counters_are = ap (λ (z : LifeBase). z.counters) r.recovered.same ∙ r.counters_are }
 
     -- where no life begins on them, the volumes may be recovered again
-    pub may_recover : LeavesFit l p xact new xact' kept
+    pub may_recover : LeavesFit l p xact new xact' offsets' members' kept
     may_recover = record {
       later = r.recovered.later;
       recovers = record {
@@ -223,6 +239,15 @@ module _ {L P : Type 0} (l : logs.Ghosts L) (p : disks.Ghosts P) where
         let more = each_up k bank v now.0 at now.1 in
         let have_it = have.banks k bank now.0 now.1 in omega (arith, more, have_it);
   }
+
+-- volumes of which no parts were made are those that the recovery left
+pub same_left : {L P : Type 0} (l : logs.Ghosts L) (p : disks.Ghosts P) (old : Volumes L P) (r : Recovered L P l) (back : Volumes L P) (kept : KeptLog) → back.log ≡ log_disk r.log → ((k : Store) → (volumes_in k (banks_of back)).items ≡ (volumes_in k (banks_in r)).items)
+    → LeavesFit l p old.xact.items (log_disk r.log) r.xact.items r.offsets.items r.members.items kept → LeavesLog l p old back kept
+same_left {L} {P} l p old r back kept log banks left =
+    subst (λ (z : L). LeavesFit l p old.xact.items z back.xact.items back.offsets.items back.members.items kept) (sym log)
+    (subst (λ (xs : List P). LeavesFit l p old.xact.items (log_disk r.log) xs back.offsets.items back.members.items kept) (sym (banks of_xact))
+    (subst (λ (xs : List P). LeavesFit l p old.xact.items (log_disk r.log) r.xact.items xs back.members.items kept) (sym (banks of_offsets))
+    (subst (λ (xs : List P). LeavesFit l p old.xact.items (log_disk r.log) r.xact.items r.offsets.items xs kept) (sym (banks of_members)) left)))
 
 -- over volumes that don't tell nothing is committed
 pub none_before : (kept : KeptLog) (from sessions banks : ℕ) (counters : Counters) → AreGivenBefore (life_from (cluster_over counters banks sessions) (behind false kept from) [])

@@ -8,6 +8,7 @@ use Rattle.disk_core.specs.Pages.{Pages}
 use Rattle.hall.specs.Calls.{start_of}
 use Rattle.notes.specs.Lists.{at}
 use Rattle.tx_events.specs.declared.event.Event.{Event}
+use Rattle.tx_events.specs.declared.multi.MultiEvent.{MultiEvent}
 use Rattle.tx_events.specs.declared.record.Counters.{Counters}
 use Rattle.tx_events.specs.declared.record.Rec.{Rec}
 use Rattle.tx_model.specs.declared.report.Life.{Life}
@@ -16,11 +17,12 @@ use Rattle.tx_core.specs.declared.entry.Start.{Start}
 use Rattle.tx_core.specs.Entries.{flushed_to}
 use Rattle.tx_core.specs.FaultsRise.{faults_told}
 use Rattle.tx_core.specs.Locks.{log_lock, members_lock, offsets_lock, subtrans_lock, xact_lock}
-use Rattle.recoverable.specs.Whole.{BeganRight, StatesLeft}
+use Rattle.recoverable.specs.Whole.{BeganRight, MembersLeft, OffsetsLeft, StatesLeft}
+use Rattle.bank_follows.specs.Ends.{AllFollow}
 use Rattle.wal_core.specs.declared.wal_log.WalLog.{WalLog}
 use Rattle.wal_core.specs.LogViews.{log_disk, log_end, log_flushed, log_next, log_recs}
 use Rattle.recoverable.specs.Clusters.{Fit}
-use Rattle.recoverable.specs.Fit.{KeptLog, base_at}
+use Rattle.recoverable.specs.Fit.{KeptLog}
 use Rattle.recoverable.specs.Laws.{LogFollows}
 use Rattle.engine_parts.specs.declared.session.Session.{Session}
 use Rattle.engine_host.specs.declared.cluster.Cluster.{Cluster}
@@ -94,26 +96,36 @@ module _ {P : Type 0} (p : disks.Ghosts P) where
   HaveFollowed start lists states = (bank : ℕ) → bank < start.banks
       → (v : P) × (slice_get states bank ≡ Some v) × FollowsList start lists bank v
 
+module _ {L P : Type 0} (p : disks.Ghosts P) where
+  -- And so of the volumes of offsets and of members, of which there is one for each bank.
+  pub record HaveFollowedMultis (start : Start) (lists : List (List Entry)) (volumes : Volumes L P) : Type 0 where
+    pub offsets_are : AllFollow p start.banks (λ bank c. OffsetsLeft start bank (at lists (offsets_lock bank)) c) volumes.offsets.items
+    pub members_are : AllFollow p start.banks (λ bank c. MembersLeft start bank (at lists (members_lock bank)) c) volumes.members.items
+
 module _ {L P : Type 0} (l : logs.Ghosts L) (p : disks.Ghosts P) where
+  -- whatever a crash leaves of these volumes fits this log
+  abbrev pub FitsLog : KeptLog → Volumes L P → Type 0
+  FitsLog kept volumes = Fit l p kept volumes.log volumes.xact.items volumes.offsets.items volumes.members.items
+
   -- The volumes that a life left fit a log, of which the records before the life gave its begin, and the others are its
   -- own, and just those are on disk that the life's list flushed: so a recovery may begin from whatever a crash leaves of
-  -- them. No base that it may answer has a multixact.
+  -- them.
   pub record EndFit (start : Start) (lists : List (List Entry)) (volumes : Volumes L P) : Type 0 where
     pub kept : KeptLog
     pub follows : LogFollows start lists kept
     pub flushed : kept.flushed ≡ flushed_to start (at lists log_lock)
-    pub fit : Fit l p kept volumes.log volumes.xact.items
-    pub unrecorded : (n : ℕ) → (base_at kept n).recorded ≡ []
+    pub fit : FitsLog kept volumes
 
--- the life that began from this base with the checkpoint of this number, had this history and left this log
-abbrev pub life_told : {D : Type 0} → {g : logs.Ghosts D} → ℕ → Counters → List ℕ → List Rec → List Event → WalLog D g → Life
-life_told from base committed recorded events log = record {
+-- the life that began from this base with the checkpoint of this number, had this history and these multixacts and left
+-- this log
+abbrev pub life_told : {D : Type 0} → {g : logs.Ghosts D} → ℕ → Counters → List ℕ → List Rec → List Event → List MultiEvent → WalLog D g → Life
+life_told from base committed recorded events multis log = record {
   from = from;
   base = base;
   committed = committed;
   recorded = recorded;
   events = events;
-  multis = [];
+  multis = multis;
   recs = log_recs log;
   flushed = log_flushed log;
   end = log_end log;

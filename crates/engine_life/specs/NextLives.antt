@@ -6,11 +6,9 @@ use Rattle.disk_core.specs.declared.media.Volumes.{Volumes}
 use Rattle.disk_core.specs.Faults.{HasRisen}
 use Rattle.disk_core.specs.Images.{Only}
 use Rattle.disk_core.specs.Media.{AllCrashed, LogCrashed, PagesCrashed}
-use Rattle.recoverable.specs.Clusters.{Fit}
 use Rattle.recoverable.specs.Fit.{KeptLog}
 use Rattle.recoverable.specs.Whole.{BeganRight}
 use Rattle.replay_core.specs.Refused.{IsRefusal}
-use Rattle.replay_core.specs.Volumes.{LeavesFit}
 use Rattle.replay_core.specs.declared.refusal.RecoverRefusal.{RecoverRefusal}
 use Rattle.replay_core.specs.declared.refusal.RecoverRefusal.TheVariants as refusals
 use Rattle.engine_host.specs.declared.cluster.Cluster.{Cluster}
@@ -20,13 +18,13 @@ use Rattle.engine_host.specs.Stores.{banks_of}
 use Rattle.engine_life.specs.declared.life.OpenLife.{OpenLife}
 use Rattle.engine_life.specs.declared.refusal.NotReopened.{NotReopened}
 use Rattle.engine_life.specs.declared.refusal.NotReopened.TheVariants as not_reopened
-use Rattle.engine_life.specs.Lives.{IsBegun}
-use Rattle.engine_life.specs.Reopening.{IsBaseAt, behind}
+use Rattle.engine_life.specs.Lives.{FitsLog, IsBegun}
+use Rattle.engine_life.specs.Reopening.{IsBaseAt, LeavesLog, behind}
 
 module _ {L P : Type 0} (l : logs.Ghosts L) (p : disks.Ghosts P) where
   -- volumes that tell what they hold fit this log
   abbrev pub MayGoOn : KeptLog → Volumes L P → Type 0
-  MayGoOn kept volumes = IsTrue p.tells → IsTrue l.tells × Fit l p kept volumes.log volumes.xact.items
+  MayGoOn kept volumes = IsTrue p.tells → IsTrue l.tells × FitsLog l p kept volumes
 
   -- and those that a crash leaves of them
   abbrev pub CrashGoesOn : Type 0
@@ -37,7 +35,7 @@ module _ {L P : Type 0} (l : logs.Ghosts L) (p : disks.Ghosts P) where
   -- but where memory was wanting they fit what a later recovery may go on from
   abbrev pub WhenRefused : KeptLog → Volumes L P → Volumes L P → RecoverRefusal → Type 0
   WhenRefused kept old new refusals.Memory = Unit {0}
-  WhenRefused kept old new refusal = LeavesFit l p old.xact.items new.log new.xact.items kept
+  WhenRefused kept old new refusal = LeavesLog l p old new kept
 
   -- So of a media, which gave these volumes and gives those. Where nothing was mounted it gives what it gave.
   abbrev pub StayFit : KeptLog → (Volumes L P → Type 0) → (Volumes L P → Type 0) → NotReopened → Type 0

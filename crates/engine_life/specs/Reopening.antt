@@ -1,12 +1,15 @@
 -- A life that goes on from a log.
 use Rattle.std.specs.Prelude.{◌≡◌, ℕ, ◌≤◌, Bool, List, [], cond}
 use Rattle.disk_core.specs.declared.log_disk.LogDisk as logs
+use Rattle.disk_core.specs.declared.media.Volumes.{Volumes}
+use Rattle.disk_core.specs.declared.page_disk.PageDisk as disks
 use Rattle.tx_events.specs.declared.record.Counters.{Counters}
 use Rattle.tx_events.specs.declared.record.Rec.{Rec}
 use Rattle.wal_core.specs.LogViews.{KeepsAll}
 use Rattle.wal_core.specs.declared.wal_log.WalLog.{WalLog}
 use Rattle.engine_parts.specs.Stand.{GivesStart}
 use Rattle.recoverable.specs.Fit.{KeptLog, base_at, log_end}
+use Rattle.replay_core.specs.Volumes.{LeavesFit}
 use Rattle.replay_core.specs.declared.cluster.Recovered.{Recovered}
 use Rattle.engine_host.specs.declared.cluster.BankVolumes.{BankVolumes}
 use Rattle.engine_host.specs.declared.cluster.Cluster.{Cluster}
@@ -38,3 +41,7 @@ pub record IsBaseAt (kept : KeptLog) (number : ℕ) (counters : Counters) : Type
   pub flushed : kept.flushed ≤ number
   pub upto : number ≤ log_end kept
   pub counters_are : (base_at kept number).counters ≡ counters
+
+-- What volumes became fits what a later recovery may go on from, that of those before.
+abbrev pub LeavesLog : {L P : Type 0} → logs.Ghosts L → disks.Ghosts P → Volumes L P → Volumes L P → KeptLog → Type 0
+LeavesLog l p old new kept = LeavesFit l p old.xact.items new.log new.xact.items new.offsets.items new.members.items kept

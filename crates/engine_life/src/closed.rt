@@ -5,22 +5,24 @@ ghost use Rattle.notes.specs.Lists.{at};
 ghost use Rattle.tx_core.specs.EngineInvariant.{EngineInvariant};
 ghost use Rattle.tx_core.specs.Entries.{AreFewIds, history};
 ghost use Rattle.tx_core.specs.Locks.{log_lock};
-ghost use Rattle.tx_core.specs.MultiEntries.{multi_history};
+ghost use Rattle.tx_core.specs.MultiEntries.{AreFewMultis, multi_history};
 ghost use Rattle.recoverable.specs.Whole.{BeganRight};
 ghost use Rattle.engine_parts.specs.Parts.{IsLogOf};
 ghost use Rattle.engine_host.specs.Hosts.{HoldsAllBut, IsHost};
-ghost use Rattle.engine_life.specs.Lives.{EndFit, HaveCountedTold, HaveFollowed, HaveVolumes, volumes_left};
+ghost use Rattle.engine_life.specs.Lives.{EndFit, HaveCountedTold, HaveFollowed, HaveFollowedMultis, HaveVolumes, volumes_left};
 
 use crate::life::{Aside, OpenLife};
 use disk_core::{LogDisk, PageDisk, Volumes};
 use engine_host::{BankVolumes, Parts, TakenApart, close, take_apart};
+use multi_store::MultiGen;
 use tx_events::EventList;
 use wal_core::WalLog;
 
-/// What a life leaves: its log, its history, and the other volumes of the media.
+/// What a life leaves: its log, its history, its generator of multixacts with theirs, and the other volumes of the media.
 pub struct ClosedLife<L: LogDisk, P> {
     pub log: WalLog<L>,
     pub events: EventList,
+    pub multis: Box<MultiGen>,
     xact: Vec<P>,
     subtrans: Vec<P>,
     offsets: Vec<P>,
@@ -28,13 +30,14 @@ pub struct ClosedLife<L: LogDisk, P> {
 }
 
 /// Closes a life whose sessions are all dismissed. Its history and its log are those of the lists that the host has seen,
-/// which are all that was done, and of which the engine invariant holds. Each bank has its four volumes. Each of these has
-/// counted at least the faults that its list tells, and a crash would leave of each of pg_xact what its list allows. Takes
-/// no memory.
+/// which are all that was done, and of which the engine invariant holds; so is the history of its multixacts. Each bank has
+/// its four volumes. Each of these has counted at least the faults that its list tells, and a crash would leave of each of
+/// pg_xact, of the offsets and of the members what its list allows. Takes no memory.
 pub fn close_life<L: LogDisk + Drop, P: PageDisk + Drop>(life: OpenLife<L, P>) -> ClosedLife<L, P>
     requires host { IsHost life.hall life.host }
     requires all { HoldsAllBut life.host [] }
     ensures events { result.events ≡ history (view life.host.pass).seen }
+    ensures multis { result.multis.value.events ≡ multi_history (view life.host.pass).seen }
     ensures log { IsLogOf (start_of life.hall) result.log (at (view life.host.pass).seen log_lock) }
     ensures kept { EngineInvariant (start_of life.hall) (view life.host.pass).seen }
     ensures banks { HaveVolumes (start_of life.hall).banks (volumes_left result) }
@@ -42,10 +45,12 @@ pub fn close_life<L: LogDisk + Drop, P: PageDisk + Drop>(life: OpenLife<L, P>) -
     // In a life of fewer than 2,900,000 ids.
     ensures states { IsTrue P.tells → AreFewIds (view life.host.pass).seen → HaveFollowed P.PageDisk
         (start_of life.hall) (view life.host.pass).seen (volumes_left result).xact.items }
-    // So a recovery may begin from what it leaves, where it began with a base from which a life may start, and no multixact,
-    // and made none.
-    ensures fit { IsTrue L.tells → IsTrue P.tells → BeganRight (start_of life.hall) → (start_of life.hall).recorded ≡ []
-        → multi_history (view life.host.pass).seen ≡ [] → AreFewIds (view life.host.pass).seen → EndFit L.LogDisk P.PageDisk (start_of life.hall)
+    // In one of fewer than 2,900,000 multixacts.
+    ensures multi_pages { IsTrue P.tells → AreFewMultis (view life.host.pass).seen → HaveFollowedMultis P.PageDisk
+        (start_of life.hall) (view life.host.pass).seen (volumes_left result) }
+    // So a recovery may begin from what it leaves, where it began with a base from which a life may start.
+    ensures fit { IsTrue L.tells → IsTrue P.tells → BeganRight (start_of life.hall) → AreFewIds (view life.host.pass).seen
+        → AreFewMultis (view life.host.pass).seen → EndFit L.LogDisk P.PageDisk (start_of life.hall)
         (view life.host.pass).seen (volumes_left result) }
 {
     let OpenLife { hall, host, aside } = life;
@@ -59,7 +64,7 @@ pub fn close_life<L: LogDisk + Drop, P: PageDisk + Drop>(life: OpenLife<L, P>) -
     let TakenApart {
         log,
         table,
-        multis: _,
+        multis,
         volumes,
     } = take_apart(locks, room);
     let BankVolumes {
@@ -74,6 +79,7 @@ pub fn close_life<L: LogDisk + Drop, P: PageDisk + Drop>(life: OpenLife<L, P>) -
     ClosedLife {
         log,
         events,
+        multis,
         xact,
         subtrans,
         offsets,
@@ -99,6 +105,7 @@ impl<L: LogDisk + Drop, P: PageDisk + Drop> ClosedLife<L, P> {
         let ClosedLife {
             log,
             events: _,
+            multis: _,
             xact,
             subtrans,
             offsets,

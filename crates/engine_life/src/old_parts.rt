@@ -5,14 +5,13 @@ ghost use Rattle.recoverable.specs.Whole.{BeganRight};
 ghost use Rattle.wal_core.specs.LogViews.{log_disk};
 ghost use Rattle.replay_core.specs.Begun.{IsSettled};
 ghost use Rattle.replay_core.specs.Refused.{IsRefusal};
-ghost use Rattle.recoverable.specs.Clusters.{Fit};
-ghost use Rattle.replay_core.specs.Volumes.{LeavesFit};
 ghost use Rattle.replay_core.specs.declared.refusal.RecoverRefusal.TheVariants as refusals;
 ghost use Rattle.engine_parts.specs.Sessions.{AreGivenBefore};
 ghost use Rattle.engine_host.specs.Counted.{AreCounted};
 ghost use Rattle.engine_host.specs.Opening.{AreParts, Beginning, MayBeginOver, life_from, new_life};
-ghost use Rattle.engine_host.specs.Stores.{banks_of};
-ghost use Rattle.engine_life.specs.Reopening.{IsBaseAt, KeepsStart, banks_in, behind, cluster_over};
+ghost use Rattle.engine_host.specs.Stores.{Store, banks_of, volumes_in};
+ghost use Rattle.engine_life.specs.Lives.{FitsLog};
+ghost use Rattle.engine_life.specs.Reopening.{IsBaseAt, KeepsStart, LeavesLog, banks_in, behind, cluster_over};
 
 use crate::opened::is_full_multi;
 use disk_core::{LogDisk, PageDisk, Volumes};
@@ -44,7 +43,8 @@ fn open_recovered<L: LogDisk + Drop, P: PageDisk + Drop>(
     ensures counted { IfOk result (λ parts. AreCounted L.LogDisk P.PageDisk (log_disk recovered.log) (banks_in recovered)
         parts.start.value.faults) }
     ensures refused { IfErr result (λ e. e.1 ≡ refusals.Memory) }
-    ensures kept { IfErr result (λ e. (e.0.log ≡ log_disk recovered.log) × (e.0.xact.items ≡ recovered.xact.items)) }
+    ensures kept { IfErr result (λ e. (e.0.log ≡ log_disk recovered.log)
+        × ((k : Store) → (volumes_in k (banks_of e.0)).items ≡ (volumes_in k (banks_in recovered)).items)) }
 {
     let Recovered {
         log,
@@ -89,7 +89,7 @@ pub fn open_old<L: LogDisk + Drop, P: PageDisk + Drop>(
     requires as_many { (length volumes.subtrans.items ≡ length volumes.xact.items)
         × (length volumes.offsets.items ≡ length volumes.xact.items) × (length volumes.members.items ≡ length volumes.xact.items) }
     requires sessions { sessions ≤ 64 }
-    requires fits { IsTrue P.tells → IsTrue L.tells × Fit L.LogDisk P.PageDisk kept volumes.log volumes.xact.items }
+    requires fits { IsTrue P.tells → IsTrue L.tells × FitsLog L.LogDisk P.PageDisk kept volumes }
     ensures cluster { IfOk result (λ parts. (parts.cluster.banks ≡ length volumes.xact.items) × (parts.cluster.sessions ≡ sessions)) }
     ensures parts { IfOk result (λ parts. AreParts parts) }
     ensures start { IfOk result (λ parts. (number : ℕ)
@@ -100,7 +100,7 @@ pub fn open_old<L: LogDisk + Drop, P: PageDisk + Drop>(
     // That is a base from which a life may start, so the laws on its volumes hold of it (`recoverable`).
     ensures right { IsTrue P.tells → IfOk result (λ parts. BeganRight parts.start.value) }
     // After an error the volumes fit what a later recovery may go on from.
-    ensures again { IsTrue P.tells → IfErr result (λ e. LeavesFit L.LogDisk P.PageDisk volumes.xact.items e.0.log e.0.xact.items kept) }
+    ensures again { IsTrue P.tells → IfErr result (λ e. LeavesLog L.LogDisk P.PageDisk volumes e.0 kept) }
     ensures refused { IfErr result (λ e. IsRefusal L.LogDisk P.PageDisk volumes e.0 e.1) }
 {
     match recover(alloc, volumes) {

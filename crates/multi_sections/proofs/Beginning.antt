@@ -94,12 +94,15 @@ own_event n s multi (freezings.Pinned held) = refl
 
 pub starts_of : (start : Start) (n : ℕ) (s : Session) (multi : ℕ) (lists more : List (List Entry)) (before : List MultiEvent) (new : Generator) (by : By) (f : Freezing)
     → WentMulti n (freezing_event n s multi f ∷ []) lists more → multi_history more ≡ before ++ freezing_event n s multi f ∷ [] → IsFrozenAs (generator_of start.base before) new by multi f → StartsFreeze start n s multi lists more (Ok f)
-starts_of start n s multi lists more before new by (freezings.Raised offset) went split i = record {
-  went = went;
-  before = before;
-  last = record { split = split };
-  raised = frozen_next start.base before multi offset i.0 i.1 i.2 i.3;
-}
+starts_of start n s multi lists more before new by (freezings.Raised offset) went split i = (
+  record {
+    went = went;
+    before = before;
+    last = record { split = split };
+    raised = frozen_next start.base before multi offset i.0 i.1 i.2 i.3;
+  },
+  i.0,
+)
 starts_of start n s multi lists more before new by (freezings.Pinned held) went split i = (
   went,
   subst (λ (m : ℕ). Contains (pins (multi_history more)) (n, m)) i.1

@@ -53,8 +53,10 @@ pub record IsRaisedBy (start : Start) (n : ℕ) (s : Session) (multi offset : �
   pub last : IsLast before (raise_event n s multi offset) more
   pub raised : IsRaised start.base (InBase start.base) before multi offset
 
+-- The next multixact becomes the oldest one, or an older one is pinned.
 abbrev pub StartsFreeze : Start → ℕ → Session → ℕ → List (List Entry) → List (List Entry) → Result Freezing Refusal → Type 0
-StartsFreeze start n s multi lists more (Ok (freezings.Raised offset)) = IsRaisedBy start n s multi offset lists more
+StartsFreeze start n s multi lists more (Ok (freezings.Raised offset)) =
+    (raised : IsRaisedBy start n s multi offset lists more) × (multi ≡ next_made start.base.multi raised.before)
 StartsFreeze start n s multi lists more (Ok (freezings.Pinned h)) =
     WentMulti n (hold_event n s h ∷ []) lists more × Pins n multi more × (h.multi ≡ multi)
     × (before : List MultiEvent) × IsLast before (hold_event n s h) more × IsPinned start.base before (low_half multi) h

@@ -7,6 +7,7 @@ ghost use Rattle.run_law.specs.Turns.{MayAsk};
 ghost use Rattle.life_law.specs.Replies.{is_told_verdict};
 ghost use Rattle.xact_writes.specs.Writes.{reply_to};
 ghost use Rattle.multi_makes.specs.Makes.{given_reply};
+ghost use Rattle.session_run.specs.Turns.{IsMade, IsRaised, IsTrimmed};
 
 use disk_core::{LogDisk, PageDisk};
 use engine_parts::{Caller, EngineLaw, Passing};
@@ -124,6 +125,9 @@ pub fn run_command<R: Passing, L: LogDisk, P: PageDisk>(
     requires may { MayRun hall.now banks caller.old }
     ensures ran { Ran hall.now (next_command caller.old) command.now result caller.old caller.new }
     ensures verdict { (verdict : Bool) → result ≡ replies.Seen verdict → IsTrue (is_told_verdict command.now) }
+    ensures made { IsMade hall.now caller.old caller.new command.now result }
+    ensures trimmed { IsTrimmed hall.now caller.old caller.new command.now result }
+    ensures raised { IsRaised hall.now caller.old caller.new command.now result }
 {
     match command {
         Command::Begin => done(begin(hall, caller)),

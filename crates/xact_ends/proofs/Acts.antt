@@ -52,6 +52,8 @@ use Rattle.engine_parts.specs.Standing.{IsLoggedFrom, LeavesStage, asks_volume, 
 use Rattle.engine_parts.specs.Steps.{GoesOn}
 use Rattle.engine_parts.proofs.Acting.{acted_nothing}
 use Rattle.engine_parts.proofs.Adding.{may_wider}
+use Rattle.engine_parts.proofs.KeptMaking.{kept_making, plain_making}
+use Rattle.engine_parts.specs.Makings.{has_more_multis}
 use Rattle.engine_parts.proofs.Refusing.{first_fails, not_held, refused_leaves}
 use Rattle.bank_sections.specs.Faults.{IsXactFault}
 use Rattle.proc_sections.proofs.Closing.{end_by}
@@ -304,6 +306,7 @@ module _ {H L P : Type 0} {l : logs.Ghosts L} {p : disks.Ghosts P} (hall : Hall 
     stage = f.stage;
     held = tt;
     still = λ q is. not_standing None q refl is;
+    making = kept_making commands.Commit replies.Done (has_more_multis u.number (view u.pass).seen (view new.pass).seen) u.session.making new.session.making refl f.making;
     count = (f.count, number);
   }
   ran_commit u new (Err r) own was may number some free adds c =
@@ -318,6 +321,7 @@ module _ {H L P : Type 0} {l : logs.Ghosts L} {p : disks.Ghosts P} (hall : Hall 
         stage = stops_stage (start_of hall) (view new.pass).seen by u.session.stage new.session.stage r c.2;
         held = stops_held (start_of hall) (view new.pass).seen by u.session.stage new.session.stage r c.2;
         still = λ q is. not_standing (by_standing (replies.Refused r)) q (else_none r (stops_else (start_of hall) (view new.pass).seen by u.session.stage new.session.stage r c.2)) is;
+        making = kept_making commands.Commit (replies.Refused r) (has_more_multis u.number (view u.pass).seen (view new.pass).seen) u.session.making new.session.making refl c.3;
         count = (ap (λ (z : plain.Session). z.commands) c.1, number);
       }
 
@@ -332,6 +336,7 @@ module _ {H L P : Type 0} {l : logs.Ghosts L} {p : disks.Ghosts P} (hall : Hall 
     stage = f.stage;
     held = tt;
     still = λ q is. not_standing None q refl is;
+    making = kept_making commands.Abort replies.Done (has_more_multis u.number (view u.pass).seen (view new.pass).seen) u.session.making new.session.making refl f.making;
     count = (f.count, number);
   }
   ran_abort u new (Err r) own was may number some clear adds c =
@@ -346,6 +351,7 @@ module _ {H L P : Type 0} {l : logs.Ghosts L} {p : disks.Ghosts P} (hall : Hall 
         stage = fault_stage (view new.pass).seen by u.session.stage new.session.stage r c.2 c.3;
         held = fault_held (start_of hall) (view new.pass).seen by commands.Abort new.session.stage r c.3;
         still = λ q is. not_standing (by_standing (replies.Refused r)) q (else_none r (fault_else (view new.pass).seen by r c.3)) is;
+        making = kept_making commands.Abort (replies.Refused r) (has_more_multis u.number (view u.pass).seen (view new.pass).seen) u.session.making new.session.making refl c.4;
         count = (ap (λ (z : plain.Session). z.commands) c.1, number);
       }
 
@@ -364,6 +370,7 @@ module _ {H L P : Type 0} {l : logs.Ghosts L} {p : disks.Ghosts P} (hall : Hall 
     stage = left_clear how;
     held = tt;
     still = λ q is. not_standing None q refl is;
+    making = plain_making (end_command how) replies.Done (has_more_multis u.number (view u.pass).seen (view new.pass).seen) u.session.making new.session.making (untouched how) c.making;
     count = (ap (λ (z : plain.Session). z.commands) c.levels, c.number);
   }
     where

@@ -70,8 +70,8 @@ pub may_end_settled : (start : Start) (lists : List (List Entry)) (s s' : Sessio
 may_end_settled start lists s s' steps is marked = subst (λ (z : Session). MayEnd start lists z ends.Commit) (sym is) (record { recorded = refl; marked = marked })
 
 -- the transaction ended, behind what came before
-pub finished_then : (n n' : ℕ) (how : XactEnd) (s t s' : Session) (lists mid more : List (List Entry)) → n' ≡ n → t.levels ≡ s.levels → GoesOn n [] lists mid → HasEnded n' how t s' mid more → HasFinished n how s s' lists more
-finished_then n n' how s t s' lists mid more number same goes h = record {
+pub finished_then : (n n' : ℕ) (how : XactEnd) (s t s' : Session) (lists mid more : List (List Entry)) → n' ≡ n → t.levels ≡ s.levels → t.making ≡ s.making → GoesOn n [] lists mid → HasEnded n' how t s' mid more → HasFinished n how s s' lists more
+finished_then n n' how s t s' lists mid more number same making goes h = record {
   goes = λ top subs is.
       goes_then n [] (end_event how (by_at n s.levels.commands) top ∷ []) lists mid more goes
       (subst (λ (z : ℕ × ℕ). GoesOn z.0 (end_event how (by_at z.0 z.1) top ∷ []) mid more) (λ j. (number j, (same j).commands)) (h.went top subs (ap (λ (z : plain.Session). z.open_ids.items) same ∙ is)).on);
@@ -81,6 +81,7 @@ finished_then n n' how s t s' lists mid more number same goes h = record {
   registered = h.registered ∙ ap (λ (z : plain.Session). z.registered) same;
   count = h.count ∙ ap (λ (z : plain.Session). z.commands) same;
   stage = h.stage;
+  making = h.making ∙ making;
 }
 
 -- ---- why a tail stops
@@ -133,10 +134,10 @@ stops_appended start lists by number new refusals.Memory c = absurd (logged_not_
 stops_appended start lists by number new _ c = absurd c
 
 -- a commit whose later part came so far
-pub commits_then : (start : Start) (n n' : ℕ) (s t s' : Session) (lists mid more : List (List Entry)) (r : Result (Unit {0}) Refusal) → n' ≡ n → t.levels ≡ s.levels → GoesOn n [] lists mid
+pub commits_then : (start : Start) (n n' : ℕ) (s t s' : Session) (lists mid more : List (List Entry)) (r : Result (Unit {0}) Refusal) → n' ≡ n → t.levels ≡ s.levels → t.making ≡ s.making → GoesOn n [] lists mid
     → ((e : Refusal) → Stops start more (by_at n s.levels.commands) t.stage s'.stage e → Stops start more (by_at n s.levels.commands) s.stage s'.stage e)
     → Commits start n' t s' mid more r → Commits start n s s' lists more r
-commits_then start n n' s t s' lists mid more (Ok u) number same goes stops c = record {
+commits_then start n n' s t s' lists mid more (Ok u) number same making goes stops c = record {
   goes = λ top subs is.
       goes_then n [] (end_event ends.Commit (by_at n s.levels.commands) top ∷ []) lists mid more goes
       (subst (λ (z : ℕ × ℕ). GoesOn z.0 (end_event ends.Commit (by_at z.0 z.1) top ∷ []) mid more) (λ j. (number j, (same j).commands)) (c.goes top subs (ap (λ (z : plain.Session). z.open_ids.items) same ∙ is)));
@@ -146,9 +147,11 @@ commits_then start n n' s t s' lists mid more (Ok u) number same goes stops c = 
   registered = c.registered ∙ ap (λ (z : plain.Session). z.registered) same;
   count = c.count ∙ ap (λ (z : plain.Session). z.commands) same;
   stage = c.stage;
+  making = c.making ∙ making;
 }
-commits_then start n n' s t s' lists mid more (Err e) number same goes stops c = (
+commits_then start n n' s t s' lists mid more (Err e) number same making goes stops c = (
   goes_then n [] [] lists mid more goes (subst (λ z. GoesOn z [] mid more) number c.0),
   c.1 ∙ same,
   stops e (subst (λ (z : ℕ × ℕ). Stops start more (by_at z.0 z.1) t.stage s'.stage e) (λ j. (number j, (same j).commands)) c.2),
+  c.3 ∙ making,
 )

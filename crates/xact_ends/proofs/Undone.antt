@@ -44,6 +44,8 @@ use Rattle.xact_ends.specs.Undos.{IsUnwound, Undoes}
 use Rattle.engine_parts.specs.Adding.{Adds, MayLeave}
 use Rattle.tx_events.specs.Running.{open_ids}
 use Rattle.engine_parts.proofs.Beholding.{not_standing}
+use Rattle.engine_parts.proofs.KeptMaking.{kept_making}
+use Rattle.engine_parts.specs.Makings.{has_more_multis}
 use Rattle.xact_ends.proofs.Acts.{acted_stopped, else_none, fault_held}
 
 -- no other end was begun
@@ -113,6 +115,7 @@ module _ {H L P : Type 0} {l : logs.Ghosts L} {p : disks.Ghosts P} (hall : Hall 
         stage = c.1.stage;
         held = tt;
         still = λ q is. not_standing None q refl is;
+        making = kept_making commands.Undo replies.Done (has_more_multis u.number (view u.pass).seen (view new.pass).seen) u.session.making new.session.making refl c.1.making;
         count = (c.1.count, number);
       }
   ran_undo u new id (Err r) own may number two inner free adds c =
@@ -127,6 +130,7 @@ module _ {H L P : Type 0} {l : logs.Ghosts L} {p : disks.Ghosts P} (hall : Hall 
         stage = fault_stage (view new.pass).seen by u.session.stage new.session.stage r c.2 c.3;
         held = fault_held (start_of hall) (view new.pass).seen by commands.Undo new.session.stage r c.3;
         still = λ q is. not_standing (by_standing (replies.Refused r)) q (else_none r (fault_else (view new.pass).seen by r c.3)) is;
+        making = kept_making commands.Undo (replies.Refused r) (has_more_multis u.number (view u.pass).seen (view new.pass).seen) u.session.making new.session.making refl c.4;
         count = (ap (λ (z : plain.Session). z.commands) c.1, number);
       }
 
@@ -142,6 +146,7 @@ module _ {H L P : Type 0} {l : logs.Ghosts L} {p : disks.Ghosts P} (hall : Hall 
     stage = c.stage ∙ clear;
     held = tt;
     still = λ q is. not_standing None q refl is;
+    making = kept_making commands.Undo replies.Done (has_more_multis u.number (view u.pass).seen (view new.pass).seen) u.session.making new.session.making refl c.making;
     count = (ap (λ (z : plain.Session). z.commands) c.levels, c.number);
   }
     where

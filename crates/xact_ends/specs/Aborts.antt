@@ -38,4 +38,4 @@ abbrev pub Aborts : ℕ → Session → Session → List (List Entry) → List (
 Aborts n s s' lists more (Ok _) = HasFinished n ends.Abort s s' lists more
 Aborts n s s' lists more (Err r) =
     GoesOn n [] lists more × (s'.levels ≡ s.levels) × (s'.stage ≡ stages.Aborting)
-    × IsXactFault more (by_at n s.levels.commands) r
+    × IsXactFault more (by_at n s.levels.commands) r × (s'.making ≡ s.making)

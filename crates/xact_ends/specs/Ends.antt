@@ -25,6 +25,7 @@ pub record HasFinished (n : ℕ) (how : XactEnd) (s s' : Session) (lists more : 
   pub registered : s'.levels.registered ≡ s.levels.registered
   pub count : s'.levels.commands ≡ s.levels.commands
   pub stage : s'.stage ≡ stages.Clear
+  pub making : s'.making ≡ s.making
 
 -- the commit is over, or it stopped, and the session has its levels and ids as before
 abbrev pub Commits : Start → ℕ → Session → Session → List (List Entry) → List (List Entry) → Result (Unit {0}) Refusal
@@ -32,6 +33,7 @@ abbrev pub Commits : Start → ℕ → Session → Session → List (List Entry)
 Commits start n s s' lists more (Ok _) = HasFinished n ends.Commit s s' lists more
 Commits start n s s' lists more (Err r) =
     GoesOn n [] lists more × (s'.levels ≡ s.levels) × Stops start more (by_at n s.levels.commands) s.stage s'.stage r
+    × (s'.making ≡ s.making)
 
 module _ {L P : Type 0} {l : logs.Ghosts L} {p : disks.Ghosts P} where
   -- a transaction without an id is closed

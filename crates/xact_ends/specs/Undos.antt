@@ -26,7 +26,7 @@ Undoes n savepoint s s' lists more (Ok _) =
     GoesOn n (events.Undo (by_at n s.levels.commands) savepoint ∷ []) lists more × IsUndone savepoint s s'
 Undoes n savepoint s s' lists more (Err r) =
     GoesOn n [] lists more × (s'.levels ≡ s.levels) × (s'.stage ≡ stages.Undoing)
-    × IsXactFault more (by_at n s.levels.commands) r
+    × IsXactFault more (by_at n s.levels.commands) r × (s'.making ≡ s.making)
 
 module _ {L P : Type 0} {l : logs.Ghosts L} {p : disks.Ghosts P} where
   -- the innermost level, which has no id, is closed

@@ -46,6 +46,9 @@ use Rattle.engine_parts.proofs.Refusing.{keeps_stage}
 use Rattle.engine_parts.proofs.Calling.{may_counted, own_counted}
 use Rattle.engine_parts.proofs.Refusing.{first_fails, first_holds, not_held}
 use Rattle.engine_parts.proofs.Beholding.{held_unneeded}
+use Rattle.engine_parts.proofs.KeptMaking.{kept_making}
+use Rattle.engine_parts.specs.Makings.{has_more_multis}
+use Rattle.life_law.specs.Commands.{makes_multi}
 use Rattle.xact_engine.specs.Levels.{IsDoneOrNot}
 
 -- the commands that change levels alone
@@ -60,6 +63,12 @@ on_levels_moves commands.Begin on = refl
 on_levels_moves commands.Save on = refl
 on_levels_moves commands.Release on = refl
 on_levels_moves command on = absurd on
+
+on_levels_makes : (command : Command) → IsOnLevels command → makes_multi command ≡ false
+on_levels_makes commands.Begin on = refl
+on_levels_makes commands.Save on = refl
+on_levels_makes commands.Release on = refl
+on_levels_makes command on = absurd on
 
 on_levels_needs : (command : Command) (s : Stance) (stage : Stage) → IsOnLevels command → (flushes command s stage ≡ false) × (needs_log command s stage ≡ false)
 on_levels_needs commands.Begin s stage on = (refl, refl)
@@ -218,5 +227,6 @@ module _ {H L P : Type 0} {l : logs.Ghosts L} {p : disks.Ghosts P} (hall : Hall 
         stage = keeps_stage command reply old.session.stage u.session.stage (on_levels_moves command on) c.stage;
         held = held_unneeded p.tells start (view u.pass).seen (alone (history seen) (history (view u.pass).seen)) by (stance_of old.session) old.session.stage u.session.stage command reply needs.0 needs.1 (levels_answer p.tells start seen (view u.pass).seen by (stance_of old.session) old.session.stage command reply on acts.allowed);
         still = λ q is. ap (λ p. (view p).seen) c.pass;
+        making = kept_making command reply (has_more_multis old.number seen (view u.pass).seen) old.session.making u.session.making (on_levels_makes command on) c.making;
         count = (r.count ∙ ap (λ z. z.commands) c.levels, c.number);
       }

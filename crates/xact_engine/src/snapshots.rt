@@ -93,6 +93,7 @@ fn register<L: LogDisk, P: PageDisk>(
         { snaps = (stance_of caller.old.session).snaps ++ (taken.name, taken.command) ∷ [] } }
     ensures opened { caller.new.session.levels.open_ids.items ≡ caller.old.session.levels.open_ids.items }
     ensures stage { caller.new.session.stage ≡ caller.old.session.stage }
+    ensures making { caller.new.session.making ≡ caller.old.session.making }
     ensures count { (caller.new.session.levels.commands ≡ caller.old.session.levels.commands)
         × (caller.new.number ≡ caller.old.number) }
 {
@@ -192,6 +193,7 @@ fn unregister<L: LogDisk, P: PageDisk>(
         { snaps = without_snap name.now (stance_of caller.old.session).snaps } }
     ensures opened { caller.new.session.levels.open_ids.items ≡ caller.old.session.levels.open_ids.items }
     ensures stage { caller.new.session.stage ≡ caller.old.session.stage }
+    ensures making { caller.new.session.making ≡ caller.old.session.making }
     ensures count { (caller.new.session.levels.commands ≡ caller.old.session.levels.commands)
         × (caller.new.number ≡ caller.old.number) }
 {

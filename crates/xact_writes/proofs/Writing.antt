@@ -70,6 +70,7 @@ writing_none start n s lists fresh = record {
   registered = refl;
   count = refl;
   stage = refl;
+  making = refl;
   warned = not_warned start.base (by_at n s.levels.commands) (history lists) fresh;
 }
 
@@ -77,15 +78,16 @@ writing_none start n s lists fresh = record {
 pub record HasLevels (s s' : Session) : Type 0 where
   pub levels : HasReserved s.levels s'.levels
   pub stage : s'.stage ≡ s.stage
+  pub making : s'.making ≡ s.making
 
 pub levels_same : (s s' : Session) → s' ≡ s → HasLevels s s'
-levels_same s s' q = record { levels = reserved_from s.levels s'.levels (ap (λ z. z.levels) q); stage = ap (λ z. z.stage) q }
+levels_same s s' q = record { levels = reserved_from s.levels s'.levels (ap (λ z. z.levels) q); stage = ap (λ z. z.stage) q; making = ap (λ z. z.making) q }
 
 pub levels_linked : (s s' : Session) → s' ≡ linked s → HasLevels s s'
-levels_linked s s' q = record { levels = reserved_from s.levels s'.levels (ap (λ z. z.levels) q); stage = ap (λ z. z.stage) q }
+levels_linked s s' q = record { levels = reserved_from s.levels s'.levels (ap (λ z. z.levels) q); stage = ap (λ z. z.stage) q; making = ap (λ z. z.making) q }
 
 pub levels_alike : (s s' : Session) → IsAlike s s' → HasLevels s s'
-levels_alike s s' k = record { levels = k.levels; stage = k.stage }
+levels_alike s s' k = record { levels = k.levels; stage = k.stage; making = k.making }
 
 -- others went on
 pub writing_on : (start : Start) (n : ℕ) (s s1 s2 : Session) (ids : List ℕ) (warn : Bool) (a b c : List (List Entry)) → Writing start n s s1 ids warn a b → WentOn n [] b c → HasLevels s1 s2 → Writing start n s s2 ids warn a c
@@ -98,6 +100,7 @@ writing_on start n s s1 s2 ids warn a b c k went same =
       registered = same.levels.registered ∙ k.registered;
       count = same.levels.commands ∙ k.count;
       stage = same.stage ∙ k.stage;
+      making = same.making ∙ k.making;
       warned = subst (λ (h : List Event). IsTrue warn ↔ IsWarned start.base h (by_at n s.levels.commands)) r.1 (warned_beside start.base (by_at n s.levels.commands) (history b) r.0 warn r.2 k.warned);
     }
 
@@ -125,6 +128,7 @@ writing_step start n s s1 s2 ids id warn late a b c k g =
       registered = named.registered ∙ k.registered;
       count = named.count ∙ k.count;
       stage = named.stage ∙ k.stage;
+      making = named.making ∙ k.making;
       warned = subst (λ (t : List Event). IsTrue (warn || late) ↔ IsWarned start.base t by) (sym after) third;
     }
 

@@ -71,6 +71,7 @@ pub record Writing (start : Start) (n : ℕ) (s s' : Session) (ids : List ℕ) (
   pub registered : s'.levels.registered ≡ s.levels.registered
   pub count : s'.levels.commands ≡ s.levels.commands
   pub stage : s'.stage ≡ s.stage
+  pub making : s'.making ≡ s.making
   pub warned : IsTrue warn ↔ IsWarned start.base (history more) (by_at n s.levels.commands)
 
 -- no event so far is of this command

@@ -43,7 +43,7 @@ leave_quiet-requires-clause-stands g c =
     let q = c.cut_note-entry.ensures in (
       c.args.bank,
       refl,
-      parents_cut (start_of c.args.hall.now) c.args.bank c.requires.ready.at.base c.deref_mut-store.result.now c.truncate.new.self (at (view c.enter_subtrans-held.new.caller.pass).seen (subtrans_lock c.args.bank)) c.page_before-page.result _ (ap (λ (e : Entry). cut_in e.kind) q) (ap links_in q) (ap (λ (e : Entry). zeroed_in e.kind) q) (subst (λ z. first_subtrans_page (start_of c.args.hall.now) ≤ z) (sym c.page_before-page.ensures) c.requires.from) (subst (IsSubtransReach (start_of c.args.hall.now)) (sym c.page_before-page.ensures) c.requires.reach) (same_told (start_of c.args.hall.now) (subtrans_lock c.args.bank) _ (faults_of c.deref_mut-store.result.now) (faults_of c.truncate.new.self) (at (view c.enter_subtrans-held.new.caller.pass).seen (subtrans_lock c.args.bank)) (ap (λ (e : Entry). count_in e.kind) q) (subst (λ l. IsSubtransOf (start_of c.args.hall.now) c.args.bank l (at (view c.enter_subtrans-held.new.caller.pass).seen (subtrans_lock c.args.bank))) (sym c.deref_mut-store.ensures.value) c.enter_subtrans-held.ensures.stands).stands.count r.bank.sweeps.count)
+      parents_cut (start_of c.args.hall.now) c.args.bank c.requires.ready.at.base c.deref_mut-store.result.now c.truncate.new.self (at (view c.enter_subtrans-held.new.caller.pass).seen (subtrans_lock c.args.bank)) c.page_before-page.result _ (ap (λ (e : Entry). cut_in e.kind) q) (ap links_in q) (ap (λ (e : Entry). zeroed_in e.kind) q) (subst (λ z. first_subtrans_page (start_of c.args.hall.now) ≤ z) (sym c.page_before-page.ensures) c.requires.from) (subst (IsSubtransReach (start_of c.args.hall.now)) (sym c.page_before-page.ensures) c.requires.reach) (same_told (start_of c.args.hall.now) (subtrans_lock c.args.bank) _ (faults_of c.deref_mut-store.result.now) (faults_of c.truncate.new.self) (at (view c.enter_subtrans-held.new.caller.pass).seen (subtrans_lock c.args.bank)) (ap (λ (e : Entry). count_in e.kind) q) (subst (λ l. IsSubtransOf (start_of c.args.hall.now) c.args.bank l (at (view c.enter_subtrans-held.new.caller.pass).seen (subtrans_lock c.args.bank))) (sym c.deref_mut-store.ensures.value) c.enter_subtrans-held.ensures.stands).count r.bank.sweeps.count)
           (r.cutoff ∙ ap (λ z. later_cutoff Ids 2048 (cutoff_of c.deref_mut-store.result.now) z) (c.stored_parents.ensures)) r.bank.others r.bank.sweeps.last r.bank.crash (subst (λ l. IsSubtransOf (start_of c.args.hall.now) c.args.bank l (at (view c.enter_subtrans-held.new.caller.pass).seen (subtrans_lock c.args.bank))) (sym c.deref_mut-store.ensures.value) c.enter_subtrans-held.ensures.stands),
     )
 
@@ -56,7 +56,7 @@ leave_quiet-requires-in-Err-clause-may g c =
     let t = c.enter_subtrans-held.new.caller in
     let pages = is_subtrans_lock start c.args.bank c.requires.bank.0 in
     may_fault_cut start u.seen (subtrans_lock c.args.bank) (subtrans_page (id_before c.args.xmin)) (faults_of c.truncate.new.self) (by_at t.number t.session.levels.commands) c.with_cut-fault.result.value pages (parents_cut_by start u.seen c.args.bank c.args.xmin (xmin_later start v.seen u.seen c.args.xmin e.entered.learns.knows.grows c.requires.told))
-    (risen_past (faults_told start (subtrans_lock c.args.bank) (at u.seen (subtrans_lock c.args.bank))) (faults_of c.deref_mut-store.result.now) _ (subst (λ l. IsSubtransOf (start_of c.args.hall.now) c.args.bank l (at (view c.enter_subtrans-held.new.caller.pass).seen (subtrans_lock c.args.bank))) (sym c.deref_mut-store.ensures.value) c.enter_subtrans-held.ensures.stands).stands.count (c.in-Err.ensures.bank.sweeps.fault refl).1)
+    (risen_past (faults_told start (subtrans_lock c.args.bank) (at u.seen (subtrans_lock c.args.bank))) (faults_of c.deref_mut-store.result.now) _ (subst (λ l. IsSubtransOf (start_of c.args.hall.now) c.args.bank l (at (view c.enter_subtrans-held.new.caller.pass).seen (subtrans_lock c.args.bank))) (sym c.deref_mut-store.ensures.value) c.enter_subtrans-held.ensures.stands).count (c.in-Err.ensures.bank.sweeps.fault refl).1)
     ((c.with_cut-fault.ensures ∙ ap (cut_too c.page_before-page.result) (c.fault_note.ensures ∙ ap (λ (b : By). fault_by b (faults_of c.truncate.new.self)) c.command_of-by.ensures)) ∙ (λ j. cut_fault_by (by_at t.number t.session.levels.commands) (c.page_before-page.ensures j) (faults_of c.truncate.new.self))) (e.at.turns (subtrans_lock c.args.bank))
 
 pub leave_quiet-requires-in-Err-clause-stands : goal.leave_quiet-requires-in-Err-clause-stands

@@ -42,7 +42,7 @@ leave_quiet-requires-clause-stands g c =
     let q = c.cut_note-entry.ensures in (
       c.args.bank,
       refl,
-      states_cut (start_of c.args.hall.now) c.args.bank c.requires.ready.at.base c.deref_mut-store.result.now c.truncate.new.self (at (view c.enter_xact-held.new.caller.pass).seen (xact_lock c.args.bank)) c.xact_page_in_full-page.result _ (ap (λ (e : Entry). cut_in e.kind) q) (ap marks_in q) (ap (λ (e : Entry). zeroed_in e.kind) q) (subst (IsXactReach (start_of c.args.hall.now)) (sym c.xact_page_in_full-page.ensures.page) c.requires.reach) (same_told (start_of c.args.hall.now) (xact_lock c.args.bank) _ (faults_of c.deref_mut-store.result.now) (faults_of c.truncate.new.self) (at (view c.enter_xact-held.new.caller.pass).seen (xact_lock c.args.bank)) (ap (λ (e : Entry). count_in e.kind) q) (subst (λ l. IsXactOf (start_of c.args.hall.now) c.args.bank l (at (view c.enter_xact-held.new.caller.pass).seen (xact_lock c.args.bank))) (sym c.deref_mut-store.ensures.value) c.enter_xact-held.ensures.stands).stands.count r.bank.sweeps.count)
+      states_cut (start_of c.args.hall.now) c.args.bank c.requires.ready.at.base c.deref_mut-store.result.now c.truncate.new.self (at (view c.enter_xact-held.new.caller.pass).seen (xact_lock c.args.bank)) c.xact_page_in_full-page.result _ (ap (λ (e : Entry). cut_in e.kind) q) (ap marks_in q) (ap (λ (e : Entry). zeroed_in e.kind) q) (subst (IsXactReach (start_of c.args.hall.now)) (sym c.xact_page_in_full-page.ensures.page) c.requires.reach) (same_told (start_of c.args.hall.now) (xact_lock c.args.bank) _ (faults_of c.deref_mut-store.result.now) (faults_of c.truncate.new.self) (at (view c.enter_xact-held.new.caller.pass).seen (xact_lock c.args.bank)) (ap (λ (e : Entry). count_in e.kind) q) (subst (λ l. IsXactOf (start_of c.args.hall.now) c.args.bank l (at (view c.enter_xact-held.new.caller.pass).seen (xact_lock c.args.bank))) (sym c.deref_mut-store.ensures.value) c.enter_xact-held.ensures.stands).count r.bank.sweeps.count)
           (r.cutoff ∙ ap (λ z. later_cutoff Ids 32768 (cutoff_of c.deref_mut-store.result.now) z) (c.stored_states.ensures)) r.bank.others r.bank.sweeps.last r.bank.crash (subst (λ l. IsXactOf (start_of c.args.hall.now) c.args.bank l (at (view c.enter_xact-held.new.caller.pass).seen (xact_lock c.args.bank))) (sym c.deref_mut-store.ensures.value) c.enter_xact-held.ensures.stands),
     )
 
@@ -55,7 +55,7 @@ leave_quiet-requires-in-Err-clause-may g c =
     let t = c.enter_xact-held.new.caller in
     let pages = is_xact_lock start c.args.bank c.requires.bank.0 in
     may_fault_cut start u.seen (xact_lock c.args.bank) (xact_page c.args.oldest) (faults_of c.truncate.new.self) (by_at t.number t.session.levels.commands) c.with_cut-fault.result.value pages (states_cut_by start u.seen c.args.bank c.args.oldest c.requires.told.0 c.requires.told.1 (truncated_later start v.seen u.seen c.args.oldest c.requires.told.0 c.requires.told.1 e.entered.learns.knows.grows c.requires.told.2))
-    (risen_past (faults_told start (xact_lock c.args.bank) (at u.seen (xact_lock c.args.bank))) (faults_of c.deref_mut-store.result.now) _ (subst (λ l. IsXactOf (start_of c.args.hall.now) c.args.bank l (at (view c.enter_xact-held.new.caller.pass).seen (xact_lock c.args.bank))) (sym c.deref_mut-store.ensures.value) c.enter_xact-held.ensures.stands).stands.count (c.in-Err.ensures.bank.sweeps.fault refl).1)
+    (risen_past (faults_told start (xact_lock c.args.bank) (at u.seen (xact_lock c.args.bank))) (faults_of c.deref_mut-store.result.now) _ (subst (λ l. IsXactOf (start_of c.args.hall.now) c.args.bank l (at (view c.enter_xact-held.new.caller.pass).seen (xact_lock c.args.bank))) (sym c.deref_mut-store.ensures.value) c.enter_xact-held.ensures.stands).count (c.in-Err.ensures.bank.sweeps.fault refl).1)
     ((c.with_cut-fault.ensures ∙ ap (cut_too c.xact_page_in_full-page.result) (c.fault_note.ensures ∙ ap (λ (b : By). fault_by b (faults_of c.truncate.new.self)) c.command_of-by.ensures)) ∙ (λ j. cut_fault_by (by_at t.number t.session.levels.commands) (c.xact_page_in_full-page.ensures.page j) (faults_of c.truncate.new.self))) (e.at.turns (xact_lock c.args.bank))
 
 pub leave_quiet-requires-in-Err-clause-stands : goal.leave_quiet-requires-in-Err-clause-stands

@@ -4,14 +4,13 @@ use Rattle.recoverable.specs.Whole.{BeganRight}
 use Rattle.wal_core.specs.LogViews.{log_disk}
 use Rattle.replay_core.specs.Banks.{NoCountFell}
 use Rattle.replay_core.specs.Refused.{IsRefusal}
-use Rattle.replay_core.specs.Volumes.{LeavesFit}
 use Rattle.replay_core.specs.declared.refusal.RecoverRefusal.{RecoverRefusal}
 use Rattle.engine_host.specs.declared.cluster.Cluster.{Cluster}
 use Rattle.engine_host.specs.Opening.{AllOnDisk, MayBeginOver, faults_behind, new_life}
 use Rattle.engine_host.specs.Stores.{banks_of, volumes_in}
 use Rattle.engine_life.specs.Reopening.{IsBaseAt, KeepsStart, banks_in, behind, cluster_over}
 use Rattle.engine_life.proofs.Living.{of_err, of_oks}
-use Rattle.engine_life.proofs.Reopened.{base_at_number, before_any, began_right, counted_before, each_store, empty_durable, empty_shown, given_before, may_recover, no_multis, start_kept, states_shown}
+use Rattle.engine_life.proofs.Reopened.{base_at_number, before_any, began_right, counted_before, each_store, empty_durable, empty_shown, given_before, may_recover, members_shown, offsets_shown, same_left, start_kept, states_shown}
 use Rattle.engine_life.proofs.old_parts.open_old.Goals as goal
 
 -- With a ghost value the clauses of `requires` have no names: they stand in their order behind what is asked of lifetimes.
@@ -29,27 +28,26 @@ open_recovered-requires g c κs inside =
     let log = e.log in
     let before = before_any p.tells g.kept r.from c.args.sessions (length r.xact.items) r.base (λ told.
     let fit = c.requires.1.1.1.1.1.1 told in
-    given_before l p old.log (log_disk r.log) old.xact.items r.xact.items r.from c.args.sessions r.base g.kept e.banks.0 some c.is_full_multi.ensures
+    given_before l p old.log (log_disk r.log) old.xact.items r.xact.items r.offsets.items r.members.items r.from c.args.sessions r.base g.kept e.banks.0 some c.is_full_multi.ensures
     (g.met.L.LogDisk.reads_image (log_disk r.log) fit.0) (λ d. g.met.P.PageDisk.reads_image d told) (e.recovers fit.0 told g.kept fit.1).0) in
     let shown = λ (told : IsTrue p.tells).
     let fit = c.requires.1.1.1.1.1.1 told in
     let recovers = (e.recovers fit.0 told g.kept fit.1).0 in
     let is_shown : MayBeginOver p (cluster_over r.base (length r.xact.items) c.args.sessions) (behind true g.kept r.from) false 0 (banks_in r) = record {
-      states = states_shown l p old.log (log_disk r.log) old.xact.items r.xact.items r.from c.args.sessions r.base g.kept e.banks.0 some c.is_full_multi.ensures (g.met.L.LogDisk.reads_image (log_disk r.log) fit.0) (λ d. g.met.P.PageDisk.reads_image d told) recovers;
+      states = states_shown l p old.log (log_disk r.log) old.xact.items r.xact.items r.offsets.items r.members.items r.from c.args.sessions r.base g.kept e.banks.0 some c.is_full_multi.ensures (g.met.L.LogDisk.reads_image (log_disk r.log) fit.0) (λ d. g.met.P.PageDisk.reads_image d told) recovers;
       parents = empty_shown p r.subtrans.items (λ d. g.met.P.PageDisk.reads_image d told) (e.parents told);
-      offsets = empty_shown p r.offsets.items (λ d. g.met.P.PageDisk.reads_image d told) (e.multis told).0;
-      members = empty_shown p r.members.items (λ d. g.met.P.PageDisk.reads_image d told) (e.multis told).1;
-      none = no_multis l p old.log (log_disk r.log) old.xact.items r.xact.items r.from c.args.sessions r.base g.kept e.banks.0 some c.is_full_multi.ensures (g.met.L.LogDisk.reads_image (log_disk r.log) fit.0) (λ d. g.met.P.PageDisk.reads_image d told) recovers;
+      offsets = offsets_shown l p old.log (log_disk r.log) old.xact.items r.xact.items r.offsets.items r.members.items r.from c.args.sessions r.base g.kept e.banks.0 some c.is_full_multi.ensures (g.met.L.LogDisk.reads_image (log_disk r.log) fit.0) (λ d. g.met.P.PageDisk.reads_image d told) recovers;
+      members = members_shown l p old.log (log_disk r.log) old.xact.items r.xact.items r.offsets.items r.members.items r.from c.args.sessions r.base g.kept e.banks.0 some c.is_full_multi.ensures (g.met.L.LogDisk.reads_image (log_disk r.log) fit.0) (λ d. g.met.P.PageDisk.reads_image d told) recovers same.2;
       durable = λ q.
           each_store (λ k. AllOnDisk p (volumes_in k (banks_in r)).items) (e.states told) (empty_durable p r.subtrans.items (e.parents told))
-          (empty_durable p r.offsets.items (e.multis told).0) (empty_durable p r.members.items (e.multis told).1);
+          (e.multis told).0 (e.multis told).1;
     } in
     subst (λ (t : Bool). MayBeginOver p (cluster_over r.base (length r.xact.items) c.args.sessions) (behind t g.kept r.from) false 0 (banks_in r)) (sym told) is_shown in
     let past = λ (log_tells : IsTrue l.tells) (told : IsTrue p.tells).
     let fit = c.requires.1.1.1.1.1.1 told in
     let recovers = e.recovers fit.0 told g.kept fit.1 in
     subst (λ (t : Bool). KeepsStart (cluster_over r.base (length r.xact.items) c.args.sessions) (behind t g.kept r.from) r.log) (sym told)
-    (start_kept l p old.log (log_disk r.log) old.xact.items r.xact.items r.from c.args.sessions r.base g.kept e.banks.0 some c.is_full_multi.ensures
+    (start_kept l p old.log (log_disk r.log) old.xact.items r.xact.items r.offsets.items r.members.items r.from c.args.sessions r.base g.kept e.banks.0 some c.is_full_multi.ensures
     (g.met.L.LogDisk.reads_image (log_disk r.log) fit.0) (λ d. g.met.P.PageDisk.reads_image d told) recovers.0 r.log recovers.1) in
     (search (rules, inside), (search (rules, inside), (here, (within, (same, (sessions, (log, (refl, (before, (shown, past))))))))))
 
@@ -62,7 +60,7 @@ returns-in-Ok-clause-start g c =
       λ told.
           let fit = c.requires.1.1.1.1.1.1 told in
           subst (λ (k : Cluster). IsBaseAt g.kept r.from k.base) (sym cluster)
-          (base_at_number l p old.log (log_disk r.log) old.xact.items r.xact.items r.from c.args.sessions r.base g.kept e.banks.0 c.requires.1.1.0 c.is_full_multi.ensures
+          (base_at_number l p old.log (log_disk r.log) old.xact.items r.xact.items r.offsets.items r.members.items r.from c.args.sessions r.base g.kept e.banks.0 c.requires.1.1.0 c.is_full_multi.ensures
           (g.met.L.LogDisk.reads_image (log_disk r.log) fit.0) (λ d. g.met.P.PageDisk.reads_image d told) (e.recovers fit.0 told g.kept fit.1).0),
     ))
     c.open_recovered.ensures.cluster c.open_recovered.ensures.start
@@ -72,7 +70,7 @@ returns-in-Ok-clause-right g c told =
     let l = g.L.LogDisk in let p = g.P.PageDisk in let old = c.args.volumes in let r = c.in-Ok.recovered in let e = c.in-Ok.ensures in
     let fit = c.requires.1.1.1.1.1.1 told in
     of_oks c.open_recovered.result _ _ _ (λ parts cluster start.
-    let right = began_right l p old.log (log_disk r.log) old.xact.items r.xact.items r.from c.args.sessions r.base g.kept e.banks.0 c.requires.1.1.0 c.is_full_multi.ensures
+    let right = began_right l p old.log (log_disk r.log) old.xact.items r.xact.items r.offsets.items r.members.items r.from c.args.sessions r.base g.kept e.banks.0 c.requires.1.1.0 c.is_full_multi.ensures
     (g.met.L.LogDisk.reads_image (log_disk r.log) fit.0) (λ d. g.met.P.PageDisk.reads_image d told) (e.recovers fit.0 told g.kept fit.1).0 (map faults_behind parts.locks.items) in
     subst BeganRight (sym start)
     (subst (λ (k : Cluster). BeganRight (new_life k (behind p.tells g.kept r.from) parts.locks.items)) (sym cluster)
@@ -87,9 +85,9 @@ pub returns-in-Ok-clause-again : goal.returns-in-Ok-clause-again
 returns-in-Ok-clause-again g c told =
     let l = g.L.LogDisk in let p = g.P.PageDisk in let old = c.args.volumes in let r = c.in-Ok.recovered in let e = c.in-Ok.ensures in
     let fit = c.requires.1.1.1.1.1.1 told in
-    let left = may_recover l p old.log (log_disk r.log) old.xact.items r.xact.items r.from c.args.sessions r.base g.kept e.banks.0 c.requires.1.1.0 c.is_full_multi.ensures
+    let left = may_recover l p old.log (log_disk r.log) old.xact.items r.xact.items r.offsets.items r.members.items r.from c.args.sessions r.base g.kept e.banks.0 c.requires.1.1.0 c.is_full_multi.ensures
     (g.met.L.LogDisk.reads_image (log_disk r.log) fit.0) (λ d. g.met.P.PageDisk.reads_image d told) (e.recovers fit.0 told g.kept fit.1).0 in
-    of_err c.open_recovered.result _ _ (λ e kept. subst (λ z. LeavesFit l p old.xact.items z e.0.xact.items g.kept) (sym kept.0) (subst (λ xs. LeavesFit l p old.xact.items (log_disk r.log) xs g.kept) (sym kept.1) left)) c.open_recovered.ensures.kept
+    of_err c.open_recovered.result _ _ (λ e kept. same_left l p old r e.0 g.kept kept.0 kept.1 left) c.open_recovered.ensures.kept
 
 pub returns-in-Err-clause-again : goal.returns-in-Err-clause-again
 returns-in-Err-clause-again g c told = let fit = c.requires.1.1.1.1.1.1 told in c.in-Err.ensures.again fit.0 told g.kept fit.1

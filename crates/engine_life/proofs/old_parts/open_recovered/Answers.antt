@@ -1,7 +1,7 @@
 use Rattle.std.proofs.Common.{[], IsTrue, arith, false, length, rules, subst, sym, ◌∙◌, ◌≡◌}
 use Rattle.engine_parts.specs.Sessions.{AreGivenBefore}
 use Rattle.engine_host.specs.Opening.{IsCluster, MayBeginOver, life_from}
-use Rattle.engine_host.specs.Stores.{of_xact, volumes_in}
+use Rattle.engine_host.specs.Stores.{volumes_in}
 use Rattle.engine_life.specs.Reopening.{KeepsStart, banks_in, cluster_over}
 use Rattle.engine_life.proofs.Reopened.{each_store, settled_begins}
 use Rattle.engine_life.proofs.old_parts.open_recovered.Goals as goal
@@ -25,4 +25,4 @@ open_begun-requires g c =
     search (rules, cluster, each, before, log, shown)
 
 pub returns-in-Err-clause-kept : goal.returns-in-Err-clause-kept
-returns-in-Err-clause-kept g c = (c.in-Err.ensures.kept.0, c.in-Err.ensures.kept.1 of_xact)
+returns-in-Err-clause-kept g c = c.in-Err.ensures.kept

@@ -41,7 +41,7 @@ returns-in-Ok-clause-aborts g c =
     let mid = (view a.pass).seen in
     let more = (view t.pass).seen in
     finished_then n t.number ends.Abort c.args.caller.now.session t.session c.end_transaction.new.caller.session first more (view c.end_transaction.new.caller.pass).seen
-    (c.set_aborted.ensures.number ∙ c.start_abort.ensures.number) (ap (λ (z : Session). z.levels) (x.1 ∙ c.start_abort.ensures.session))
+    (c.set_aborted.ensures.number ∙ c.start_abort.ensures.number) (ap (λ (z : Session). z.levels) (x.1 ∙ c.start_abort.ensures.session)) (ap (λ (z : Session). z.making) (x.1 ∙ c.start_abort.ensures.session))
     (goes_then n [] [] first mid more c.start_abort.ensures.goes (subst (λ z. GoesOn z [] mid more) c.start_abort.ensures.number x.0)) c.end_transaction.ensures.ended
 
 pub returns-in-Err-clause-aborts : goal.returns-in-Err-clause-aborts
@@ -56,6 +56,7 @@ returns-in-Err-clause-aborts g c =
       ap (λ (z : Session). z.levels) (x.1 ∙ a.session),
       ap (λ (z : Session). z.stage) (x.1 ∙ a.session),
       subst (λ (b : By). IsXactFault more b c.in-Err.refusal) (λ j. by_at (a.number j) (a.session j).levels.commands) x.2,
+      ap (λ (z : Session). z.making) (x.1 ∙ a.session),
     )
 
 pub returns-in-Ok-clause-adds : goal.returns-in-Ok-clause-adds

@@ -33,7 +33,7 @@ returns-in-Ok-clause-commits g c =
     let x = c.in-Ok.ensures.settles in
     let t = c.set_tree.new.caller in
     finished_then c.args.caller.now.number t.number ends.Commit c.args.caller.now.session t.session c.end_transaction.new.caller.session (view c.args.caller.now.pass).seen (view t.pass).seen (view c.end_transaction.new.caller.pass).seen
-    c.set_tree.ensures.number (ap (λ (z : Session). z.levels) x.1.1) x.0 c.end_transaction.ensures.ended
+    c.set_tree.ensures.number (ap (λ (z : Session). z.levels) x.1.1) (ap (λ (z : Session). z.making) x.1.1) x.0 c.end_transaction.ensures.ended
 
 pub returns-in-Err-clause-commits : goal.returns-in-Err-clause-commits
 returns-in-Err-clause-commits g c =
@@ -46,6 +46,7 @@ returns-in-Err-clause-commits g c =
       x.0,
       ap (λ (z : Session). z.levels) is,
       subst (λ (z : Stage × Stage). Stops start u.seen by z.0 z.1 c.in-Err.refusal) (λ j. (sym c.requires.stage j, (sym is j).stage)) (tree_stops start u.seen by c.args.from x.1.0 c.in-Err.refusal x.1.1 x.2),
+      ap (λ (z : Session). z.making) is,
     )
 
 pub returns-in-Ok-clause-adds : goal.returns-in-Ok-clause-adds

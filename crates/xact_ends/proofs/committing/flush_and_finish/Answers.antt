@@ -46,7 +46,7 @@ returns-in-Ok-clause-commits g c =
     let x = c.finish.new.caller in
     let more = (view x.pass).seen in
     let same = c.flush_log.ensures.same in
-    commits_then start n t.number s (record t.session { stage = stages.Settling 0 }) x.session (view c.args.caller.now.pass).seen (view t.pass).seen more c.finish.result same.1 (ap (λ (z : Session). z.levels) same.0) c.flush_log.ensures.went.on
+    commits_then start n t.number s (record t.session { stage = stages.Settling 0 }) x.session (view c.args.caller.now.pass).seen (view t.pass).seen more c.finish.result same.1 (ap (λ (z : Session). z.levels) same.0) (ap (λ (z : Session). z.making) same.0) c.flush_log.ensures.went.on
     (λ e q. subst (λ (z : Stage). Stops start more (by_at n s.levels.commands) z x.session.stage e) (sym c.requires.stage) (stops_flushed start more (by_at n s.levels.commands) c.args.number x.session.stage e q))
     c.finish.ensures.commits
 
@@ -64,6 +64,7 @@ returns-in-Err-clause-commits g c =
       c.flush_log.ensures.went.on,
       ap (λ (z : Session). z.levels) same.0,
       subst (λ (z : Stage × Stage). Stops start (view t.pass).seen by z.0 z.1 c.in-Err.refusal) (λ j. (sym c.requires.stage j, sym stage j)) (flush_stops start (view t.pass).seen by c.args.number c.in-Err.refusal c.in-Err.ensures.flushes),
+      ap (λ (z : Session). z.making) same.0,
     )
 
 pub returns-in-Ok-clause-adds : goal.returns-in-Ok-clause-adds

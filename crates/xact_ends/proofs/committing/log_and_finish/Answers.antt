@@ -35,6 +35,7 @@ returns-clause-commits g c =
       c.log_commit_record.ensures.went.on,
       ap (λ (z : Session). z.levels) x.0,
       subst (λ (z : Stage × Stage). Stops start (view t.pass).seen by z.0 z.1 c.in-Err-log_commit_record.refusal) (λ j. (sym c.requires.stage j, sym stage j)) (append_stops start (view t.pass).seen by c.in-Err-log_commit_record.refusal x.1),
+      ap (λ (z : Session). z.making) x.0,
     )
 
 pub returns-in-At-clause-commits : goal.returns-in-At-clause-commits
@@ -48,7 +49,7 @@ returns-in-At-clause-commits g c =
     let number = c.in-At.number in
     let by = by_at n s.levels.commands in
     let appends : Appends start (view t.pass).seen c.in-Ok.rec s t.session (Ok (came.At number)) = subst (λ (a : Appended). Appends start (view t.pass).seen c.in-Ok.rec s t.session (Ok a)) c.in-At.is c.in-Ok-log_commit_record.ensures.appends in
-    commits_then start n t.number s t.session x.session (view c.args.caller.now.pass).seen (view t.pass).seen more c.flush_and_finish.result c.log_commit_record.ensures.number (ap (λ (z : Session). z.levels) appends) c.log_commit_record.ensures.went.on
+    commits_then start n t.number s t.session x.session (view c.args.caller.now.pass).seen (view t.pass).seen more c.flush_and_finish.result c.log_commit_record.ensures.number (ap (λ (z : Session). z.levels) appends) (ap (λ (z : Session). z.making) appends) c.log_commit_record.ensures.went.on
     (λ e q. subst (λ (z : Stage). Stops start more by z x.session.stage e) (sym c.requires.stage) (stops_appended start more by number x.session.stage e (subst (λ (z : Stage). Stops start more by z x.session.stage e) (ap (λ (z : Session). z.stage) appends) q)))
     c.flush_and_finish.ensures.commits
 

@@ -32,7 +32,7 @@ returns-in-Ok-clause-commits g c =
     let x = c.log_and_finish.new.caller in
     let more = (view x.pass).seen in
     let recorded = c.in-Ok.ensures.recorded in
-    commits_then start n t.number s t.session x.session (view c.args.caller.now.pass).seen (view t.pass).seen more c.log_and_finish.result c.record_parent.ensures.number (ap (λ (z : Session). z.levels) recorded) c.record_parent.ensures.went.on
+    commits_then start n t.number s t.session x.session (view c.args.caller.now.pass).seen (view t.pass).seen more c.log_and_finish.result c.record_parent.ensures.number (ap (λ (z : Session). z.levels) recorded) (ap (λ (z : Session). z.making) recorded) c.record_parent.ensures.went.on
     (λ e q. subst (λ (z : Stage). Stops start more (by_at n s.levels.commands) z x.session.stage e) (ap (λ (z : Session). z.stage) recorded) q)
     c.log_and_finish.ensures.commits
 
@@ -50,6 +50,7 @@ returns-in-Err-clause-commits g c =
       c.record_parent.ensures.went.on,
       ap (λ (z : Session). z.levels) x.0,
       subst (λ (z : Stage × Stage). Stops start (view t.pass).seen by z.0 z.1 c.in-Err.refusal) (λ j. (sym c.requires.stage j, sym stage j)) (link_stops start (view t.pass).seen by c.in-Err.refusal x.1),
+      ap (λ (z : Session). z.making) x.0,
     )
 
 pub returns-in-Ok-clause-adds : goal.returns-in-Ok-clause-adds

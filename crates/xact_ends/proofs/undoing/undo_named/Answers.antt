@@ -72,7 +72,7 @@ returns-in-Ok-clause-undoes g c =
 pub returns-in-Err-clause-undoes : goal.returns-in-Err-clause-undoes
 returns-in-Err-clause-undoes g c =
     let x = c.in-Err.ensures.sets in
-    (x.0, ap (λ (z : Session). z.levels) x.1, ap (λ (z : Session). z.stage) x.1, x.2)
+    (x.0, ap (λ (z : Session). z.levels) x.1, ap (λ (z : Session). z.stage) x.1, x.2, ap (λ (z : Session). z.making) x.1)
 
 pub returns-in-Ok-clause-adds : goal.returns-in-Ok-clause-adds
 returns-in-Ok-clause-adds g c =

@@ -23,7 +23,7 @@ use Rattle.xact_writes.proofs.writes.name_levels.Goals as goal
 pub returns-in_default-clause-ran : goal.returns-in_default-clause-ran
 returns-in_default-clause-ran g c =
     let old = c.args.caller.now in
-    ran_write c.args.hall.now old old (replies.Refused refusals.Memory) c.requires.step.own c.requires.step.may refl refl refl (not_refused c.args.caller.now.session c.requires.clear c.requires.some)
+    ran_write c.args.hall.now old old (replies.Refused refusals.Memory) c.requires.step.own c.requires.step.may refl refl refl refl (not_refused c.args.caller.now.session c.requires.clear c.requires.some)
     (acted_at_once g.P.PageDisk.tells (start_of c.args.hall.now) old.number old.session (view old.pass).seen c.requires.clear c.requires.some (positive old.session.levels.unnamed (λ none. false≢true (c.in_default.ensures.succeeds none))))
 
 pub returns-in-Err-clause-ran : goal.returns-in-Err-clause-ran
@@ -38,7 +38,7 @@ returns-in-Err-clause-ran g c =
     let e = c.in-Err.ensures in
     let m = e.recorded in
     let k = writing_on start n s s u.session [] false v v w (writing_none start n s v c.requires.fresh) e.went (levels_same s u.session m.0) in
-    ran_write c.args.hall.now old u (replies.Refused c.in-Err.refusal) e.own e.may k.stage k.count e.number (not_refused c.args.caller.now.session c.requires.clear c.requires.some)
+    ran_write c.args.hall.now old u (replies.Refused c.in-Err.refusal) e.own e.may k.stage k.making k.count e.number (not_refused c.args.caller.now.session c.requires.clear c.requires.some)
     (acted_unlinked g.P.PageDisk.tells start n s u.session [] false v w k c.requires.clear c.requires.some c.in-Err.refusal m.1 e.adds)
 
 pub loop-caller-init : goal.loop-caller-init
@@ -78,7 +78,7 @@ returns-in-Err-name_level-clause-ran g c =
     let a = m.1 in
     let number = i.2.0 in
     let k = writing_on start n s l.caller.session t l.ids.items l.warn v u w i.1 (subst (λ z. WentOn z [] u w) number m.0) (levels_alike l.caller.session t a) in
-    ran_write c.args.hall.now old x (replies.Refused c.in-Err-name_level.refusal) e.step.own e.step.may k.stage k.count (e.number ∙ number) (not_refused c.args.caller.now.session c.requires.clear c.requires.some)
+    ran_write c.args.hall.now old x (replies.Refused c.in-Err-name_level.refusal) e.step.own e.step.may k.stage k.making k.count (e.number ∙ number) (not_refused c.args.caller.now.session c.requires.clear c.requires.some)
     (acted_without g.P.PageDisk.tells start n s t l.ids.items l.warn v w k c.requires.clear c.requires.some c.in-Err-name_level.refusal (let o = c.loop-caller-test.true in let p = a.levels.unnamed in omega arith)
     (subst (λ (z : ℕ × ℕ). AllByRecursion (λ f. (by_of f).command ≤ z.1) (filter (is_of z.0) (history w))) (λ j. ((e.number ∙ number) j, k.count j)) e.step.may.ready.at.stands.turn)
     (subst (λ (b : By). IsWithout start w b c.in-Err-name_level.refusal) (λ j. by_at (number j) (i.1.count j)) m.2)
@@ -146,7 +146,7 @@ returns-in-Err-record_parent-clause-ran g c =
     let went = subst (λ z. WentOn z [] x w) (o.number ∙ number) e.went in
     let two = writing_on start n s y t (l.ids.items ++ id ∷ []) (l.warn || late) v x w one went (levels_same y t q.0) in
     let by = by_at n s.levels.commands in
-    ran_write c.args.hall.now old z (replies.Refused c.in-Err-record_parent.refusal) e.own e.may two.stage two.count (e.number ∙ (o.number ∙ number)) (not_refused c.args.caller.now.session c.requires.clear c.requires.some)
+    ran_write c.args.hall.now old z (replies.Refused c.in-Err-record_parent.refusal) e.own e.may two.stage two.making two.count (e.number ∙ (o.number ∙ number)) (not_refused c.args.caller.now.session c.requires.clear c.requires.some)
     (acted_unlinked g.P.PageDisk.tells start n s t (l.ids.items ++ id ∷ []) (l.warn || late) v w two c.requires.clear c.requires.some c.in-Err-record_parent.refusal
     (subst (λ (b : By). IsSubtransFault w b c.in-Err-record_parent.refusal) (λ j. by_at ((o.number ∙ number) j) (one.count j)) q.1)
     (adds_after by (by_at c.name_level.new.caller.number y.levels.commands) (MayMeet c.in-Err-record_parent.refusal) v x w (λ j. by_at ((o.number ∙ number) j) (one.count j)) (plain_meets c.in-Err-record_parent.refusal)
@@ -160,7 +160,7 @@ returns-clause-ran g c =
     let l = c.loop-caller in
     let i = l.invariant in
     subst (λ (z : List ℕ). Ran c.args.hall.now s.levels.commands commands.Write (replies.Wrote z l.warn) old l.caller) (sym c.of.ensures)
-    (ran_write c.args.hall.now old l.caller (replies.Wrote l.ids.items l.warn) i.0.own i.0.may i.1.stage i.1.count i.2.0 (not_refused c.args.caller.now.session c.requires.clear c.requires.some)
+    (ran_write c.args.hall.now old l.caller (replies.Wrote l.ids.items l.warn) i.0.own i.0.may i.1.stage i.1.making i.1.count i.2.0 (not_refused c.args.caller.now.session c.requires.clear c.requires.some)
     (acted_wrote g.P.PageDisk.tells start old.number s l.caller.session l.ids.items l.warn (view old.pass).seen (view l.caller.pass).seen i.1 c.requires.clear c.requires.some (let f = c.loop-caller-test.false in omega arith) i.4))
 
 pub returns-clause-linked : goal.returns-clause-linked

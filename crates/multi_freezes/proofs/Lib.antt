@@ -1,0 +1,6 @@
+pub mod Going
+pub mod Pinning
+pub mod Starting
+pub mod Raising
+pub mod Ranning
+pub mod Answering

@@ -1,0 +1,8 @@
+//! The calls of an engine over its lock table that let old multixacts go, and the pages of what was let go: the oldest
+//! multixact is announced, and the stores are truncated. See `docs/ENGINE.md`.
+#![tactic(auto)]
+
+mod freezing;
+mod looking;
+
+pub use freezing::multi_freeze;

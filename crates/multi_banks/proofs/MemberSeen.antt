@@ -227,19 +227,13 @@ module _ (start : Start) (lists : List (List Entry)) (x bank : ℕ) (base : IsBa
       let t = slot_here member set in
       let s = slot_given t.0 t.1 in
       let l = lies t.0 s in
-      let from = l.from in
-      let to = l.to in
-      let inside = l.inside in
-      let behind = s.behind in
-      let same = t.2 in
-      let low = base.oldest_offset in
+      let from = l.from in let to = l.to in let inside = l.inside in
+      let behind = s.behind in let same = t.2 in let low = base.oldest_offset in
       record { from = omega arith; to = omega arith })
       (λ (m : IsRecordedMember start x member).
       let w = clean.in_order.within m.multi m.first m.members m.stands m.kept in
-      let from = w.0 in
-      let to = w.1 in
+      let from = w.0 in let to = w.1 in let at_x = m.at in
       let inside = place_within m.members m.place member m.among in
-      let at_x = m.at in
       let free = (ordered start.base base (multi_history lists) (multis_are_legal start lists k)).from in
       record { from = omega arith; to = omega arith })
       has

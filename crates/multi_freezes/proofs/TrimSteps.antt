@@ -1,5 +1,6 @@
 -- A trim, step by step.
-use Rattle.std.proofs.Common.{◌≡◌, ⊎_elim, inl, ℕ, Bool, None, IsTrue, append-nil, ◌+◌, ◌-◌, ◌<◌, ◌≤◌, true, List, [], ◌∷◌, ◌++◌, Some, Result, Ok, Err, IfOk, IfErr, MatchResult, length, length-append, length-map, slice_get, take_all, refl, sym, ap, subst, ◌∙◌, arith}
+use Rattle.std.proofs.lemmas.List.{length-map}
+use Rattle.std.proofs.Common.{Contains, ◌≡◌, ⊎_elim, inl, ℕ, Bool, None, IsTrue, append-nil, ◌+◌, ◌-◌, ◌<◌, ◌≤◌, true, List, [], ◌∷◌, ◌++◌, Some, Result, Ok, Err, IfOk, IfErr, MatchResult, length, length-append, slice_get, take_all, refl, sym, ap, subst, ◌∙◌, arith}
 use Rattle.std.proofs.lemmas.List.Elements.{filter_map-append}
 use Rattle.disk_core.specs.declared.log_disk.LogDisk as logs
 use Rattle.disk_core.specs.declared.page_disk.PageDisk as disks
@@ -16,6 +17,7 @@ use Rattle.tx_events.specs.Horizon.{oldest_id, oldest_xmin}
 use Rattle.tx_events.specs.Running.{open_ids}
 use Rattle.tx_events.specs.Snapshots.{latest, snapshot_xmax}
 use Rattle.tx_events.specs.declared.event.Event.{Event}
+use Rattle.tx_events.specs.declared.event.Event.TheVariants as events
 use Rattle.tx_events.specs.declared.record.Counters.{Counters}
 use Rattle.tx_events.specs.declared.event.By.{By}
 use Rattle.tx_events.specs.declared.record.Rec.{Rec}
@@ -35,9 +37,9 @@ use Rattle.tx_core.specs.declared.entry.Start.{Start}
 use Rattle.tx_core.specs.Entries.{appended, history, records_in, records_of, recs_in}
 use Rattle.tx_core.specs.Locks.{IsPageLock, log_lock, members_lock, number_of, offsets_lock}
 use Rattle.tx_core.specs.CutsFollow.{IsTruncated}
-use Rattle.tx_core.proofs.Lasting.{stands_grows}
+use Rattle.tx_core.proofs.Lasting.{history_grows, stands_grows}
 use Rattle.tx_core.specs.RecordsFollow.{IsMultiAnnounced, IsOldestAnnounced}
-use Rattle.tx_core.proofs.Growing.{begins_filter_map, slice_get_begins}
+use Rattle.tx_core.proofs.Growing.{begins_filter_map, contains_begins, slice_get_begins}
 use Rattle.tx_core.proofs.StopLimits.{found_announced}
 use Rattle.engine_parts.specs.declared.part.Part.{Part}
 use Rattle.engine_parts.specs.declared.session.Caller.{Caller}
@@ -56,7 +58,6 @@ use Rattle.engine_parts.proofs.Sectioning.{section_list, shared_adds}
 use Rattle.log_sections.specs.declared.appending.Appended.{Appended}
 use Rattle.log_sections.specs.declared.appending.Appended.TheVariants as came
 use Rattle.log_sections.specs.LogSections.{AppendSection, FlushSection, IsAppendRefused, IsFlushRefused, IsFlushedPast, IsTruncationOf}
-use Rattle.log_sections.proofs.Truncated.{truncation_later}
 use Rattle.multi_banks.proofs.Later.{grows_same}
 use Rattle.multi_freezes.specs.Trims.{HasFlushed, IsOfBank, IsTrimMet, MayTrim, WasOldestXmin}
 use Rattle.multi_freezes.specs.Visits.{Visited}
@@ -191,7 +192,7 @@ flush_has (Err r) A B R f m = tt
 
 pub flush_met : {T : Type 0} (start : Start) (lists : List (List Entry)) (by : By) (number : ℕ) (A : T → Type 0) (result : Result T Refusal) → MatchResult result A (IsFlushRefused start lists by number) → IfErr result (IsTrimMet start lists by)
 flush_met start lists by number A (Ok x) m = tt
-flush_met start lists by number A (Err refusals.LogFault) m = (m.0, (m.1, m.2))
+flush_met start lists by number A (Err refusals.LogFault) m = (m.0, (m.1.0, m.1.1))
 flush_met start lists by number A (Err (refusals.LogDown down)) m = m.0
 flush_met start lists by number A (Err r) m = absurd m
 
@@ -204,22 +205,17 @@ append_met start lists by r m = absurd m
 -- ---- what is announced
 
 pub trim_record : (start : Start) (lists more : List (List Entry)) (oldest multi offset : ℕ) → Grows lists more → oldest ≡ oldest_id start.base.oldest (history lists) → IsMultiAnnounced start more multi offset → IsTruncationOf start more (records.Truncate oldest multi offset)
-trim_record start lists more oldest multi offset g is first =
-    let before : IsTruncationOf start lists (records.Truncate oldest start.base.oldest_multi start.base.oldest_offset) = record {
-      oldest = oldest;
-      multi = start.base.oldest_multi;
-      offset = start.base.oldest_offset;
-      is = refl;
-      id = subst (IsOldestAnnounced start lists) (sym is) (found_announced start.base.oldest (history lists));
-      first = inl (refl, refl);
-    } in record {
-      oldest = oldest;
-      multi = multi;
-      offset = offset;
-      is = refl;
-      id = (truncation_later start lists more (records.Truncate oldest start.base.oldest_multi start.base.oldest_offset) g before).id;
-      first = first;
-    }
+trim_record start lists more oldest multi offset g is first = record {
+  oldest = oldest;
+  multi = multi;
+  offset = offset;
+  is = refl;
+  id = later (subst (IsOldestAnnounced start lists) (sym is) (found_announced start.base.oldest (history lists)));
+  first = first;
+}
+  where
+    later : IsOldestAnnounced start lists oldest → IsOldestAnnounced start more oldest
+    later a = ⊎_elim inl (λ (z : (by : By) × Contains (history lists) (events.Oldest by oldest)). inr (z.0, contains_begins (history lists) (history more) _ (history_grows lists more g) z.1)) a
 
 -- ---- the answer
 
@@ -239,7 +235,7 @@ pub record IsTrimFit (tells : Bool) (start : Start) (begun lists : List (List En
 pub trim_refused : (tells : Bool) (start : Start) (begun lists : List (List Entry)) (by : By) (s : Stance) (stage now : Stage) (r : Refusal) → IsTrimMet start lists by r → IsTrimFit tells start begun lists by s stage now (replies.Refused r)
 trim_refused tells start begun lists by s stage now refusals.Memory m = record { answer = refl; held = tt; free = refl }
 trim_refused tells start begun lists by s stage now refusals.Full m = record { answer = refl; held = tt; free = refl }
-trim_refused tells start begun lists by s stage now refusals.LogFault m = record { answer = (refl, m.0); held = (m.1, (m.2, tt)); free = refl }
+trim_refused tells start begun lists by s stage now refusals.LogFault m = record { answer = (refl, m.0); held = (m.1.0, m.1.1, tt); free = refl }
 trim_refused tells start begun lists by s stage now (refusals.LogDown down) m = record { answer = (refl, m); held = tt; free = refl }
 trim_refused tells start begun lists by s stage now (refusals.DiskFault lock) m = record { answer = (is_trimmable s stage lock m.0, m.1); held = tt; free = refl }
 trim_refused tells start begun lists by s stage now r m = absurd m

@@ -13,6 +13,7 @@ use Rattle.engine_parts.proofs.Sectioning.{section_stands}
 use Rattle.multi_freezes.specs.Trims.{MayTrim}
 use Rattle.multi_freezes.proofs.Going.{visited_now}
 use Rattle.multi_freezes.proofs.Raising.{bank_adds}
+use Rattle.multi_freezes.proofs.TrimSteps.{visited_still}
 use Rattle.multi_freezes.proofs.cutting.let_states.Goals as goal
 
 pub returns-in-Ok-clause-visited : goal.returns-in-Ok-clause-visited
@@ -52,3 +53,6 @@ returns-in-Err-DiskFault-clause-visited g c =
     let section = subst (λ z. CutSection {T = Unit {0}} start (xact_lock c.args.bank) by (xact_page c.args.oldest) (view old.pass) (view w.pass) (Err z)) c.in-Err-DiskFault.field-0-is e.section in
     visited_now c.args.hall.now c.args.banks failed [] old w c.requires.step e.own e.ready e.went e.same
     (bank_adds start (view old.pass) (view w.pass) (xact_lock c.args.bank) (cut_fault_by by (xact_page c.args.oldest) section.0) by old.session failed (is_xact_lock start c.args.bank inside) c.requires.step.may.ready.at section.1 refl (locks.Xact c.args.bank, refl, refl, tt))
+
+pub returns-then-not-cuts_states-clause-visited : goal.returns-then-not-cuts_states-clause-visited
+returns-then-not-cuts_states-clause-visited g c = visited_still c.args.hall.now c.args.banks (MayTrim {T = Unit {0}} (Ok tt)) c.args.caller.now c.requires.step

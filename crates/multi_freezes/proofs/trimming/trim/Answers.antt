@@ -22,6 +22,9 @@ use Rattle.multi_freezes.proofs.Starting.{announced_now}
 use Rattle.multi_freezes.proofs.TrimSteps.{has_flushed_later, horizon_from, is_truncated, look_then, ok_maps, trim_ran, trim_record, trim_then, xmin_now}
 use Rattle.multi_freezes.proofs.trimming.trim.Goals as goal
 
+pub read_base-base-requires-clause-ready : goal.read_base-base-requires-clause-ready
+read_base-base-requires-clause-ready g c = (step_counted c.args.hall.now c.args.caller.now c.count.new.caller c.count.ensures c.requires.may).may.ready
+
 pub log_trim-requires-clause-step : goal.log_trim-requires-clause-step
 log_trim-requires-clause-step g c =
     let hall = c.args.hall.now in
@@ -229,8 +232,8 @@ returns-in-Ok-clause-trimmed g c =
     })
     c.cut_all.ensures.cut
 
-pub returns-in-Err-clause-ran : goal.returns-in-Err-clause-ran
-returns-in-Err-clause-ran g c =
+pub returns-clause-ran : goal.returns-clause-ran
+returns-clause-ran g c =
     let hall = c.args.hall.now in
     let start = start_of hall in
     let banks = c.args.banks in

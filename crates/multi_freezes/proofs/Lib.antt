@@ -4,3 +4,5 @@ pub mod Starting
 pub mod Raising
 pub mod Ranning
 pub mod Answering
+pub mod TrimSteps
+pub mod Letting

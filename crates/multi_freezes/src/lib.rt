@@ -2,7 +2,11 @@
 //! multixact is announced, and the stores are truncated. See `docs/ENGINE.md`.
 #![tactic(auto)]
 
+mod cutting;
 mod freezing;
+mod logging;
 mod looking;
+mod trimming;
 
 pub use freezing::multi_freeze;
+pub use trimming::trim;

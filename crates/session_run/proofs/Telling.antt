@@ -1,6 +1,7 @@
 -- What a command's reply tells that touches no multixact.
-use Rattle.std.proofs.Common.{◌≡◌, ◌⊎◌, ℕ, Bool, false, List, None, inl, inr, refl, sym, ◌∙◌, ⊎_elim}
+use Rattle.std.proofs.Common.{◌≡◌, ◌⊎◌, ◌<◌, ℕ, Bool, Contains, Err, IfOk, IsTrue, List, None, Ok, Result, false, inl, inr, refl, sym, ◌∙◌, ⊎_elim}
 use Rattle.tx_events.specs.declared.event.By.{By}
+use Rattle.tx_events.specs.declared.multi.MultiEvent.TheVariants as multis
 use Rattle.tx_events.specs.declared.refusal.Refusal.{Refusal}
 use Rattle.tx_events.specs.declared.refusal.Refusal.TheVariants as refusals
 use Rattle.tx_model.specs.declared.command.Command.{Command}
@@ -13,9 +14,13 @@ use Rattle.life_law.specs.Commands.{makes_multi}
 use Rattle.life_law.specs.Refused.{by_members, refused_by_members}
 use Rattle.tx_core.specs.declared.entry.Entry.{Entry}
 use Rattle.tx_core.specs.declared.entry.Start.{Start}
+use Rattle.tx_core.specs.MultiEntries.{AreFewMultis, multi_history}
+use Rattle.multi_store.specs.declared.answers.MultiGiven.{MultiGiven}
 use Rattle.engine_parts.specs.declared.session.Stage.{Stage}
-use Rattle.engine_parts.specs.Answers.{MayAnswerAny}
-use Rattle.session_promise.specs.Promise.{IsMadeFor, IsRaisedAsTold}
+use Rattle.engine_parts.specs.Answers.{MayAnswerAny, reply_of}
+use Rattle.multi_makes.specs.Makes.{IsMade, given_reply}
+use Rattle.multi_freezes.specs.Trims.{HasTrimmed as HasCut}
+use Rattle.session_promise.specs.Promise.{HasTrimmed, IsMadeFor, IsRaisedAsTold, IsRecordedIn}
 
 -- whether a command makes a multixact
 is_multi : (command : Command) → ((pairs : List Pair) × (command ≡ commands.Multi pairs)) ⊎ (makes_multi command ≡ false)
@@ -75,3 +80,21 @@ module _ (tells : Bool) (start : Start) (begun lists : List (List Entry)) (by : 
 pub raised_told : (tells : Bool) (start : Start) (lists : List (List Entry)) (by : By) (command : Command) (reply : Reply) → ((multi : ℕ) → command ≡ commands.MultiFreeze multi → IsRaisedAsTold tells start lists by command reply) → IsRaisedAsTold tells start lists by command reply
 raised_told tells start lists by (commands.MultiFreeze m) reply given = given m refl
 raised_told tells start lists by command reply given = tt
+
+-- ---- what the calls tell
+
+-- a multixact that a call gave is made
+pub made_by : (start : Start) (lists : List (List Entry)) (n : ℕ) (result : Result MultiGiven Refusal) → IfOk result (IsMade start lists n) → IsMadeFor start lists n (reply_of given_reply result)
+made_by start lists n (Ok g) done = (done.members, done.done)
+made_by start lists n (Err r) done = tt
+
+-- a truncation that a call did has its record on disk
+pub trimmed_by : {T : Type 0} (start : Start) (lists : List (List Entry)) (by : By) (result : Result T Refusal) → IfOk result (λ _. HasCut start lists by) → reply_of (λ _. replies.Done) result ≡ replies.Done → HasTrimmed start lists by
+trimmed_by start lists by (Ok x) cut done = record { place = cut.place; to = cut.to; oldest = cut.oldest; multi = cut.multi; offset = cut.offset; stands = cut.stands; past = cut.past; flushed = cut.flushed }
+trimmed_by start lists by (Err r) cut done = absurd cc
+
+-- a raise that a call did is to what is recorded
+pub raised_by : {T : Type 0} (tells : Bool) (start : Start) (lists : List (List Entry)) (by : By) (multi : ℕ) (result : Result T Refusal)
+    → (IsTrue tells → IfOk result (λ _. AreFewMultis lists → multi < start.base.multi → (offset : ℕ) → Contains (multi_history lists) (multis.Raise by multi offset) → IsRecordedIn start multi offset)) → IsRaisedAsTold tells start lists by (commands.MultiFreeze multi) (reply_of (λ _. replies.Done) result)
+raised_by tells start lists by multi (Ok x) raised = raised
+raised_by tells start lists by multi (Err r) raised = tt

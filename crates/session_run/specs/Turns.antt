@@ -1,9 +1,10 @@
 -- What a session does in a round.
-use Rattle.std.specs.Prelude.{◌≡◌, ℕ, ◌+◌, ◌^◌, ◌<◌, Bool, IsTrue, List, [], ◌∷◌, ◌++◌, OnOk, Result, get_or, length, map}
+use Rattle.std.specs.Prelude.{◌≡◌, ℕ, ◌+◌, ◌^◌, ◌<◌, Bool, IsTrue, List, [], ◌∷◌, ◌++◌, Contains, OnOk, Result, get_or, length, map}
 use Rattle.disk_core.specs.declared.log_disk.LogDisk as logs
 use Rattle.disk_core.specs.declared.page_disk.PageDisk as disks
 use Rattle.hall.specs.declared.hall.Hall.{Hall}
 use Rattle.hall.specs.Calls.{start_of, view}
+use Rattle.tx_events.specs.declared.record.Rec.{Rec}
 use Rattle.tx_model.specs.declared.command.Command.{Command}
 use Rattle.tx_model.specs.declared.command.Command.TheVariants as commands
 use Rattle.tx_model.specs.declared.command.Pair.{Pair}
@@ -27,6 +28,10 @@ use Rattle.engine_parts.specs.Calls.{MayRun, Ran, next_command}
 use Rattle.engine_parts.specs.Sessions.{by_at}
 use Rattle.session_promise.specs.Promise.{HasTrimmed, IsMadeFor, IsRaisedAsTold}
 use Rattle.session_run.specs.declared.member.Member.{Member}
+
+-- Pages told of the records with which the life began, if they tell.
+abbrev pub AreToldBy : Bool → Start → Type 0
+AreToldBy tells start = (rec : Rec) → Contains start.recorded rec → IsTrue start.told → IsTrue tells
 
 module _ {L P : Type 0} {l : logs.Ghosts L} {p : disks.Ghosts P} where
   -- how many commands the session has run

@@ -55,9 +55,9 @@ read_since start since lists offset count old new g few r = record { slots = r.s
 -- ---- one page behind another
 
 get_cases : (xs ys : List Slot) (j : ℕ) (slot : Slot) → slice_get (xs ++ ys) j ≡ Some slot → (slice_get xs j ≡ Some slot) ⊎ ((i : ℕ) × (j ≡ length xs + i) × (slice_get ys i ≡ Some slot))
-get_cases [] ys j slot e = inr (j, refl, e)
+get_cases [] ys j slot e = inr (j, (let z : j ≡ 0 + j = omega arith in z), e)
 get_cases (x ∷ xs) ys zero slot e = inl e
-get_cases (x ∷ xs) ys (suc j) slot e = ⊎_elim inl (λ (r : (i : ℕ) × (j ≡ length xs + i) × (slice_get ys i ≡ Some slot)). inr (r.0, ap (λ z. suc z) r.1, r.2)) (get_cases xs ys j slot e)
+get_cases (x ∷ xs) ys (suc j) slot e = ⊎_elim inl (λ (r : (i : ℕ) × (j ≡ length xs + i) × (slice_get ys i ≡ Some slot)). let q = r.1 in inr (r.0, (let z : suc j ≡ suc (length xs) + r.0 = omega (arith, q) in z), r.2)) (get_cases xs ys j slot e)
 
 pub read_joined : (start : Start) (lists : List (List Entry)) (offset here count : ℕ) (old mid new : List Slot) → AreReadFrom start lists offset here old mid → AreReadFrom start lists (offset + here) count mid new → AreReadFrom start lists offset (here + count) old new
 read_joined start lists offset here count old mid new a b = record {
@@ -134,11 +134,11 @@ its_slots start since lists held ends slots g few s long reads = record {
 
 -- a multixact has a member
 pub none_between : (start : Start) (lists : List (List Entry)) (held : Held) (ends : Ends) → Spanned start lists held ends → slots_between ends ≡ 0 → ⊥
-none_between start lists held ends s zero =
+none_between start lists held ends s nothing =
     let some = s.stood.fit.some in
     ⊎_elim
-    (λ (c : slots_between ends ≡ length s.members). omega (arith, some, c, zero))
-    (λ (c : (slots_between ends ≡ length s.members + 1) × IsGap start lists (s.offset + length s.members)). let q = c.0 in omega (arith, q, zero))
+    (λ (c : slots_between ends ≡ length s.members). omega (arith, some, c, nothing))
+    (λ (c : (slots_between ends ≡ length s.members + 1) × IsGap start lists (s.offset + length s.members)). let q = c.0 in omega (arith, q, nothing))
     s.counts
 
 -- the slots that were read from the offset on are its members'
@@ -153,3 +153,17 @@ gathered start since lists k base held ends offset count old new g few t s later
     let all : new ≡ r.slots = r.behind ∙ ap (λ (z : List Slot). z ++ r.slots) none in
     subst (AreItsSlots start lists held.multi) (sym all)
     (its_slots start since lists held ends r.slots g few s (r.long ∙ many) (subst (λ z. AreSlotsRead start since z r.slots) same r.read))
+
+-- what they are they stay
+pub its_later : (start : Start) (lists more : List (List Entry)) (multi : ℕ) (slots : List Slot) → Grows lists more → AreItsSlots start lists multi slots → AreItsSlots start more multi slots
+its_later start lists more multi slots g i = record {
+  members = i.members;
+  has = ⊎_elim
+      (λ (w : (by : By) × (offset : ℕ) × Contains (multi_history lists) (multis.Gen by multi offset i.members)).
+      let b = multis_grow lists more g in
+      inl (w.0, w.1, has_contains (multi_history more) _ (subst (λ (t : List MultiEvent). Has t (multis.Gen w.0 multi w.1 i.members)) b.1 (has_left (multi_history lists) b.0 _ (contains_has (multi_history lists) _ w.2)))))
+      inr
+      i.has;
+  full = i.full;
+  shown = i.shown;
+}

@@ -20,3 +20,4 @@ pub mod Banking
 pub mod Ending
 pub mod Once
 pub mod Verdicts
+pub mod MultiRunning

@@ -58,6 +58,7 @@ use Rattle.engine_parts.specs.declared.session.Stage.{Stage}
 use Rattle.engine_parts.specs.Adding.{Adds, MayLeave}
 use Rattle.engine_parts.specs.Answers.{alone_multis}
 use Rattle.engine_parts.specs.Calls.{IsCounted, IsHeldBehind, MayRun, Ran, next_command}
+use Rattle.engine_parts.specs.Makings.{has_more_multis}
 use Rattle.engine_parts.specs.MultiAnswers.{MayAnswerMulti, recorded_in}
 use Rattle.engine_parts.specs.Sessions.{IsReady, by_at, inner_id, stance_of}
 use Rattle.engine_parts.specs.Stages.{IsInStage, pending_in}
@@ -87,9 +88,9 @@ once_later start n s m lists mid more multi p went =
     record {
       went = subst (λ (t : List MultiEvent). WentMulti n t lists more) (append-nil _) (multi_then n _ [] lists mid more p.went went);
       place = p.place;
-      stands = subst (λ (t : List MultiEvent). slice_get t p.place ≡ Some (multis.Hold (by_at n s.levels.commands) multi)) b.1 (slice_get_begins (multi_history mid) (multi_history more) p.place _ b p.stands);
+      stands = slice_get_begins (multi_history mid) (multi_history more) p.place (multis.Hold (by_at n s.levels.commands) multi) b p.stands;
       near = ap (λ (t : List MultiEvent). near_id (next_made start.base.multi t) m) front ∙ p.near;
-      known = subst (IsKnown start.base) (sym front) p.known;
+      known = subst (λ (t : List MultiEvent). IsKnown start.base t multi) (sym front) p.known;
     }
 
 -- ---- the rows
@@ -258,6 +259,6 @@ module _ {H L P : Type 0} {l : logs.Ghosts L} {p : disks.Ghosts P} (hall : Hall 
         stage = keeps_stage (commands.SeeMulti name m) reply u.session.stage new.session.stage refl (ap (λ (z : Session). z.stage) same);
         held = a.held new.session.stage;
         still = λ q is. not_standing (by_standing reply) q a.free is;
-        making = kept_making (commands.SeeMulti name m) reply _ u.session.making new.session.making refl (ap (λ (z : Session). z.making) same);
+        making = kept_making (commands.SeeMulti name m) reply (has_more_multis u.number (view u.pass).seen (view new.pass).seen) u.session.making new.session.making refl (ap (λ (z : Session). z.making) same);
         count = (ap (λ (z : Session). z.levels.commands) same, number);
       })

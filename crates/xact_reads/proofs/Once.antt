@@ -1,5 +1,5 @@
 -- A multixact was pinned, its members were read, and it was let go.
-use Rattle.std.proofs.Common.{Contains, List, Ok, Some, [], ap, append_assoc, length, length-append, refl, subst, sym, take, arith, ℕ, ◌++◌, ◌+◌, ◌<◌, ◌∙◌, ◌∷◌, ◌≡◌, ◌≤◌}
+use Rattle.std.proofs.Common.{Contains, Err, List, Ok, Some, [], ap, inr, append_assoc, length, length-append, refl, subst, sym, take, arith, ℕ, ◌++◌, ◌+◌, ◌<◌, ◌∙◌, ◌∷◌, ◌≡◌, ◌≤◌}
 use Rattle.std.proofs.lemmas.List.Elements.{Contains-append_left}
 use Rattle.std.specs.List.{slice_get}
 use Rattle.notes.specs.Lists.{Grows, at}
@@ -12,6 +12,7 @@ use Rattle.tx_events.specs.declared.refusal.Refusal.{Refusal}
 use Rattle.tx_events.specs.declared.refusal.Refusal.TheVariants as refusals
 use Rattle.tx_events.specs.Multis.{IsKnown, made, made_by, next_made}
 use Rattle.tx_core.specs.declared.entry.Entry.{Entry}
+use Rattle.tx_core.specs.declared.entry.Kind.TheVariants as kinds
 use Rattle.tx_core.specs.declared.entry.Start.{Start}
 use Rattle.tx_core.specs.Locks.{members_lock, offsets_lock}
 use Rattle.tx_core.specs.MultiEntries.{AreFewMultis, multi_history}
@@ -24,7 +25,9 @@ use Rattle.engine_parts.specs.Sessions.{by_at}
 use Rattle.engine_parts.specs.Steps.{WentMulti}
 use Rattle.engine_parts.proofs.Leaving.{grows_then}
 use Rattle.multi_sections.specs.Pinnings.{TakesPin, hold_event, unhold_event}
-use Rattle.xact_reads.specs.Multis.{IsNotRead, IsUnseen, PinsOnce, WasPinned}
+use Rattle.multi_members.specs.declared.slot.Slot.{Slot}
+use Rattle.xact_reads.specs.Multis.{AreItsSlots, IsNotRead, IsUnseen, PinsOnce, ReadsMulti, WasPinned}
+use Rattle.xact_reads.proofs.Gathering.{its_later}
 use Rattle.xact_reads.proofs.Pinning.{multi_then}
 
 stands_at : (xs ys : List MultiEvent) (x : MultiEvent) → slice_get (xs ++ x ∷ ys) (length xs) ≡ Some x
@@ -52,7 +55,7 @@ met_later lists more lock by g f =
       cut = f.cut;
       count = f.count;
       hit = f.hit;
-      stands = subst (λ (es : List Entry). Contains es _) b.1 (Contains-append_left (at lists lock) b.0 _ f.stands);
+      stands = subst (λ (es : List Entry). Contains es (record { by = f.adder; kind = kinds.Fault f.callers f.changes f.cut f.count })) b.1 (Contains-append_left (at lists lock) b.0 (record { by = f.adder; kind = kinds.Fault f.callers f.changes f.cut f.count }) f.stands);
     }
 
 module _ (start : Start) (n : ℕ) (s : Session) (m : ℕ) (v a : List (List Entry)) (held : Held) (t : TakesPin start n s m v a (Ok held)) where
@@ -84,7 +87,7 @@ module _ (start : Start) (n : ℕ) (s : Session) (m : ℕ) (v a : List (List Ent
         place = length before;
         stands = pin_stands w g;
         near = ap (λ (h : List MultiEvent). near_id (next_made start.base.multi h) m) (pin_front w g) ∙ t.4.near;
-        known = subst (IsKnown start.base) (sym (pin_front w g)) t.4.known;
+        known = subst (λ (h : List MultiEvent). IsKnown start.base h held.multi) (sym (pin_front w g)) t.4.known;
       }
 
   -- why its members weren't read
@@ -106,3 +109,10 @@ module _ (start : Start) (n : ℕ) (s : Session) (m : ℕ) (v a : List (List Ent
   unread_unseen told b w full (refusals.DiskFault (locks.Offsets bank)) first second went u = met_later b w (offsets_lock bank) (by_at n s.levels.commands) second u
   unread_unseen told b w full (refusals.DiskFault (locks.Members bank)) first second went u = met_later b w (members_lock bank) (by_at n s.levels.commands) second u
   unread_unseen told b w full r first second went u = absurd u
+
+  -- what the reads tell of the call
+  pub reads_done : (told : Type 0) (b w : List (List Entry)) (slots : List Slot) → WentMulti n [] a b → WentMulti n (unhold_event n s held.multi ∷ []) b w → (told → AreFewMultis b → AreItsSlots start b held.multi slots) → ReadsMulti start told n s m v w slots (Ok (tt {0}))
+  reads_done told b w slots second third its = (held.multi, pins_once b w second third, λ yes few. its_later start b w held.multi slots third.grows (its yes (few_multis_before b w third.grows few)))
+
+  pub reads_refused : (told : Type 0) (b w : List (List Entry)) (slots : List Slot) (full : IsFullMulti held.multi) (r : Refusal) → WentMulti n [] a b → WentMulti n (unhold_event n s held.multi ∷ []) b w → IsNotRead start told b (by_at n s.levels.commands) held r → ReadsMulti start told n s m v w slots (Err r)
+  reads_refused told b w slots full r second third u = inr (held.multi, pins_once b w second third, unread_unseen told b w full r second.grows third.grows t.0 u)

@@ -5,9 +5,12 @@ use Rattle.std.specs.List.{filter, fold}
 use Rattle.notes.specs.Lists.{Begins, Grows}
 use Rattle.tx_events.specs.declared.event.By.{By}
 use Rattle.tx_events.specs.declared.event.Event.{Event}
+use Rattle.tx_events.specs.Ids.{IsFullMulti, low_half}
 use Rattle.tx_events.specs.declared.multi.MultiEvent.{MultiEvent}
+use Rattle.tx_events.specs.declared.record.Counters.{Counters}
 use Rattle.tx_events.specs.Events.{is_of}
 use Rattle.tx_events.specs.Multis.{Pin, multi_by, next_made, oldest_multi, pins, pins_after}
+use Rattle.tx_events.proofs.Nearness.{near_is}
 use Rattle.tx_events.proofs.Membership.{Has, contains_has, has_contains, none_passes}
 use Rattle.tx_core.specs.declared.entry.Entry.{Entry}
 use Rattle.tx_core.specs.declared.entry.Start.{Start}
@@ -20,7 +23,7 @@ use Rattle.tx_core.proofs.Rising.{multis_grow}
 use Rattle.engine_parts.proofs.Leaving.{grows_then}
 use Rattle.engine_parts.specs.Steps.{WentMulti, WentOn}
 use Rattle.multi_store.specs.declared.answers.Held.{Held}
-use Rattle.multi_sections.specs.Pinnings.{Pins}
+use Rattle.multi_sections.specs.Pinnings.{IsPinned, Pins}
 use Rattle.xact_reads.specs.Multis.{WasPinned}
 
 -- ---- steps
@@ -72,3 +75,7 @@ pinned_later start lists more held g p =
       pinned = p.pinned;
       full = p.full;
     }
+
+-- what a number means that isn't 0 is a full multixact
+pub full_of : (base : Counters) (before : List MultiEvent) (m : ℕ) (held : Held) → IsPinned base before m held → 1 ≤ low_half m → IsFullMulti held.multi
+full_of base before m held p some = let low = (near_is (next_made base.multi before) m held.multi p.near).0 in omega (arith, low, some)

@@ -38,15 +38,17 @@ use Rattle.xact_reads.proofs.Standings.{Stood, stood}
 pub full_is : (offset end low : ℕ) → low ≡ low_half offset → offset ≤ end → end < offset + 2 ^ 32 → full_upto end low ≡ offset
 full_is offset end low is upto near =
     let back : (end + 2 ^ 32 - low) % 2 ^ 32 ≡ end - offset = omega arith in
-    ap (λ b. cond (nat_le b end) (end - b) low) back ∙ within (end - offset) offset end low (omega arith) (omega arith)
+    let same : full_upto end low ≡ cond (nat_le (end - offset) end) (end - (end - offset)) low = subst (λ (b : ℕ). full_upto end low ≡ cond (nat_le b end) (end - b) low) back refl in
+    same ∙ within (end - offset) offset end low (omega arith) (omega arith)
   where
     within : (b offset end low : ℕ) → b ≤ end → end - b ≡ offset → cond (nat_le b end) (end - b) low ≡ offset
-    within b offset end low le same = ap (λ (c : Bool). cond c (end - b) low) (grind (arith, nat_tests)) ∙ same
+    within b offset end low le same = let upto : nat_le b end ≡ true = grind (arith, nat_tests) in ap (λ (c : Bool). cond c (end - b) low) upto ∙ same
 
 pub between_is : (begin end : ℕ) (ends : Ends) → ends.begin ≡ low_half begin → ends.end ≡ low_half end → begin ≤ end → end ≤ begin + 65 → slots_between ends ≡ end - begin
 between_is begin end ends b e le near =
     let between : (ends.end + 2 ^ 32 - ends.begin) % 2 ^ 32 ≡ end - begin = omega arith in
-    ap (λ n. min 65 n) between ∙ least (end - begin) (omega arith)
+    let same : slots_between ends ≡ min 65 (end - begin) = subst (λ (n : ℕ). slots_between ends ≡ min 65 n) between refl in
+    same ∙ least (end - begin) (omega arith)
   where
     least : (n : ℕ) → n ≤ 65 → min 65 n ≡ n
     least n le = grind arith
@@ -198,25 +200,25 @@ module _ (start : Start) (lists : List (List Entry)) (k : EngineInvariant start 
       spans end is at upto =
           let most = here.1.fit.most in
           let exact : end ≡ e.offset + length members → Spanned start lists held ends = λ q.
-              let count = between_is e.offset end ends e.begin is (omega (arith, q)) (omega (arith, q, most)) in
-              record {
-                members = members;
-                offset = e.offset;
-                stood = here.1;
-                full = full;
-                to = omega (arith, count, q, upto);
-                counts = inl (omega (arith, count, q));
-              } in
+          let count = between_is e.offset end ends e.begin is (omega (arith, q)) (omega (arith, q, most)) in
+          record {
+            members = members;
+            offset = e.offset;
+            stood = here.1;
+            full = full;
+            to = omega (arith, count, q, upto);
+            counts = inl (omega (arith, count, q));
+          } in
           let skips : end ≡ e.offset + length members + 1 → low_half (e.offset + length members) ≡ 0 → Spanned start lists held ends = λ q low.
-              let count = between_is e.offset end ends e.begin is (omega (arith, q)) (omega (arith, q, most)) in
-              record {
-                members = members;
-                offset = e.offset;
-                stood = here.1;
-                full = full;
-                to = omega (arith, count, q, upto);
-                counts = inr (omega (arith, count, q), record { low = low; first = e.offset; members = members; before = whose_members; end = refl });
-              } in
+          let count = between_is e.offset end ends e.begin is (omega (arith, q)) (omega (arith, q, most)) in
+          record {
+            members = members;
+            offset = e.offset;
+            stood = here.1;
+            full = full;
+            to = omega (arith, count, q, upto);
+            counts = inr (omega (arith, count, q), record { low = low; first = e.offset; members = members; before = whose_members; end = refl });
+          } in
           ⊎_elim
           (λ (q : end ≡ first_member (e.offset + length members)). ⊎_elim
           (λ same. exact (q ∙ same))

@@ -58,10 +58,13 @@ judged_fault start lists by id r u = ⊎_elim (λ (q : IsStateUnread start lists
 
 -- ---- slot by slot
 
-pub take_one : (xs : List Slot) (i : ℕ) (d : Slot) → i < length xs → take (i + 1) xs ≡ take i xs ++ slice_index_or xs i d ∷ []
+take_one : (xs : List Slot) (i : ℕ) (d : Slot) → i < length xs → take (suc i) xs ≡ take i xs ++ slice_index_or xs i d ∷ []
 take_one [] i d lt = absurd (omega arith)
 take_one (x ∷ xs) zero d lt = refl
 take_one (x ∷ xs) (suc i) d lt = ap (λ (t : List Slot). x ∷ t) (take_one xs i d (omega arith))
+
+pub next_place : (xs : List Slot) (i : ℕ) (d : Slot) → i < length xs → take (i + 1) xs ≡ take i xs ++ slice_index_or xs i d ∷ []
+next_place xs i d lt = let one : i + 1 ≡ suc i = omega arith in ap (λ n. take n xs) one ∙ take_one xs i d lt
 
 pub judged_slot : (start : Start) (lists : List (List Entry)) (k : RegisteredSnapshot) (slots : List Slot) (slot : Slot) (old new : List MemberVerdict) → AreJudged start lists k (filter_map pair_in slots) old → JudgesSlot start lists k (pair_in slot) old new → AreJudged start lists k (filter_map pair_in (slots ++ slot ∷ [])) new
 judged_slot start lists k slots slot old new before one =

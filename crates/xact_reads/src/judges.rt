@@ -189,7 +189,8 @@ fn judge_slot<R: Passing, L: LogDisk, P: PageDisk>(
             }
             Err(refusal) => Err(refusal),
         },
-        Slot::Unused | Slot::Odd { .. } => Ok(()),
+        Slot::Unused => Ok(()),
+        Slot::Odd { .. } => Ok(()),
     }
 }
 

@@ -100,7 +100,7 @@ pub(crate) fn ends_of<R: Passing, L: LogDisk, P: PageDisk>(
         Err(refusal) => return Err(refusal),
     };
     if held.last {
-        let end = (held.end & 0xffff_ffff) as u32;
+        let end = (held.end % 0x1_0000_0000) as u32;
         return Ok(Ends { begin, end });
     }
     let next = held.multi.advance();
@@ -131,9 +131,5 @@ pub(crate) fn slots_in(ends: Ends) -> u32
     ensures { result ≡ slots_between ends }
 {
     let between = (u64::from(ends.end) + 0x1_0000_0000 - u64::from(ends.begin)) & 0xffff_ffff;
-    if between < 65 {
-        between as u32
-    } else {
-        65
-    }
+    if between < 65 { between as u32 } else { 65 }
 }

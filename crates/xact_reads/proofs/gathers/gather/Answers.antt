@@ -21,7 +21,7 @@ returns-then-count-eq0-clause-slots g c told few =
     let start = start_of c.args.hall.now in
     let old = c.args.caller.now in
     let v = (view old.pass).seen in
-    let u = (view c.ends_of-ends.new.caller.pass).seen in
+    let u = (view c.ends_of.new.caller.pass).seen in
     let e = c.in-Ok.ensures in
     let p = pinned_later start v u c.args.held.now e.went.grows c.requires.pinned in
     let from = pinned_from start u old.number c.args.held.now.multi e.ready.at.kept (pins_kept old.number c.args.held.now.multi v u e.went c.requires.pins) in
@@ -32,33 +32,33 @@ pub read_slots-requires-clause-small : goal.read_slots-requires-clause-small
 read_slots-requires-clause-small g c =
     let start = start_of c.args.hall.now in
     let e = c.in-Ok.ensures in
-    let small = end_small start (view c.ends_of-ends.new.caller.pass).seen c.args.held.now e.ready.at.base e.ready.at.kept (pinned_later start (view c.args.caller.now.pass).seen (view c.ends_of-ends.new.caller.pass).seen c.args.held.now e.went.grows c.requires.pinned) in
+    let small = end_small start (view c.ends_of.new.caller.pass).seen c.args.held.now e.ready.at.base e.ready.at.kept (pinned_later start (view c.args.caller.now.pass).seen (view c.ends_of.new.caller.pass).seen c.args.held.now e.went.grows c.requires.pinned) in
     let upto = c.offset_in_full-offset.ensures.upto in
     omega (arith, small, upto)
 
 pub returns-in-Ok-read_slots-clause-went : goal.returns-in-Ok-read_slots-clause-went
 returns-in-Ok-read_slots-clause-went g c =
-    let u = c.ends_of-ends.new.caller in
+    let u = c.ends_of.new.caller in
     let e = c.in-Ok.ensures in
     multi_both c.args.caller.now.number u.number (view c.args.caller.now.pass).seen (view u.pass).seen (view c.read_slots.new.caller.pass).seen e.same.1 e.went c.in-Ok-read_slots.ensures.went
 
 pub returns-in-Err-read_slots-clause-went : goal.returns-in-Err-read_slots-clause-went
 returns-in-Err-read_slots-clause-went g c =
-    let u = c.ends_of-ends.new.caller in
+    let u = c.ends_of.new.caller in
     let e = c.in-Ok.ensures in
     multi_both c.args.caller.now.number u.number (view c.args.caller.now.pass).seen (view u.pass).seen (view c.read_slots.new.caller.pass).seen e.same.1 e.went c.in-Err-read_slots.ensures.went
 
 pub returns-in-Ok-read_slots-clause-adds : goal.returns-in-Ok-read_slots-clause-adds
 returns-in-Ok-read_slots-clause-adds g c =
     let old = c.args.caller.now in
-    let u = c.ends_of-ends.new.caller in
+    let u = c.ends_of.new.caller in
     let e = c.in-Ok.ensures in
     read_adds old.number u.number old.session u.session IsPlain (view old.pass).seen (view u.pass).seen (view c.read_slots.new.caller.pass).seen e.same.1 e.same.0 (λ lock kind m. m) e.adds c.in-Ok-read_slots.ensures.adds
 
 pub returns-in-Err-read_slots-clause-adds : goal.returns-in-Err-read_slots-clause-adds
 returns-in-Err-read_slots-clause-adds g c =
     let old = c.args.caller.now in
-    let u = c.ends_of-ends.new.caller in
+    let u = c.ends_of.new.caller in
     let e = c.in-Ok.ensures in
     read_adds old.number u.number old.session u.session (MayMeet c.in-Err-read_slots.refusal) (view old.pass).seen (view u.pass).seen (view c.read_slots.new.caller.pass).seen e.same.1 e.same.0 (plain_meets c.in-Err-read_slots.refusal) e.adds c.in-Err-read_slots.ensures.adds
 
@@ -68,12 +68,12 @@ returns-in-Ok-read_slots-clause-slots g c told few =
     let held = c.args.held.now in
     let old = c.args.caller.now in
     let v = (view old.pass).seen in
-    let u = (view c.ends_of-ends.new.caller.pass).seen in
+    let u = (view c.ends_of.new.caller.pass).seen in
     let w = (view c.read_slots.new.caller.pass).seen in
     let e = c.in-Ok.ensures in
     let f = c.in-Ok-read_slots.ensures in
     let few_then = few_multis_before u w f.went.grows few in
-    let went = multi_both old.number c.ends_of-ends.new.caller.number v u w e.same.1 e.went f.went in
+    let went = multi_both old.number c.ends_of.new.caller.number v u w e.same.1 e.went f.went in
     let p = pinned_later start v u held e.went.grows c.requires.pinned in
     let from = pinned_from start u old.number held.multi e.ready.at.kept (pins_kept old.number held.multi v u e.went c.requires.pins) in
     let later = pinned_from start w old.number held.multi f.ready.at.kept (pins_kept old.number held.multi v w went c.requires.pins) in

@@ -41,7 +41,10 @@ returns-in-Ok-read_page-clause-slots g c told few from to =
     let first : c.args.offset ≤ free_offset start.base.offset (multi_history v) = omega (arith, to) in
     let up = oldest_offset_up start u w f.ready.at.base f.ready.at.kept f.went.grows in
     let a = e.slots told (few_multis_before u w f.went.grows few) (omega (arith, up, from)) first in
-    let b = f.slots told few (omega (arith, from)) (free_later start v u (c.args.offset + here) e.ready.at.base e.ready.at.kept e.went.grows behind) in
+    let same : c.from.result ≡ here = c.from.ensures in
+    let at : c.args.offset + c.from.result ≤ free_offset start.base.offset (multi_history v) = omega (arith, same, behind) in
+    let second = f.slots told few (omega (arith, from)) (free_later start v u (c.args.offset + c.from.result) e.ready.at.base e.ready.at.kept e.went.grows at) in
+    let b = subst (λ z. AreReadFrom start u (c.args.offset + z) (c.args.count - here) c.read_page.new.into.items c.read_page-2.new.into.items) same second in
     let joined = read_joined start v c.args.offset here (c.args.count - here) c.args.into.now.items c.read_page.new.into.items c.read_page-2.new.into.items a (read_since start v u (c.args.offset + here) (c.args.count - here) c.read_page.new.into.items c.read_page-2.new.into.items e.went.grows (few_multis_before u w f.went.grows few) b) in
     let all : here + (c.args.count - here) ≡ c.args.count = omega (arith, some1) in
     subst (λ n. AreReadFrom start v c.args.offset n c.args.into.now.items c.read_page-2.new.into.items) all joined

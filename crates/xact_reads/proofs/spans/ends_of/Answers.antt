@@ -2,7 +2,6 @@ use Rattle.std.proofs.Common.{IsTrue, None, Option, Some, arith, inl, inr, refl,
 use Rattle.std.proofs.lemmas.Bool.{false≢true}
 use Rattle.hall.specs.Calls.{view, start_of}
 use Rattle.tx_events.specs.Ids.{low_half, next_multi}
-
 use Rattle.tx_events.specs.declared.refusal.Refusal.TheVariants as refusals
 use Rattle.engine_parts.specs.Adding.{IsPlain, MayMeet}
 use Rattle.engine_parts.proofs.Adding.{adds_wider, plain_meets}

@@ -1,0 +1,85 @@
+-- What a trim leaves.
+use Rattle.std.specs.Prelude.{◌≡◌, ℕ, ◌+◌, ◌<◌, ◌≤◌, true, List, Result, Some, length, slice_get, take}
+use Rattle.notes.specs.Lists.{at}
+use Rattle.tx_events.specs.Horizon.{oldest_xmin}
+use Rattle.tx_events.specs.Ids.{id_before}
+use Rattle.tx_events.specs.Pages.{member_page_in_full, offset_page}
+use Rattle.tx_events.specs.declared.event.By.{By}
+use Rattle.tx_events.specs.declared.record.Rec.{Rec}
+use Rattle.tx_events.specs.declared.record.Rec.TheVariants as records
+use Rattle.tx_events.specs.declared.refusal.Lock.{Lock}
+use Rattle.tx_events.specs.declared.refusal.Lock.TheVariants as locks
+use Rattle.tx_events.specs.declared.refusal.Refusal.{Refusal}
+use Rattle.tx_events.specs.declared.refusal.Refusal.TheVariants as refusals
+use Rattle.store_pages.specs.Layouts.{multi_before}
+use Rattle.tx_core.specs.declared.entry.Entry.{Entry}
+use Rattle.tx_core.specs.declared.entry.Kind.{Kind}
+use Rattle.tx_core.specs.declared.entry.Kind.TheVariants as kinds
+use Rattle.tx_core.specs.declared.entry.Start.{Start}
+use Rattle.tx_core.specs.Entries.{Stands, history, records_of}
+use Rattle.tx_core.specs.Locks.{log_lock, members_lock, number_of, offsets_lock, subtrans_lock, subtrans_page, xact_lock, xact_page}
+use Rattle.engine_parts.specs.Adding.{IsToldBy, IsTruncation, MayAddBy}
+use Rattle.engine_parts.specs.Answers.{MetFault, MetLogFault}
+use Rattle.engine_parts.specs.Stand.{IsDownAt, IsSubtransReach, IsXactReach, first_subtrans_page}
+
+-- what a step of a trim adds, by its result
+abbrev pub MayTrim : {T : Type 0} → Result T Refusal → ℕ → Kind → Type 0
+MayTrim result = MayAddBy true IsTruncation (Unit {0}) (IsToldBy result)
+
+-- the lock is that of a bank
+abbrev pub IsOfBank : Lock → Type 0
+IsOfBank (locks.Xact bank) = Unit {0}
+IsOfBank (locks.Subtrans bank) = Unit {0}
+IsOfBank (locks.Offsets bank) = Unit {0}
+IsOfBank (locks.Members bank) = Unit {0}
+IsOfBank lock = ⊥
+
+-- Why a step of a trim was refused: memory was wanting, the log is full, or down, or its volume failed, or that of a bank
+-- did.
+abbrev pub IsTrimMet : Start → List (List Entry) → By → Refusal → Type 0
+IsTrimMet start lists by refusals.Memory = Unit {0}
+IsTrimMet start lists by refusals.Full = Unit {0}
+IsTrimMet start lists by refusals.LogFault = MetLogFault lists by × ((down : ℕ) × IsDownAt start (at lists log_lock) down)
+IsTrimMet start lists by (refusals.LogDown down) = IsDownAt start (at lists log_lock) down
+IsTrimMet start lists by (refusals.DiskFault lock) = IsOfBank lock × MetFault lists (number_of lock) by
+IsTrimMet start lists by r = ⊥
+
+-- the command appended the record, which is below the number of a flush
+pub record HasFlushed (start : Start) (lists : List (List Entry)) (by : By) (rec : Rec) : Type 0 where
+  pub place : ℕ
+  pub to : ℕ
+  pub stands : slice_get (records_of lists) place ≡ Some (by, rec)
+  pub past : start.from + place < to
+  pub flushed : Stands lists log_lock (kinds.Flush to)
+
+-- the oldest xmin was so at some place of the history
+abbrev pub WasOldestXmin : Start → List (List Entry) → ℕ → Type 0
+WasOldestXmin start lists xmin =
+    (place : ℕ) × (place ≤ length (history lists)) × (xmin ≡ oldest_xmin start.base.next (take place (history lists)))
+
+-- the page of pg_subtrans up to which a life cuts
+abbrev pub IsParentsReach : Start → ℕ → Type 0
+IsParentsReach start page = (first_subtrans_page start ≤ page) × IsSubtransReach start page
+
+-- The bank of this number was cut in each store: what lies before these numbers was let go. Of pg_xact and pg_subtrans where
+-- the page is in the life's reach.
+pub record AreCut (start : Start) (lists : List (List Entry)) (oldest xmin multi offset bank : ℕ) : Type 0 where
+  pub states : IsXactReach start (xact_page oldest) → Stands lists (xact_lock bank) (kinds.Cut (xact_page oldest))
+  pub parents : IsParentsReach start (subtrans_page (id_before xmin))
+      → Stands lists (subtrans_lock bank) (kinds.Cut (subtrans_page (id_before xmin)))
+  pub offsets : Stands lists (offsets_lock bank) (kinds.Cut (offset_page (multi_before multi)))
+  pub members : Stands lists (members_lock bank) (kinds.Cut (member_page_in_full offset))
+
+-- The command's truncation is on disk, and each bank of the four stores was cut by it, pg_subtrans by an oldest xmin.
+pub record HasTrimmed (start : Start) (lists : List (List Entry)) (by : By) : Type 0 where
+  pub place : ℕ
+  pub to : ℕ
+  pub oldest : ℕ
+  pub multi : ℕ
+  pub offset : ℕ
+  pub stands : slice_get (records_of lists) place ≡ Some (by, records.Truncate oldest multi offset)
+  pub past : start.from + place < to
+  pub flushed : Stands lists log_lock (kinds.Flush to)
+  pub xmin : ℕ
+  pub was : WasOldestXmin start lists xmin
+  pub cut : (bank : ℕ) → bank < start.banks → AreCut start lists oldest xmin multi offset bank

@@ -1,6 +1,6 @@
 -- A trim, step by step.
 use Rattle.std.proofs.lemmas.List.{length-map}
-use Rattle.std.proofs.Common.{Contains, ◌≡◌, ⊎_elim, inl, ℕ, Bool, None, IsTrue, append-nil, ◌+◌, ◌-◌, ◌<◌, ◌≤◌, true, List, [], ◌∷◌, ◌++◌, Some, Result, Ok, Err, IfOk, IfErr, MatchResult, length, length-append, slice_get, take_all, refl, sym, ap, subst, ◌∙◌, arith}
+use Rattle.std.proofs.Common.{Contains, ◌≡◌, ⊎_elim, inl, inr, ℕ, Bool, None, IsTrue, append-nil, ◌+◌, ◌-◌, ◌<◌, ◌≤◌, true, List, [], ◌∷◌, ◌++◌, Some, Result, Ok, Err, IfOk, IfErr, MatchResult, length, length-append, slice_get, take_all, refl, sym, ap, subst, ◌∙◌, arith}
 use Rattle.std.proofs.lemmas.List.Elements.{filter_map-append}
 use Rattle.disk_core.specs.declared.log_disk.LogDisk as logs
 use Rattle.disk_core.specs.declared.page_disk.PageDisk as disks

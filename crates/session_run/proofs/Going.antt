@@ -33,7 +33,7 @@ use Rattle.engine_parts.specs.declared.session.Session.{Session}
 use Rattle.engine_parts.specs.declared.session.Stage.TheVariants as stages
 use Rattle.engine_parts.specs.Answers.{Acted}
 use Rattle.engine_parts.specs.Calls.{next_command}
-use Rattle.engine_parts.specs.Makings.{KeepsMaking}
+use Rattle.engine_parts.specs.Makings.{KeepsMaking, has_more_multis}
 use Rattle.engine_parts.specs.Sessions.{MayCall, by_at, stance_of}
 use Rattle.engine_host.specs.declared.host.Host.{Host}
 use Rattle.session_levels.specs.Stands.{IsFresh}

@@ -34,7 +34,8 @@ use Rattle.engine_life.specs.declared.closed.ClosedLife.{ClosedLife}
 use Rattle.engine_life.specs.Lives.{number_of}
 use Rattle.session_promise.specs.Closing as closing
 use Rattle.session_promise.specs.Told.{ToldRound, all_lines, steps_of}
-use Rattle.session_promise.proofs.FewIds.{levels_bound_ids, lines_bound_multis}
+use Rattle.session_promise.proofs.FewIds.{levels_bound_ids}
+use Rattle.session_promise.proofs.FewMultis.{lines_bound_multis}
 use Rattle.session_promise.proofs.LawfulLives.{promises_make_life}
 use Rattle.session_promise.proofs.Between.{lines_of_rounds, step_lines}
 use Rattle.session_run.specs.OneLife.{life_of}

@@ -1,12 +1,22 @@
-//! Worked histories for the replays, with numbers from the rules (docs/HISTORY.md, docs/MULTIXACTS.md).
+//! Worked histories for the replays and for what the checker keeps of them, with numbers from the rules (docs/HISTORY.md,
+//! docs/MULTIXACTS.md, docs/PAGES.md, docs/CHECKER.md); and worked lines for the refusals that go by how a session stands
+//! (docs/SCRIPT-AND-REPORT.md).
 #![tactic(auto)]
 
 #[cfg(test)]
 mod driver;
 #[cfg(test)]
+mod hold_driver;
+#[cfg(test)]
+mod hold_tests;
+#[cfg(test)]
 mod legal_tests;
 #[cfg(test)]
 mod line_tests;
+#[cfg(test)]
+mod mark_driver;
+#[cfg(test)]
+mod mark_tests;
 #[cfg(test)]
 mod multi_driver;
 #[cfg(test)]
@@ -15,3 +25,5 @@ mod multi_tests;
 mod place_tests;
 #[cfg(test)]
 mod replay_tests;
+#[cfg(test)]
+mod standing_tests;

@@ -1,5 +1,5 @@
 -- What one step after another adds to a list.
-use Rattle.std.proofs.Common.{◌≡◌, ℕ, ◌+◌, ◌<◌, List, [], ◌∷◌, ◌++◌, append_assoc, length, length-set, sym, ap, subst, ◌∙◌}
+use Rattle.std.proofs.Common.{◌≡◌, ℕ, ◌<◌, List, [], ◌∷◌, ◌++◌, append_assoc, length, length-set, sym, ap, subst, ◌∙◌}
 use Rattle.notes.specs.Lists.{add, at}
 use Rattle.notes.proofs.Growing.{at_else, at_here}
 use Rattle.tx_core.specs.declared.entry.Entry.{Entry}

@@ -1,7 +1,7 @@
 pub mod Adding
 pub mod Counting
 pub mod Wrote
-pub mod Forgetting
 pub mod Hosts
+pub mod Forgetting
 pub mod Outcomes
 pub mod Parked

@@ -7,6 +7,7 @@ use Rattle.notes.specs.Lists.{at}
 use Rattle.tx_events.specs.Places.{EachPlace}
 use Rattle.tx_events.specs.declared.event.By.{By}
 use Rattle.tx_events.specs.declared.event.Event.{Event}
+use Rattle.tx_events.specs.declared.multi.MultiEvent.{MultiEvent}
 use Rattle.tx_events.specs.declared.record.Rec.{Rec}
 use Rattle.tx_events.specs.declared.record.Rec.TheVariants as records
 use Rattle.tx_events.specs.declared.refusal.Lock.{Lock}
@@ -24,6 +25,7 @@ use Rattle.tx_core.specs.declared.entry.Kind.TheVariants as kinds
 use Rattle.tx_core.specs.declared.entry.Start.{Start}
 use Rattle.tx_core.specs.EngineInvariant.{EngineInvariant}
 use Rattle.tx_core.specs.Entries.{events_in, flushed_in, flushed_to, recs_in}
+use Rattle.tx_core.specs.MultiEntries.{multis_in}
 use Rattle.tx_core.specs.FaultsRise.{count_in, faults_at, faults_told}
 use Rattle.tx_core.specs.Locks.{log_lock, multi_lock, number_of, proc_lock}
 use Rattle.tx_core.specs.StaysDown.{IsUp, UpOf}
@@ -50,11 +52,12 @@ up_before start es e new k is =
     each_place_last Rule es e (subst (λ (t : List Entry). EachPlace t Rule) is (k.down.each.each log_lock))
 
 -- the log's list went on so, the ProcArray's didn't
-went_so : (start : Start) (old new : List (List Entry)) (added : List Entry) (reply : Reply) → AddsHosts start old new → at new log_lock ≡ at old log_lock ++ added → AreHosts start added → at new proc_lock ≡ at old proc_lock → AddsFor start old added reply → (reply ≡ replies.Done → IsFlushedBelow new (start.from + length (recs_of new))) → Went start old new reply
-went_so start old new added reply hosts log theirs proc adds flushed = record {
+went_so : (start : Start) (old new : List (List Entry)) (added : List Entry) (reply : Reply) → AddsHosts start old new → at new log_lock ≡ at old log_lock ++ added → AreHosts start added → at new proc_lock ≡ at old proc_lock → at new multi_lock ≡ at old multi_lock → AddsFor start old added reply → (reply ≡ replies.Done → IsFlushedBelow new (start.from + length (recs_of new))) → Went start old new reply
+went_so start old new added reply hosts log theirs proc multis adds flushed = record {
   grows = hosts_grow start old new hosts;
   idle = hosts_idle start old new hosts;
   same_history = ap events_in proc;
+  same_multis = ap multis_in multis;
   added = added;
   log = log;
   theirs = theirs;
@@ -116,7 +119,7 @@ module _ (start : Start) (by : By) (old : List (List Entry)) (his : by.session �
       let fault : Entry = flush_fault_by by a.count in
       let one = adds_one log_lock fault old new inside a.adds in
       subst (λ (q : Refusal). Told start old new (replies.Refused q)) (sym is) (record {
-        went = went_so start old new (fault ∷ []) (replies.Refused refusals.LogFault) (hosts_at start log_lock (fault ∷ []) old new (his, tt) one) one.here (his, tt) (one.others proc_lock (λ q. omega (arith, q)))
+        went = went_so start old new (fault ∷ []) (replies.Refused refusals.LogFault) (hosts_at start log_lock (fault ∷ []) old new (his, tt) one) one.here (his, tt) (one.others proc_lock (λ q. omega (arith, q))) (one.others multi_lock (λ q. omega (arith, q)))
             (inl (record { recs_are = refl; faults_are = refl })) (λ q. absurd cc);
         fault = log_failed new es fault a.count refl refl a.risen one.here;
         up = up_before start es fault new k one.here refl;
@@ -124,7 +127,7 @@ module _ (start : Start) (by : By) (old : List (List Entry)) (his : by.session �
       })
   flush_told T new (refused.LogDown down) r k a is =
       subst (λ (q : Refusal). Told start old new (replies.Refused q)) (sym is) (record {
-        went = went_so start old new [] (replies.Refused (refusals.LogDown down)) (hosts_none start old new a.same) (ap (λ (z : List (List Entry)). at z log_lock) a.same ∙ sym (append-nil es)) tt (ap (λ (z : List (List Entry)). at z proc_lock) a.same)
+        went = went_so start old new [] (replies.Refused (refusals.LogDown down)) (hosts_none start old new a.same) (ap (λ (z : List (List Entry)). at z log_lock) a.same ∙ sym (append-nil es)) tt (ap (λ (z : List (List Entry)). at z proc_lock) a.same) (ap (λ (z : List (List Entry)). at z multi_lock) a.same)
             (refl, a.is_down) (λ q. absurd cc);
         fault = λ lock q. absurd cc;
         up = tt;
@@ -154,7 +157,7 @@ module _ (start : Start) (by : By) (old : List (List Entry)) (his : by.session �
         let same : (k : ℕ) → k < 3 → at new k ≡ at mid k = λ k few. a.fails.others k (λ q. omega (arith, q, few, low)) ∙ a.synced.others k (λ b c. omega (arith, b, few)) in
         let here : at new m ≡ at old m ++ fault ∷ [] = a.fails.here ∙ ap (λ (t : List Entry). t ++ fault ∷ []) (a.synced.others m (λ b c. omega (arith, c)) ∙ f.others m (λ q. omega (arith, q, low))) in
         record {
-          went = went_so start old new (flush ∷ []) (replies.Refused (refusals.DiskFault lock)) hosts (same log_lock (omega arith) ∙ f.here) (his, tt) (same proc_lock (omega arith) ∙ f.others proc_lock (λ q. omega (arith, q)))
+          went = went_so start old new (flush ∷ []) (replies.Refused (refusals.DiskFault lock)) hosts (same log_lock (omega arith) ∙ f.here) (his, tt) (same proc_lock (omega arith) ∙ f.others proc_lock (λ q. omega (arith, q))) (same multi_lock (omega arith) ∙ f.others multi_lock (λ q. omega (arith, q)))
               (bank_of start.banks lock a.built, record { recs_are = refl; faults_are = refl }) (λ q. absurd cc);
           fault = λ other named. subst (HasFailed start old new) (same_Some lock other named) (record {
             built = built_of start.banks lock a.built;
@@ -177,7 +180,7 @@ module _ (start : Start) (by : By) (old : List (List Entry)) (his : by.session �
       proc_late : at late proc_lock ≡ at old proc_lock
       proc_late = first_three proc_lock (omega arith) ∙ f.others proc_lock (λ q. omega (arith, q))
 
-      pub multis_late : at late multi_lock ≡ at old multi_lock
+      multis_late : at late multi_lock ≡ at old multi_lock
       multis_late = first_three multi_lock (omega arith) ∙ f.others multi_lock (λ q. omega (arith, q))
 
       hosts_late : AddsHosts start old late
@@ -193,10 +196,10 @@ module _ (start : Start) (by : By) (old : List (List Entry)) (his : by.session �
       flushed_late = ap (flushed_to start) log_late ∙ (number_push flushed_in start.from es flush n refl ∙ sym next_late)
 
       mark_late : checkpoint_now start by late ≡ checkpoint_now start by old
-      mark_late = λ j. record { by = by; kind = kinds.Append (mark_of (next_late j) (ap events_in proc_late j)) }
+      mark_late = λ j. record { by = by; kind = kinds.Append (mark_of (next_late j) (ap events_in proc_late j) (ap multis_in multis_late j)) }
         where
-          mark_of : ℕ → List Event → Rec
-          mark_of number h = records.Checkpoint number (counters_behind start.base h)
+          mark_of : ℕ → List Event → List MultiEvent → Rec
+          mark_of number h all = records.Checkpoint number (counters_behind start.base h all)
 
       told_flush : faults_told start log_lock (es ++ flush ∷ []) ≡ faults_told start log_lock es
       told_flush = number_same count_in (faults_at start log_lock) es flush refl
@@ -213,12 +216,12 @@ module _ (start : Start) (by : By) (old : List (List Entry)) (his : by.session �
 
       went_late : (new : List (List Entry)) (more : List Entry) (reply : Reply) → AreHosts start more → AddsAt log_lock more late new → AddsFor start old (flush ∷ more) reply → (reply ≡ replies.Done → IsFlushedBelow new (start.from + length (recs_of new))) → Went start old new reply
       went_late new more reply theirs a adds flushed =
-          went_so start old new (flush ∷ more) reply (hosts_then start old late new hosts_late (hosts_at start log_lock more late new theirs a)) (behind new more a) (his, theirs) (a.others proc_lock (λ q. omega (arith, q)) ∙ proc_late) adds flushed
+          went_so start old new (flush ∷ more) reply (hosts_then start old late new hosts_late (hosts_at start log_lock more late new theirs a)) (behind new more a) (his, theirs) (a.others proc_lock (λ q. omega (arith, q)) ∙ proc_late) (a.others multi_lock (λ q. omega (arith, q)) ∙ multis_late) adds flushed
 
       -- nothing more was done
       stopped : (new : List (List Entry)) (r : Refusal) → new ≡ late → AddsFor start old (flush ∷ []) (replies.Refused r) → ((lock : Lock) → failed_volume (replies.Refused r) ≡ Some lock → ⊥) → IsOfUpLog old (replies.Refused r) → IsUntouched old new (replies.Refused r) → Told start old new (replies.Refused r)
       stopped new r same adds other up quiet = record {
-        went = subst (λ (z : List (List Entry)). Went start old z (replies.Refused r)) (sym same) (went_so start old late (flush ∷ []) (replies.Refused r) hosts_late log_late (his, tt) proc_late adds (λ q. absurd cc));
+        went = subst (λ (z : List (List Entry)). Went start old z (replies.Refused r)) (sym same) (went_so start old late (flush ∷ []) (replies.Refused r) hosts_late log_late (his, tt) proc_late multis_late adds (λ q. absurd cc));
         fault = λ lock q. absurd (other lock q);
         up = up;
         untouched = quiet;

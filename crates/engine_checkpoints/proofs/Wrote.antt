@@ -1,5 +1,5 @@
 -- What the steps of writing a checkpoint add to the log's list.
-use Rattle.std.proofs.Common.{◌≡◌, ℕ, ◌+◌, ◌<◌, List, [], ◌∷◌, ◌++◌, Err, Ok, Result, true, false, append_assoc, length, map, inl, inr, refl, sym, ap, subst, ◌∙◌, arith}
+use Rattle.std.proofs.Common.{◌≡◌, ℕ, ◌+◌, ◌<◌, List, [], ◌∷◌, ◌++◌, Err, Ok, Result, append_assoc, length, map, inl, inr, refl, sym, ap, subst, ◌∙◌, arith}
 use Rattle.std.proofs.lemmas.Bool.{false≢true}
 use Rattle.std.proofs.lemmas.List.{length_push, map_push}
 use Rattle.std.proofs.lemmas.List.Elements.{filter_map-append}
@@ -16,6 +16,7 @@ use Rattle.tx_core.specs.EngineInvariant.{EngineInvariant}
 use Rattle.tx_core.specs.Entries.{appended, flushed_to, history, records_in, recs_in}
 use Rattle.tx_core.specs.FaultsRise.{count_in, faults_at, faults_told}
 use Rattle.tx_core.specs.Locks.{log_lock}
+use Rattle.tx_core.specs.MultiEntries.{multi_history}
 use Rattle.tx_core.specs.StaysDown.{IsUp}
 use Rattle.tx_core.proofs.LastNumbers.{number_same}
 use Rattle.tx_core.proofs.LogBehind.{checkpoints_tell}
@@ -48,7 +49,7 @@ module _ (start : Start) (by : By) (seen : List (List Entry)) (inside : log_lock
   flush = flush_by by (n + 1)
 
   -- it was appended
-  pub marked : (counters : Counters) (number : ℕ) (new : List (List Entry)) → counters ≡ counters_behind start.base (history seen) → AddsCheckpoint start by counters seen new (Ok number) → AddsAt log_lock (mark ∷ []) seen new
+  pub marked : (counters : Counters) (number : ℕ) (new : List (List Entry)) → counters ≡ counters_behind start.base (history seen) (multi_history seen) → AddsCheckpoint start by counters seen new (Ok number) → AddsAt log_lock (mark ∷ []) seen new
   marked counters number new is a = adds_one log_lock mark seen new inside (a.1 ∙ (λ j. add seen log_lock (checkpoint_by by (a.0 j) (is j))))
 
   module _ (mid : List (List Entry)) (a : AddsAt log_lock (mark ∷ []) seen mid) where
@@ -101,11 +102,11 @@ module _ (start : Start) (by : By) (seen : List (List Entry)) (inside : log_lock
       before = es;
       appender = by;
       flusher = by;
-      counters = counters_behind start.base (history seen);
+      counters = counters_behind start.base (history seen) (multi_history seen);
       split = b.here;
       place = refl;
       flushed = flushed;
-      whole = checkpoints_tell start late es (flush ∷ []) by n (counters_behind start.base (history seen)) kept b.here;
+      whole = checkpoints_tell start late es (flush ∷ []) by n (counters_behind start.base (history seen) (multi_history seen)) kept b.here;
     }
 
     -- the forget is done, or it failed

@@ -11,6 +11,7 @@ use Rattle.tx_core.specs.declared.entry.Start.{Start}
 use Rattle.tx_core.specs.Entries.{history}
 use Rattle.tx_core.specs.FaultsRise.{faults_told}
 use Rattle.tx_core.specs.Locks.{log_lock, number_of}
+use Rattle.tx_core.specs.MultiEntries.{multi_history}
 use Rattle.wal_core.specs.declared.refusal.LogRefusal.{LogRefusal}
 use Rattle.wal_core.specs.declared.refusal.LogRefusal.TheVariants as refusals
 use Rattle.engine_parts.specs.Faults.{fault_by, flush_fault_by}
@@ -58,7 +59,7 @@ SyncsBanks start by from upto old new (Err lock) = FailsAt start by from upto lo
 -- the checkpoint of the counters as they stand, under the log's next number
 abbrev pub checkpoint_now : Start → By → List (List Entry) → Entry
 checkpoint_now start by lists =
-    checkpoint_by by (next_number start lists) (counters_behind start.base (history lists))
+    checkpoint_by by (next_number start lists) (counters_behind start.base (history lists) (multi_history lists))
 
 -- the log's volume failed in the flush of the checkpoint, or in the forget before it
 pub record FailsBehind (start : Start) (by : By) (old new : List (List Entry)) : Type 0 where

@@ -13,11 +13,12 @@ use Rattle.tx_core.specs.declared.entry.Start.{Start}
 use Rattle.tx_core.specs.Entries.{history, session_of}
 use Rattle.tx_core.specs.FaultsRise.{faults_told}
 use Rattle.tx_core.specs.Locks.{log_lock, multi_lock, number_of, proc_lock}
+use Rattle.tx_core.specs.MultiEntries.{multi_history}
 use Rattle.tx_core.specs.StaysDown.{IsUp}
 use Rattle.engine_parts.specs.declared.session.Session.{Session}
 use Rattle.host_sections.specs.HostEntries.{flush_by, forget_by, next_number, sync_by}
 pub use Rattle.session_promise.specs.Causes.{failed_volume}
-use Rattle.session_promise.specs.Checkpoints.{AddsFor, IsCommitting, IsFlushedBelow}
+use Rattle.session_promise.specs.Checkpoints.{AddsFor, IsCommitting, IsFlushedBelow, IsMakingMulti}
 use Rattle.session_promise.specs.Promise.{recs_of}
 use Rattle.engine_checkpoints.specs.Added.{IsBuiltBank, checkpoint_now, host_by}
 
@@ -29,12 +30,21 @@ abbrev pub IsFirstCommitting : List Session → ℕ → Type 0
 IsFirstCommitting sessions session =
     IsCommitting sessions session × ((n : ℕ) → n < session → IsCommitting sessions n → ⊥)
 
--- What a checkpoint that was answered so added, where none is in the midst of a commit: to the log's list what the reply
--- says, to none of the history, and nothing of the life's sessions. One that is done was flushed.
+abbrev pub IsNoneMaking : List Session → Type 0
+IsNoneMaking sessions = (n : ℕ) → IsMakingMulti sessions n → ⊥
+
+-- the least session that is at a multixact
+abbrev pub IsFirstMaking : List Session → ℕ → Type 0
+IsFirstMaking sessions session =
+    IsMakingMulti sessions session × ((n : ℕ) → n < session → IsMakingMulti sessions n → ⊥)
+
+-- What a checkpoint that was answered so added, where none is in the midst of a commit or of a multixact: to the log's
+-- list what the reply says, to none of both histories, and nothing of the life's sessions. One that is done was flushed.
 pub record Went (start : Start) (before after : List (List Entry)) (reply : Reply) : Type 0 where
   pub grows : Grows before after
   pub idle : (n : ℕ) → n < start.sessions → Knows session_of n before after
   pub same_history : history after ≡ history before
+  pub same_multis : multi_history after ≡ multi_history before
   pub added : List Entry
   pub log : at after log_lock ≡ at before log_lock ++ added
   pub theirs : AllByRecursion (λ e. e.by.session ≡ start.sessions) added

@@ -1,16 +1,15 @@
 //! The steps of a checkpoint, one after the other.
-ghost use Rattle.std.specs.Prelude.{◌≡◌, Some, []};
+ghost use Rattle.std.specs.Prelude.{◌≡◌, Some};
 ghost use Rattle.hall.specs.Calls.{start_of, view};
 ghost use Rattle.tx_events.specs.declared.refusal.Lock.{Lock};
 ghost use Rattle.tx_events.specs.Base.{IsBase};
 ghost use Rattle.tx_model.specs.declared.reply.Reply.TheVariants as replies;
 ghost use Rattle.tx_core.specs.EngineInvariant.{EngineInvariant};
-ghost use Rattle.tx_core.specs.MultiEntries.{multi_history};
 ghost use Rattle.tx_core.specs.ProgramOrder.{IsHostsTurn};
 ghost use Rattle.engine_parts.specs.Alone.{IsAlone};
 ghost use Rattle.session_promise.specs.Causes.{failed_volume};
 ghost use Rattle.engine_checkpoints.specs.Made.{HasFailed, IsOfUpLog, IsTried, IsUntouched, IsWholeCheckpoint, Went};
-ghost use Rattle.engine_checkpoints.specs.Synced.{IsNoneWaiting};
+ghost use Rattle.engine_checkpoints.specs.Synced.{AreAllMade, IsNoneWaiting};
 
 use crate::syncs::sync_all;
 use crate::writing::write_checkpoint;
@@ -24,7 +23,7 @@ use std::sync::Wait;
 use tx_events::{By, Refusal};
 use tx_model::Reply;
 
-/// Makes a checkpoint while no session is in the midst of a commit: the log is flushed, all banks are synced, and the
+/// Makes a checkpoint while no session is in the midst of a commit or of a multixact: the log is flushed, all banks are synced, and the
 /// checkpoint is written.
 pub(crate) fn make_checkpoint<R: Wait, L: LogDisk, P: PageDisk>(
     rt: &R,
@@ -38,7 +37,7 @@ pub(crate) fn make_checkpoint<R: Wait, L: LogDisk, P: PageDisk>(
     requires lawful { IsBase (start_of hall.now).base }
     requires banks { cluster.banks ≡ (start_of hall.now).banks }
     requires none { IsNoneWaiting (start_of hall.now) (view pass.old).seen }
-    requires quiet { multi_history (view pass.old).seen ≡ [] }
+    requires made { AreAllMade (start_of hall.now) (view pass.old).seen }
     ensures alone { IsAlone hall.now pass.new }
     ensures holds { (view pass.new).holds ≡ (view pass.old).holds }
     ensures kept { EngineInvariant (start_of hall.now) (view pass.new).seen }

@@ -1,18 +1,17 @@
 //! The checkpoint is written, and the log forgotten before it.
-ghost use Rattle.std.specs.Prelude.{◌≡◌, []};
+ghost use Rattle.std.specs.Prelude.{◌≡◌};
 ghost use Rattle.hall.specs.Calls.{start_of, view};
 ghost use Rattle.notes.specs.Lists.{at};
 ghost use Rattle.tx_events.specs.Base.{IsBase};
 ghost use Rattle.tx_core.specs.EngineInvariant.{EngineInvariant};
 ghost use Rattle.tx_core.specs.Entries.{flushed_to};
 ghost use Rattle.tx_core.specs.Locks.{log_lock};
-ghost use Rattle.tx_core.specs.MultiEntries.{multi_history};
 ghost use Rattle.tx_core.specs.ProgramOrder.{IsHostsTurn};
 ghost use Rattle.tx_core.specs.StaysDown.{IsUp};
 ghost use Rattle.engine_parts.specs.Alone.{IsAlone};
 ghost use Rattle.host_sections.specs.HostEntries.{next_number};
 ghost use Rattle.engine_checkpoints.specs.Added.{WritesCheckpoint};
-ghost use Rattle.engine_checkpoints.specs.Synced.{AreAllSynced};
+ghost use Rattle.engine_checkpoints.specs.Synced.{AreAllMade, AreAllSynced};
 
 use disk_core::{LogDisk, PageDisk};
 use engine_parts::EngineLaw;
@@ -37,7 +36,7 @@ pub(crate) fn write_checkpoint<R: Wait, L: LogDisk, P: PageDisk>(
     requires flushed { flushed_to (start_of hall.now) (at (view pass.old).seen log_lock)
         ≡ next_number (start_of hall.now) (view pass.old).seen }
     requires synced { AreAllSynced (start_of hall.now) (view pass.old).seen }
-    requires quiet { multi_history (view pass.old).seen ≡ [] }
+    requires made { AreAllMade (start_of hall.now) (view pass.old).seen }
     ensures alone { IsAlone hall.now pass.new }
     ensures holds { (view pass.new).holds ≡ (view pass.old).holds }
     ensures kept { EngineInvariant (start_of hall.now) (view pass.new).seen }

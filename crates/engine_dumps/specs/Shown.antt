@@ -1,5 +1,5 @@
 -- What the bytes of the log and of pages show, by the lists of their locks.
-use Rattle.std.specs.Prelude.{◌≡◌, ℕ, ◌^◌, false, List, ◌++◌, Option, drop, take}
+use Rattle.std.specs.Prelude.{◌≡◌, ℕ, ◌^◌, ◌≤◌, false, List, ◌++◌, Option, drop, take}
 use Rattle.std.specs.List.{flat_map, slice_index}
 use Rattle.disk_core.specs.declared.log_disk.LogDisk as logs
 use Rattle.disk_core.specs.declared.page_disk.PageDisk as disks

@@ -1,5 +1,5 @@
 -- What a life that is over left fits its log.
-use Rattle.std.proofs.Common.{List, Some, length, subst, sym, ℕ, ◌<◌, ◌∙◌, ◌≡◌}
+use Rattle.std.proofs.Common.{List, Some, arith, length, subst, sym, ℕ, ◌<◌, ◌∙◌, ◌≡◌}
 use Rattle.std.proofs.lemmas.Option.{same_Some, slice_get_within}
 use Rattle.std.specs.List.{slice_get}
 use Rattle.disk_core.specs.Pages.{Pages}

@@ -36,8 +36,8 @@ record AreFew (f : Facts) (k : ℕ) (lines : List Line) : Type 0 where
 sum_last : {X : Type 0} (w : X → ℕ) (xs : List X) (x : X) → sum_by w (xs ++ x ∷ []) ≡ sum_by w xs + w x
 sum_last w xs x = let a = sum_by-append w xs (x ∷ []) in omega arith
 
-own_few : (f : Facts) (before : List Line) (l : Line) (round : RoundSpan) → AreFew f l.by.session before → IsLawfulLine f round before l → AreFew f l.by.session (before ++ l ∷ [])
-own_few f before l round a lawful =
+own_few : (f : Facts) (before : List Line) (l : Line) (round multis : RoundSpan) → AreFew f l.by.session before → IsLawfulLine f round multis before l → AreFew f l.by.session (before ++ l ∷ [])
+own_few f before l round multis a lawful =
     let k = l.by.session in
     let own = filter (is_line_of k) before in
     let cut : filter (is_line_of k) (before ++ l ∷ []) ≡ own ++ l ∷ [] = own_push k before l true (eqb-refl k) in
@@ -53,13 +53,13 @@ other_few f k before l e a =
     let same : filter (is_line_of k) (before ++ l ∷ []) ≡ filter (is_line_of k) before = own_push k before l false e ∙ append-nil (filter (is_line_of k) before) in
     record { few = subst (λ own. sum_by (ids_of f.events) own + lacking (stance_from nothing_yet f.events own).levels ≤ sum_by level_of own) (sym same) a.few }
 
-next_few : (f : Facts) (k : ℕ) (before : List Line) (l : Line) (round : RoundSpan) → AreFew f k before → IsLawfulLine f round before l → AreFew f k (before ++ l ∷ [])
-next_few f k before l round a lawful = step (is_line_of k l) refl
+next_few : (f : Facts) (k : ℕ) (before : List Line) (l : Line) (round multis : RoundSpan) → AreFew f k before → IsLawfulLine f round multis before l → AreFew f k (before ++ l ∷ [])
+next_few f k before l round multis a lawful = step (is_line_of k l) refl
   where
     step : (b : Bool) → is_line_of k l ≡ b → AreFew f k (before ++ l ∷ [])
     step true e =
         let own : l.by.session ≡ k = eqb-true l.by.session k e in
-        subst (λ k. AreFew f k (before ++ l ∷ [])) own (own_few f before l round (subst (λ k. AreFew f k before) (sym own) a) lawful)
+        subst (λ k. AreFew f k (before ++ l ∷ [])) own (own_few f before l round multis (subst (λ k. AreFew f k before) (sym own) a) lawful)
     step false e = other_few f k before l e a
 
 session_few : (f : Facts) (k : ℕ) (steps : List Step) → EachPlace steps (λ before step. IsLawfulRound f (flat_map lines_in before) (lines_in step)) → AreFew f k (flat_map lines_in steps)

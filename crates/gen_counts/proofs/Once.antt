@@ -25,8 +25,8 @@ record IsOnce (b : By) (lines : List Line) : Type 0 where
   most : count_by (is_of b) lines ≤ 1
   before : count_by (is_line_of b.session) lines < b.command → count_by (is_of b) lines ≡ 0
 
-add_line : (f : Facts) (b : By) (before : List Line) (l : Line) (round : RoundSpan) → IsOnce b before → IsLawfulLine f round before l → IsOnce b (before ++ l ∷ [])
-add_line f b before l round o lawful = step (is_of b l) refl
+add_line : (f : Facts) (b : By) (before : List Line) (l : Line) (round multis : RoundSpan) → IsOnce b before → IsLawfulLine f round multis before l → IsOnce b (before ++ l ∷ [])
+add_line f b before l round multis o lawful = step (is_of b l) refl
   where
     step : (own : Bool) → is_of b l ≡ own → IsOnce b (before ++ l ∷ [])
     step false e =

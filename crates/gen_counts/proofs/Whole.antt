@@ -150,7 +150,7 @@ IsQuietLine f l = IsDrawn l.command → AllByRecursion IsQuiet (events_of l.by f
 
 quiet_lines : (f : Facts) (ss : List Step) → EachPlace ss (λ before step. IsLawfulRound f (flat_map lines_in before) (lines_in step)) → AllByRecursion (IsQuietLine f) (flat_map lines_in ss)
 quiet_lines f ss each = by_line f (AllByRecursion (IsQuietLine f)) tt
-    (λ before l round a lawful. both_all (IsQuietLine f) before (l ∷ []) a ((λ d. own_quiet l.by (stance f.events before l.by.session) l.command l.reply (events_of l.by f.events) d lawful.events), tt))
+    (λ before l round multis a lawful. both_all (IsQuietLine f) before (l ∷ []) a ((λ d. own_quiet l.by (stance f.events before l.by.session) l.command l.reply (events_of l.by f.events) d lawful.events), tt))
     ss each
 
 both_quiet : (f : Facts) (lines : List Line) → AllByRecursion (IsQuietLine f) lines → AllByRecursion IsDrawnTurn (map turn_of lines) → AllByRecursion (λ l. AllByRecursion IsQuiet (events_of l.by f.events)) lines

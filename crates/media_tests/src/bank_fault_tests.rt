@@ -1,15 +1,12 @@
 //! Runs over a bank's volume that passes so many calls, and then fails each.
-use crate::run_help::{check_ways, run_fused};
+use crate::run_help::{check_rows, run_fused};
 use disk_core::Which;
 use std::alloc::Global;
 use std::test::Fail;
 
-/// The record is on disk then.
-#[test]
-fn a_fault_of_pg_xact_leaves_the_commit_pending(rt: HostRuntime) -> Result<(), Fail> {
-    check_ways(
-        &rt,
-        "a begin
+const ROWS: &str = "=== a_fault_of_pg_xact_leaves_the_commit_pending
+# The record is on disk then.
+a begin
 a write
 a commit
 a save
@@ -18,12 +15,9 @@ a abort
 .round
 b snap t
 b see t 3
-",
-        Which::Xact(0),
-        8,
-        &[
-            "device\n",
-            "
+--- ways xact 0 8
+device
++++
 a 3 commit -> disk-fault xact 0
 a 4 save -> commit-pending
 a 5 commit -> disk-fault xact 0
@@ -39,8 +33,7 @@ log flushed 2 end 80
 0 checkpoint next 3 oldest 3 multi 1 offset 1 oldest-multi 1 oldest-offset 1
 1 commit 3
 end
-",
-            "
++++
 a 3 commit -> ok
 a 4 save -> no-transaction
 a 5 commit -> no-transaction
@@ -57,17 +50,9 @@ log flushed 2 end 80
 0 checkpoint next 3 oldest 3 multi 1 offset 1 oldest-multi 1 oldest-offset 1
 1 commit 3
 end
-",
-        ],
-    )
-}
-
-/// An abort takes the place of an undo that is pending; an abort that is pending has its record.
-#[test]
-fn a_fault_of_pg_xact_leaves_an_undo_and_an_abort_pending(rt: HostRuntime) -> Result<(), Fail> {
-    check_ways(
-        &rt,
-        "a begin
+=== a_fault_of_pg_xact_leaves_an_undo_and_an_abort_pending
+# An abort takes the place of an undo that is pending; an abort that is pending has its record.
+a begin
 a write
 a save
 a write
@@ -79,12 +64,9 @@ a abort
 a undo
 a commit
 a abort
-",
-        Which::Xact(0),
-        8,
-        &[
-            "device\n",
-            "
+--- ways xact 0 8
+device
++++
 a 5 undo -> disk-fault xact 0
 a 6 write -> undo-pending
 a 7 commit -> undo-pending
@@ -101,8 +83,7 @@ log flushed 1 end 62
 0 checkpoint next 3 oldest 3 multi 1 offset 1 oldest-multi 1 oldest-offset 1
 1 abort 3 4
 end
-",
-            "
++++
 a 5 undo -> ok
 a 6 write -> ok -
 a 7 commit -> ok
@@ -121,18 +102,10 @@ log flushed 2 end 80
 0 checkpoint next 3 oldest 3 multi 1 offset 1 oldest-multi 1 oldest-offset 1
 1 commit 3
 end
-",
-        ],
-    )
-}
-
-/// Of two ids on two pages the lower one's state can't be set, and the other one is sub-committed by then: whether it has
-/// committed is asked of its parent, whose page can't be read either.
-#[test]
-fn a_sub_committed_id_is_asked_of_its_parent(rt: HostRuntime) -> Result<(), Fail> {
-    check_ways(
-        &rt,
-        ".banks 2
+=== a_sub_committed_id_is_asked_of_its_parent
+# Of two ids on two pages the lower one's state can't be set, and the other one is sub-committed by then:
+# whether it has committed is asked of its parent, whose page can't be read either.
+.banks 2
 .start 32767
 a begin
 a save
@@ -141,47 +114,33 @@ a did 32768
 a commit
 a did 32768
 a did 32767
-",
-        Which::Xact(0),
-        8,
-        &[
-            "device\n",
-            "
+--- ways xact 0 8
+device
++++
 a 3 write -> ok 32767 32768
 a 4 did 32768 -> no
 a 5 commit -> disk-fault xact 0
 a 6 did 32768 -> disk-fault xact 0
 a 7 did 32767 -> disk-fault xact 0
-",
-            "
++++
 a 3 write -> ok 32767 32768
 a 4 did 32768 -> no
 a 5 commit -> ok
 a 6 did 32768 -> yes
 a 7 did 32767 -> yes
-",
-        ],
-    )
-}
-
-/// An id whose parent isn't recorded was given, and stays so; a commit records it first. An abort needs no parent.
-#[test]
-fn a_fault_of_pg_subtrans_leaves_no_end_pending(rt: HostRuntime) -> Result<(), Fail> {
-    check_ways(
-        &rt,
-        "a begin
+=== a_fault_of_pg_subtrans_leaves_no_end_pending
+# An id whose parent isn't recorded was given, and stays so; a commit records it first. An abort needs no
+# parent.
+a begin
 a save
 a write
 a write
 a commit
 a save
 a abort
-",
-        Which::Subtrans(0),
-        9,
-        &[
-            "device\n",
-            "
+--- ways subtrans 0 9
+device
++++
 a 3 write -> disk-fault subtrans 0
 a 4 write -> disk-fault subtrans 0
 a 5 commit -> disk-fault subtrans 0
@@ -196,8 +155,7 @@ log flushed 1 end 62
 0 checkpoint next 3 oldest 3 multi 1 offset 1 oldest-multi 1 oldest-offset 1
 1 abort 3 4
 end
-",
-            "
++++
 a 3 write -> ok 3 4
 a 4 write -> ok -
 a 5 commit -> ok
@@ -212,43 +170,83 @@ log flushed 2 end 88
 0 checkpoint next 3 oldest 3 multi 1 offset 1 oldest-multi 1 oldest-offset 1
 1 commit 3 4
 end
-",
-        ],
-    )
-}
+=== a_state_that_left_its_buffer_is_read_again_or_refused
+# A commit, looks at one id of each of seventeen other pages, and then one at the id that committed. A bank has
+# sixteen buffers, so the state is written to the volume for a page that is looked at, and is read again. It is
+# found, or the look is refused. With few calls the other looks are refused, and the state is in its buffer.
+.banks 1
+.start 1048570
+a begin
+a write
+a commit
+a snap s
+a see s 3
+a see s 32771
+a see s 65539
+a see s 98307
+a see s 131075
+a see s 163843
+a see s 196611
+a see s 229379
+a see s 262147
+a see s 294915
+a see s 327683
+a see s 360451
+a see s 393219
+a see s 425987
+a see s 458755
+a see s 491523
+a see s 524291
+a see s 1048570
+--- ways xact 0 64
+device
++++
+a 3 commit -> disk-fault xact 0
+a 4 snap s -> ok xmin 1048570 xmax 1048570 xip - sub - overflow no
++++
+a 22 see s 1048570 -> visible
+history
++++
+a 22 see s 1048570 -> disk-fault xact 0
+history
++++
+a 22 see s 1048570 -> visible
+history
+=== a_dump_over_a_bank_that_fails
+# A dump of a page that can't be read tells the fault. A commit without subtransactions asks no page of parents.
+a begin
+.dump subtrans 0 0 4
+a write
+a commit
+--- ways subtrans 0 5
+device
++++
+dump subtrans 0 0 4 -> disk-fault subtrans 0
+round 2
+a 2 write -> ok 3
+a 3 commit -> ok
+history
++++
+dump subtrans 0 0 4 -> 00 00 00 00
+round 2
+a 2 write -> ok 3
+a 3 commit -> ok
+history
+=== a_dump_over_a_bank_of_states_that_fails
+.dump xact 4 0 1
+--- ways xact 0 8
+device
++++
+dump xact 4 0 1 -> disk-fault xact 0
+history
++++
+dump xact 4 0 1 -> 00
+history
+";
 
-/// A commit, looks at one id of each of seventeen other pages, and then one at the id that committed.
-fn commit_and_looks(alloc: Global) -> Result<String, Fail> {
-    let mut script = String::from_str(
-        alloc,
-        ".banks 1\n.start 1048570\na begin\na write\na commit\na snap s\n",
-    )?;
-    for page in 0..17u32 {
-        let look = format!(in alloc; "a see s {}\n", page * 32768 + 3)?;
-        script.push_str(look.as_str())?;
-    }
-    script.push_str("a see s 1048570\n")?;
-    Ok(script)
-}
-
-/// A bank has sixteen buffers, so the state is written to the volume for a page that is looked at, and is read again. It
-/// is found, or the look is refused. With few calls the other looks are refused, and the state is in its buffer.
 #[test]
-fn a_state_that_left_its_buffer_is_read_again_or_refused(rt: HostRuntime) -> Result<(), Fail> {
-    let script = commit_and_looks(rt.alloc())?;
-    check_ways(
-        &rt,
-        script.as_str(),
-        Which::Xact(0),
-        64,
-        &[
-            "device\n",
-            "\na 3 commit -> disk-fault xact 0\na 4 snap s -> ok xmin 1048570 xmax 1048570 ",
-            "\na 22 see s 1048570 -> visible\nhistory\n",
-            "\na 22 see s 1048570 -> disk-fault xact 0\nhistory\n",
-            "\na 22 see s 1048570 -> visible\nhistory\n",
-        ],
-    )
+fn banks_that_fail(rt: HostRuntime) -> Result<(), Fail> {
+    check_rows(&rt, ROWS)
 }
 
 /// Thirty-three transactions of 1,000 savepoints each, all but the last committed; then a write and a commit more.
@@ -274,7 +272,7 @@ fn many_subtransactions(alloc: Global) -> Result<String, Fail> {
 #[test]
 fn a_fault_of_pg_subtrans_stops_a_write_halfway(rt: HostRuntime) -> Result<(), Fail> {
     let script = many_subtransactions(rt.alloc())?;
-    let (status, report) = run_fused(&rt, script.as_str(), Which::Subtrans(0), 3, 1)?;
+    let (status, report) = run_fused(&rt, "run", script.as_str(), Which::Subtrans(0), 3, 1)?;
     assert_eq!(rt; status, 0);
     for part in [
         "
@@ -293,47 +291,4 @@ log flushed 34 end ",
         assert!(rt; report.contains(part), "{part}");
     }
     Ok(())
-}
-
-/// A dump of a page that can't be read tells the fault. A commit without subtransactions asks no page of parents.
-#[test]
-fn a_dump_over_a_bank_that_fails(rt: HostRuntime) -> Result<(), Fail> {
-    check_ways(
-        &rt,
-        "a begin
-.dump subtrans 0 0 4
-a write
-a commit
-",
-        Which::Subtrans(0),
-        5,
-        &[
-            "device\n",
-            "
-dump subtrans 0 0 4 -> disk-fault subtrans 0
-round 2
-a 2 write -> ok 3
-a 3 commit -> ok
-history
-",
-            "
-dump subtrans 0 0 4 -> 00 00 00 00
-round 2
-a 2 write -> ok 3
-a 3 commit -> ok
-history
-",
-        ],
-    )?;
-    check_ways(
-        &rt,
-        ".dump xact 4 0 1\n",
-        Which::Xact(0),
-        8,
-        &[
-            "device\n",
-            "\ndump xact 4 0 1 -> disk-fault xact 0\nhistory\n",
-            "\ndump xact 4 0 1 -> 00\nhistory\n",
-        ],
-    )
 }

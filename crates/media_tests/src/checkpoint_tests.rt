@@ -1,149 +1,131 @@
 //! Checkpoints over devices that fail, and the lives behind them.
-use crate::run_help::{check_ways, run_fused};
-use disk_core::Which;
-use std::alloc::AllocGlobal;
-use std::fmt::Write;
-use std::process::Abort;
-use std::sync::Wait;
+use crate::run_help::check_rows;
 use std::test::Fail;
-use std::thread::Threads;
 
-/// Where the log's volume passes so many calls, the report of a commit, two checkpoints, a crash of this kind and a look at
-/// what was committed has these texts.
-fn check_stopped(
-    rt: &(impl Abort + AllocGlobal + Threads + Wait + Sync),
-    passes: u64,
-    how: &str,
-    parts: &[&str],
-) -> Result<(), Fail> {
-    let script = format!(in rt.alloc();
-        "a begin
+const ROWS: &str = "=== a_checkpoint_whose_gate_is_not_written_is_lost
+# The opening makes eight calls, the commit four, and the checkpoint five: a write, a sync, the write of the
+# gate, and a sync; and then the forget. Where one of the first three fails its record doesn't stand in the next
+# life.
+a begin
 a write
 a commit
 .checkpoint
 .checkpoint
-.crash {how}
+.crash HOW
 b snap s
 b see s 3
-"
-    )?;
-    let (status, held) = run_fused(rt, script.as_str(), Which::Log, passes, 1)?;
-    for part in parts {
-        assert!(rt; held.contains(*part), "{passes} calls, {how}: {part}");
-    }
-    assert!(rt;
-        held.contains("b 2 see s 3 -> visible\n"),
-        "{passes} calls, {how}"
-    );
-    assert_eq!(rt; status, 0, "{passes} calls, {how}");
-    Ok(())
-}
-
-/// The opening makes eight calls, the commit four, and the checkpoint five: a write, a sync, the write of the gate, and a
-/// sync; and then the forget. Where one of the first three fails its record doesn't stand in the next life.
-#[test]
-fn a_checkpoint_whose_gate_is_not_written_is_lost(rt: HostRuntime) -> Result<(), Fail> {
-    for passes in 12..15 {
-        for how in ["lost", "kept", "torn"] {
-            check_stopped(
-                &rt,
-                passes,
-                how,
-                &[
-                    "checkpoint -> log-fault\ncheckpoint -> log-down 2\n",
-                    "log flushed 2 end 80\n0 checkpoint next 3",
-                    "\n1 commit 3\n2 checkpoint next 4 oldest 3",
-                    "life 2 from 2 next 4 oldest 3",
-                    "log flushed 3 end 142\n2 checkpoint next 4",
-                ],
-            )?;
-        }
-    }
-    Ok(())
-}
-
-/// Where the last sync fails the gate is on disk or isn't. It stands at an even place, of which a torn crash keeps nothing.
-#[test]
-fn a_checkpoint_whose_gate_is_not_synced_is_in_doubt(rt: HostRuntime) -> Result<(), Fail> {
-    for (how, from) in [("lost", 2), ("torn", 2), ("kept", 3)] {
-        let life = format!(in rt.alloc(); "life 2 from {from} next 4 oldest 3")?;
-        check_stopped(
-            &rt,
-            15,
-            how,
-            &[
-                "checkpoint -> log-fault\ncheckpoint -> log-down 2\n",
-                "log flushed 2 end 80\n0 checkpoint next 3",
-                life.as_str(),
-            ],
-        )?;
-    }
-    Ok(())
-}
-
-/// Where the forget fails the record is on disk. The log is down, too.
-#[test]
-fn a_checkpoint_whose_forget_fails_stays(rt: HostRuntime) -> Result<(), Fail> {
-    for how in ["lost", "kept", "torn"] {
-        check_stopped(
-            &rt,
-            16,
-            how,
-            &[
-                "checkpoint -> log-fault\ncheckpoint -> log-down 3\n",
-                "log flushed 3 end 142\n0 checkpoint next 3",
-                "\n2 checkpoint next 4 oldest 3",
-                "life 2 from 3 next 4 oldest 3",
-                "log flushed 4 end 204\n3 checkpoint next 4",
-            ],
-        )?;
-    }
-    Ok(())
-}
-
-/// Once it was answered `ok` it stays, whatever becomes of the next one.
-#[test]
-fn a_checkpoint_that_was_answered_ok_stays(rt: HostRuntime) -> Result<(), Fail> {
-    for how in ["lost", "kept", "torn"] {
-        for passes in 17..20 {
-            check_stopped(
-                &rt,
-                passes,
-                how,
-                &[
-                    "checkpoint -> ok\ncheckpoint -> log-fault\n",
-                    "log flushed 3 end 142\n0 checkpoint next 3",
-                    "\n3 checkpoint next 4 oldest 3",
-                    "life 2 from 3 next 4 oldest 3",
-                ],
-            )?;
-        }
-        check_stopped(
-            &rt,
-            22,
-            how,
-            &[
-                "checkpoint -> ok\ncheckpoint -> ok\n",
-                "log flushed 4 end 204\n0 checkpoint next 3",
-                "life 2 from 4 next 4 oldest 3",
-            ],
-        )?;
-    }
-    Ok(())
-}
-
-/// What isn't flushed yet is flushed first. Where that fails no checkpoint is appended.
-#[test]
-fn a_checkpoint_over_records_that_cannot_be_flushed(rt: HostRuntime) -> Result<(), Fail> {
-    for passes in 8..11 {
-        let script = "a begin
+--- log 0 12 14 0 part lost kept torn
+checkpoint -> log-fault
+checkpoint -> log-down 2
++++
+log flushed 2 end 80
+0 checkpoint next 3 oldest 3 multi 1 offset 1 oldest-multi 1 oldest-offset 1
+1 commit 3
+2 checkpoint next 4 oldest 3 multi 1 offset 1 oldest-multi 1 oldest-offset 1
++++
+life 2 from 2 next 4 oldest 3 multi 1 offset 1 oldest-multi 1 oldest-offset 1
++++
+log flushed 3 end 142
+2 checkpoint next 4 oldest 3 multi 1 offset 1 oldest-multi 1 oldest-offset 1
++++
+b 2 see s 3 -> visible
+=== a_checkpoint_whose_gate_is_not_synced_is_in_doubt
+# Where the last sync fails the gate is on disk or isn't. It stands at an even place, of which a torn crash
+# keeps nothing.
+a begin
+a write
+a commit
+.checkpoint
+.checkpoint
+.crash HOW
+b snap s
+b see s 3
+--- log 0 15 15 0 part lost torn
+checkpoint -> log-fault
+checkpoint -> log-down 2
++++
+log flushed 2 end 80
+0 checkpoint next 3 oldest 3 multi 1 offset 1 oldest-multi 1 oldest-offset 1
++++
+life 2 from 2 next 4 oldest 3 multi 1 offset 1 oldest-multi 1 oldest-offset 1
++++
+b 2 see s 3 -> visible
+--- log 0 15 15 0 part kept
+checkpoint -> log-fault
+checkpoint -> log-down 2
++++
+log flushed 2 end 80
+0 checkpoint next 3 oldest 3 multi 1 offset 1 oldest-multi 1 oldest-offset 1
++++
+life 2 from 3 next 4 oldest 3 multi 1 offset 1 oldest-multi 1 oldest-offset 1
++++
+b 2 see s 3 -> visible
+=== a_checkpoint_whose_forget_fails_stays
+# Where the forget fails the record is on disk. The log is down, too.
+a begin
+a write
+a commit
+.checkpoint
+.checkpoint
+.crash HOW
+b snap s
+b see s 3
+--- log 0 16 16 0 part lost kept torn
+checkpoint -> log-fault
+checkpoint -> log-down 3
++++
+log flushed 3 end 142
+0 checkpoint next 3 oldest 3 multi 1 offset 1 oldest-multi 1 oldest-offset 1
++++
+2 checkpoint next 4 oldest 3 multi 1 offset 1 oldest-multi 1 oldest-offset 1
++++
+life 2 from 3 next 4 oldest 3 multi 1 offset 1 oldest-multi 1 oldest-offset 1
++++
+log flushed 4 end 204
+3 checkpoint next 4 oldest 3 multi 1 offset 1 oldest-multi 1 oldest-offset 1
++++
+b 2 see s 3 -> visible
+=== a_checkpoint_that_was_answered_ok_stays
+# Once it was answered `ok` it stays, whatever becomes of the next one.
+a begin
+a write
+a commit
+.checkpoint
+.checkpoint
+.crash HOW
+b snap s
+b see s 3
+--- log 0 17 19 0 part lost kept torn
+checkpoint -> ok
+checkpoint -> log-fault
++++
+log flushed 3 end 142
+0 checkpoint next 3 oldest 3 multi 1 offset 1 oldest-multi 1 oldest-offset 1
++++
+3 checkpoint next 4 oldest 3 multi 1 offset 1 oldest-multi 1 oldest-offset 1
++++
+life 2 from 3 next 4 oldest 3 multi 1 offset 1 oldest-multi 1 oldest-offset 1
++++
+b 2 see s 3 -> visible
+--- log 0 22 22 0 part lost kept torn
+checkpoint -> ok
+checkpoint -> ok
++++
+log flushed 4 end 204
+0 checkpoint next 3 oldest 3 multi 1 offset 1 oldest-multi 1 oldest-offset 1
++++
+life 2 from 4 next 4 oldest 3 multi 1 offset 1 oldest-multi 1 oldest-offset 1
++++
+b 2 see s 3 -> visible
+=== a_checkpoint_over_records_that_cannot_be_flushed
+# What isn't flushed yet is flushed first. Where that fails no checkpoint is appended.
+a begin
 a write
 a abort
 .checkpoint
 .crash kept
-";
-        let (status, held) = run_fused(&rt, script, Which::Log, passes, 1)?;
-        let wanted = "a 3 abort -> ok
+--- log 0 8 10 0 part -
+a 3 abort -> ok
 checkpoint -> log-fault
 history
 id a 2 3
@@ -153,21 +135,12 @@ log flushed 1 end 62
 0 checkpoint next 3 oldest 3 multi 1 offset 1 oldest-multi 1 oldest-offset 1
 1 abort 3
 crash kept
-life 2 from 1 next 3 oldest 3 ";
-        assert!(rt; held.contains(wanted), "{passes} calls: {held}");
-        assert_eq!(rt; status, 0, "{passes} calls");
-    }
-    Ok(())
-}
-
-/// A session whose commit has its record and not its states holds a checkpoint up. Of two the one is named that appears
-/// first in the script, though the other one committed first. A fault of the bank is told where no session is in the midst
-/// of a commit, and leaves the log alone.
-#[test]
-fn a_checkpoint_over_a_bank_that_fails(rt: HostRuntime) -> Result<(), Fail> {
-    check_ways(
-        &rt,
-        "b begin
+life 2 from 1 next 3 oldest 3 multi 1 offset 1 oldest-multi 1 oldest-offset 1
+=== a_checkpoint_over_a_bank_that_fails
+# A session whose commit has its record and not its states holds a checkpoint up. Of two the one is named that
+# appears first in the script, though the other one committed first. A fault of the bank is told where no
+# session is in the midst of a commit, and leaves the log alone.
+b begin
 a begin
 a write
 b write
@@ -176,19 +149,15 @@ a commit
 b commit
 .checkpoint
 .checkpoint
-",
-        Which::Xact(0),
-        9,
-        &[
-            "device\n",
-            "
+--- ways xact 0 9
+device
++++
 a 3 commit -> disk-fault xact 0
 b 3 commit -> disk-fault xact 0
 checkpoint -> commit-pending b
 checkpoint -> commit-pending b
 history
-",
-            "
++++
 a 3 commit -> ok
 b 3 commit -> ok
 checkpoint -> disk-fault xact 0
@@ -204,85 +173,206 @@ log flushed 3 end 98
 1 commit 4
 2 commit 3
 end
-",
-            "
++++
 a 3 commit -> ok
 b 3 commit -> ok
 checkpoint -> ok
-",
-        ],
-    )
-}
-
-/// Each bank of the four stores is synced, also one that has no page.
-#[test]
-fn a_checkpoint_syncs_each_bank(rt: HostRuntime) -> Result<(), Fail> {
-    for bank in 0..4 {
-        for (at, name) in [
-            (Which::Xact(bank), "xact"),
-            (Which::Subtrans(bank), "subtrans"),
-            (Which::Offsets(bank), "offsets"),
-            (Which::Members(bank), "members"),
-        ] {
-            let fault = format!(in rt.alloc();
-                "
-checkpoint -> disk-fault {name} {bank}
+=== a_checkpoint_syncs_each_bank
+# Each bank of the four stores is synced, also one that has no page.
+.checkpoint
+--- ways xact 0 6
+device
++++
+checkpoint -> disk-fault xact 0
 history
 multis
 log flushed 1 end 62
-"
-            )?;
-            check_ways(
-                &rt,
-                ".checkpoint\n",
-                at,
-                6,
-                &["device\n", fault.as_str(), "\ncheckpoint -> ok\nhistory\n"],
-            )?;
-        }
-    }
-    Ok(())
-}
-
-/// A parent that is recorded stays so, and its transaction goes on.
-#[test]
-fn a_checkpoint_over_a_bank_of_parents_that_fails(rt: HostRuntime) -> Result<(), Fail> {
-    check_ways(
-        &rt,
-        "a begin
++++
+checkpoint -> ok
+history
+--- ways subtrans 0 6
+device
++++
+checkpoint -> disk-fault subtrans 0
+history
+multis
+log flushed 1 end 62
++++
+checkpoint -> ok
+history
+--- ways offsets 0 6
+device
++++
+checkpoint -> disk-fault offsets 0
+history
+multis
+log flushed 1 end 62
++++
+checkpoint -> ok
+history
+--- ways members 0 6
+device
++++
+checkpoint -> disk-fault members 0
+history
+multis
+log flushed 1 end 62
++++
+checkpoint -> ok
+history
+--- ways xact 1 6
+device
++++
+checkpoint -> disk-fault xact 1
+history
+multis
+log flushed 1 end 62
++++
+checkpoint -> ok
+history
+--- ways subtrans 1 6
+device
++++
+checkpoint -> disk-fault subtrans 1
+history
+multis
+log flushed 1 end 62
++++
+checkpoint -> ok
+history
+--- ways offsets 1 6
+device
++++
+checkpoint -> disk-fault offsets 1
+history
+multis
+log flushed 1 end 62
++++
+checkpoint -> ok
+history
+--- ways members 1 6
+device
++++
+checkpoint -> disk-fault members 1
+history
+multis
+log flushed 1 end 62
++++
+checkpoint -> ok
+history
+--- ways xact 2 6
+device
++++
+checkpoint -> disk-fault xact 2
+history
+multis
+log flushed 1 end 62
++++
+checkpoint -> ok
+history
+--- ways subtrans 2 6
+device
++++
+checkpoint -> disk-fault subtrans 2
+history
+multis
+log flushed 1 end 62
++++
+checkpoint -> ok
+history
+--- ways offsets 2 6
+device
++++
+checkpoint -> disk-fault offsets 2
+history
+multis
+log flushed 1 end 62
++++
+checkpoint -> ok
+history
+--- ways members 2 6
+device
++++
+checkpoint -> disk-fault members 2
+history
+multis
+log flushed 1 end 62
++++
+checkpoint -> ok
+history
+--- ways xact 3 6
+device
++++
+checkpoint -> disk-fault xact 3
+history
+multis
+log flushed 1 end 62
++++
+checkpoint -> ok
+history
+--- ways subtrans 3 6
+device
++++
+checkpoint -> disk-fault subtrans 3
+history
+multis
+log flushed 1 end 62
++++
+checkpoint -> ok
+history
+--- ways offsets 3 6
+device
++++
+checkpoint -> disk-fault offsets 3
+history
+multis
+log flushed 1 end 62
++++
+checkpoint -> ok
+history
+--- ways members 3 6
+device
++++
+checkpoint -> disk-fault members 3
+history
+multis
+log flushed 1 end 62
++++
+checkpoint -> ok
+history
+=== a_checkpoint_over_a_bank_of_parents_that_fails
+# A parent that is recorded stays so, and its transaction goes on.
+a begin
 a save
 a write
 .checkpoint
 a commit
 b snap s
 b see s 4
-",
-        Which::Subtrans(0),
-        9,
-        &[
-            "device\n",
-            "
+--- ways subtrans 0 9
+device
++++
 a 3 write -> disk-fault subtrans 0
 checkpoint -> disk-fault subtrans 0
 round 2
 a 4 commit -> disk-fault subtrans 0
-",
-            "
++++
 a 3 write -> ok 3 4
 checkpoint -> disk-fault subtrans 0
 round 2
 a 4 commit -> ok
 b 1 snap s -> ok xmin 5 xmax 5 xip - sub - overflow no
 b 2 see s 4 -> visible
-",
-            "
++++
 a 3 write -> ok 3 4
 checkpoint -> ok
 round 2
 a 4 commit -> ok
 b 1 snap s -> ok xmin 5 xmax 5 xip - sub - overflow no
 b 2 see s 4 -> visible
-",
-        ],
-    )
+";
+
+#[test]
+fn checkpoints_over_devices_that_fail(rt: HostRuntime) -> Result<(), Fail> {
+    check_rows(&rt, ROWS)
 }

@@ -1,11 +1,9 @@
-//! Tests of the tool over medias: devices that fail, logs that aren't new, any number of banks, and rounds on threads. What
+//! Tests of the tool over medias: devices that fail, logs that aren't new, and rounds on threads. What
 //! they expect is worked out by hand from docs/SCRIPT-AND-REPORT.md, docs/LOG.md and docs/PAGES.md.
 #![tactic(auto)]
 
 #[cfg(test)]
 mod bank_fault_tests;
-#[cfg(test)]
-mod bank_tests;
 #[cfg(test)]
 mod checkpoint_tests;
 #[cfg(test)]

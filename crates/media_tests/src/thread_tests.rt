@@ -152,7 +152,7 @@ fn one_thread_is_told_the_fault_of_the_log(rt: HostRuntime) -> Result<(), Fail> 
     let alloc = rt.alloc();
     let script = one_round(alloc, &COMMITS)?;
     for passes in 8..30 {
-        let (status, report) = run_fused(&rt, script.as_str(), Which::Log, passes, 8)?;
+        let (status, report) = run_fused(&rt, "run", script.as_str(), Which::Log, passes, 8)?;
         assert_eq!(rt; status, 0);
         let flushed = between(report.as_str(), "\nlog flushed ", " end ")?;
         let flushed = flushed.parse::<usize>().ok().ok_or("no number")?;

@@ -227,19 +227,13 @@ module _ (start : Start) (lists : List (List Entry)) (x bank : ℕ) (base : IsBa
       let t = slot_here member set in
       let s = slot_given t.0 t.1 in
       let l = lies t.0 s in
-      let from = l.from in
-      let to = l.to in
-      let inside = l.inside in
-      let behind = s.behind in
-      let same = t.2 in
-      let low = base.oldest_offset in
+      let from = l.from in let to = l.to in let inside = l.inside in
+      let behind = s.behind in let same = t.2 in let low = base.oldest_offset in
       record { from = omega arith; to = omega arith })
       (λ (m : IsRecordedMember start x member).
       let w = clean.in_order.within m.multi m.first m.members m.stands m.kept in
-      let from = w.0 in
-      let to = w.1 in
+      let from = w.0 in let to = w.1 in let at_x = m.at in
       let inside = place_within m.members m.place member m.among in
-      let at_x = m.at in
       let free = (ordered start.base base (multi_history lists) (multis_are_legal start lists k)).from in
       record { from = omega arith; to = omega arith })
       has
@@ -280,10 +274,7 @@ module _ (start : Start) (lists : List (List Entry)) (x bank : ℕ) (base : IsBa
           let o = ordered start.base base (multi_history lists) (multis_are_legal start lists k) in
           let there = contains_has (multi_history lists) _ g.2 in
           let w = o.given g.0 g.1 gap.first gap.members there in
-          let w0 = w.0 in
-          let w1 = w.1 in
-          let end = gap.end in
-          let low = low_base in
+          let w0 = w.0 in let w1 = w.1 in let end = gap.end in let low = low_base in
           let past : start.base.offset ≤ x = omega arith in
           let upto = free_upto start.base (multi_history lists) (multis_are_legal start lists k) in
           let near : x < start.base.offset + 2 ^ 30 = omega arith in
@@ -293,9 +284,7 @@ module _ (start : Start) (lists : List (List Entry)) (x bank : ℕ) (base : IsBa
             unset = λ slot has same.
                 let s = slot_given slot has in
                 let l = lies slot s in
-                let inside = l.inside in
-                let behind = s.behind in
-                let r = s.recorded in
+                let inside = l.inside in let behind = s.behind in let r = s.recorded in
                 ⊎_elim
                 (λ (q : (s.multi < g.1) × (s.first + length s.members ≤ gap.first)). let z = q.1 in omega (arith, inside, same, end, z))
                 (λ rest. ⊎_elim
@@ -311,17 +300,14 @@ module _ (start : Start) (lists : List (List Entry)) (x bank : ℕ) (base : IsBa
       recorded : (multi : ℕ) × (start.base.oldest_multi ≤ multi) × Contains start.recorded (records.Multi multi gap.first gap.members) → GapAt before
       recorded g =
           let w = clean.in_order.within g.0 gap.first gap.members g.2 g.1 in
-          let w0 = w.0 in
-          let w1 = w.1 in
-          let end = gap.end in
+          let w0 = w.0 in let w1 = w.1 in let end = gap.end in
           record {
             from = omega arith;
             near = omega arith;
             unset = λ slot has same.
                 let s = slot_given slot has in
                 let l = lies slot s in
-                let from = l.from in
-                let behind = s.behind in
+                let from = l.from in let behind = s.behind in
                 begins_there slot s gap.low (let here : s.first ≡ x = omega (arith, from, behind, same, end, w1) in here);
             zero_bytes = λ i lt. subst (λ z. byte_held (before z) i ≡ 0) end (clean.gap g.0 gap.first gap.members g.2 g.1 (subst (λ z. low_half z ≡ 0) (sym end) gap.low) i lt);
           }

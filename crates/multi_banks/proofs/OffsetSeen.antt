@@ -4,7 +4,6 @@ use Rattle.std.proofs.Math.Seq.{take-length}
 use Rattle.std.proofs.lemmas.Bool.{false≢true}
 use Rattle.std.specs.List.{filter_map, flat_map, last_or}
 use Rattle.disk_core.specs.declared.page_disk.PageDisk as disks
-use Rattle.log_bases.specs.LifeBase.{AreInOrder}
 use Rattle.notes.specs.Lists.{at}
 use Rattle.store_pages.specs.declared.page_rule.PageRule as rules
 use Rattle.store_pages.specs.Layouts.{number_in, word_page_of, word_place_of}
@@ -38,7 +37,7 @@ use Rattle.engine_parts.specs.Parts.{IsOffsetsOf}
 use Rattle.engine_parts.specs.Shelf.{ArePagesNear, IsReadNow, shows_on}
 use Rattle.engine_parts.specs.Shelves.{offset_shelf, word_held}
 use Rattle.engine_parts.proofs.OffsetShelf.{word_made}
-use Rattle.multi_banks.specs.Offsets.{HasNoOffset, HasOffset, IsOffsetFound, IsOffsetRead}
+use Rattle.multi_banks.specs.Offsets.{HasNoOffset, HasOffset, IsOffsetFound, IsOffsetRead, WasTold}
 use Rattle.multi_banks.proofs.Coursing.{same_last}
 use Rattle.multi_banks.proofs.Seeing.{filter_map_has, recorded_or_not}
 use Rattle.multi_banks.proofs.Uncut.{offset_held}
@@ -178,11 +177,11 @@ offsets_near start lists bank k few =
     subst (λ z. z ≤ offset_page (start.base.multi + 2 ^ 29)) (sym same) up
 
 module _ {P O : Type 0} {g : disks.Ghosts P} {r : rules.Ghosts O} where
-  -- the multixacts that the life began with lie in order, and the pages told them
-  pub begun_seen : (start : Start) (lists : List (List Entry)) (bank : ℕ) (store : SlruBank P O g r) → EngineInvariant start lists → IsOffsetsOf start bank store (at lists (offsets_lock bank)) → IsTrue g.tells → AreFewMultis lists → IsTrue start.told × AreInOrder start.base start.recorded
+  -- what the pages told of the life's begin
+  pub begun_seen : (start : Start) (lists : List (List Entry)) (bank : ℕ) (store : SlruBank P O g r) → EngineInvariant start lists → IsOffsetsOf start bank store (at lists (offsets_lock bank)) → IsTrue g.tells → AreFewMultis lists → WasTold start
   begun_seen start lists bank store k s told few =
       let clean = (s.stands.shown told (offsets_near start lists bank k few)).1 in
-      (clean.told, clean.in_order)
+      record { told = clean.told; below = clean.before; full = clean.full; in_order = clean.in_order }
 
   pub offset_seen : (start : Start) (lists : List (List Entry)) (bank : ℕ) (store : SlruBank P O g r) (multi : ℕ) (found : Option ℕ) → IsBase start.base → EngineInvariant start lists → IsOffsetsOf start bank store (at lists (offsets_lock bank)) → offsets_lock_of start multi ≡ offsets_lock bank → IsTrue g.tells
       → found ≡ offset_of (number_in (pages_of store (word_page_of multi)) (word_place_of multi)) → oldest_multi start.base.oldest_multi (multi_history lists) ≤ multi → IsOffsetRead start lists multi found

@@ -1,12 +1,22 @@
 -- What a bank of offsets says of a multixact, by the bank's list, in a life of few: else two full pages of one stored
 -- number couldn't be told apart.
-use Rattle.std.specs.Prelude.{◌≡◌, ◌⊎◌, ℕ, ◌+◌, ◌^◌, ◌<◌, ◌≤◌, List, Option, None, Some, Contains}
+use Rattle.std.specs.Prelude.{◌≡◌, ◌⊎◌, ℕ, ◌+◌, ◌^◌, ◌<◌, ◌≤◌, IsTrue, List, Option, None, Some, Contains}
+use Rattle.log_bases.specs.LifeBase.{AreInOrder}
 use Rattle.tx_events.specs.Ids.{IsFullMulti, low_half}
 use Rattle.tx_events.specs.declared.multi.Member.{Member}
 use Rattle.tx_events.specs.declared.record.Rec.TheVariants as records
 use Rattle.tx_core.specs.declared.entry.Entry.{Entry}
 use Rattle.tx_core.specs.declared.entry.Start.{Start}
 use Rattle.tx_core.specs.MultiEntries.{AreFewMultis, IsOffsetSet}
+
+-- What the pages told of a life's begin: its recorded multixacts lie in order, below its next one, which is a full one.
+pub record WasTold (start : Start) : Type 0 where
+  pub told : IsTrue start.told
+  pub below : (multi offset : ℕ) (members : List Member) → Contains start.recorded (records.Multi multi offset members)
+      → multi < start.base.multi
+  pub full : (multi offset : ℕ) (members : List Member) → Contains start.recorded (records.Multi multi offset members)
+      → IsFullMulti start.base.multi
+  pub in_order : AreInOrder start.base start.recorded
 
 -- the offset of a multixact stands: it was set, or is recorded from before the life
 abbrev pub HasOffset : Start → List (List Entry) → ℕ → ℕ → Type 0

@@ -1,7 +1,6 @@
 //! Pages of offsets are made, and offsets are set and read.
 ghost use Rattle.std.specs.Prelude.{◌≡◌, ℕ, ◌+◌, ◌*◌, ◌<◌, ◌≤◌, ◌∷◌, [], Err, IfOk, IsTrue, OnOk};
 ghost use Rattle.hall.specs.Calls.{view, IsOf, start_of};
-ghost use Rattle.log_bases.specs.LifeBase.{AreInOrder};
 ghost use Rattle.notes.specs.Lists.{at};
 ghost use Rattle.slru_bank.specs.declared.refusal.BankRefusal.TheVariants.{Cut, DiskFault};
 ghost use Rattle.store_pages.specs.Layouts.{word_page_of};
@@ -17,7 +16,7 @@ ghost use Rattle.tx_core.specs.PagesBeforeIds.{IsMultiOf, WasMade};
 ghost use Rattle.engine_parts.specs.Answers.{MetFault};
 ghost use Rattle.engine_parts.specs.Sessions.{IsReady, by_at};
 ghost use Rattle.engine_parts.specs.Steps.{WentMulti};
-ghost use Rattle.multi_banks.specs.Offsets.{IsOffsetRead};
+ghost use Rattle.multi_banks.specs.Offsets.{IsOffsetRead, WasTold};
 ghost use Rattle.multi_banks.specs.Sections.{BankSection, IsOffsetCut};
 
 use crate::entries::zeroed_note;
@@ -171,10 +170,7 @@ pub fn read_offset<R: Passing, L: LogDisk, P: PageDisk>(
     ensures offset { IsTrue P.tells → oldest_multi (start_of hall.now).base.oldest_multi (multi_history
         (view caller.new.pass).seen) ≤ multi
         → IfOk result (IsOffsetRead (start_of hall.now) (view caller.new.pass).seen multi) }
-    // The pages told what the life began with, whose multixacts lie in order: so each of them begins at the only offset of
-    // the base with its low half.
-    ensures begun { IsTrue P.tells → AreFewMultis (view caller.new.pass).seen → OnOk result
-        (IsTrue (start_of hall.now).told × AreInOrder (start_of hall.now).base (start_of hall.now).recorded) }
+    ensures begun { IsTrue P.tells → AreFewMultis (view caller.new.pass).seen → OnOk result (WasTold (start_of hall.now)) }
     ensures fault { result ≡ Err DiskFault → MetFault (view caller.new.pass).seen (offsets_lock bank)
         (by_at caller.old.number caller.old.session.levels.commands) }
     ensures uncut { AreFewMultis (view caller.new.pass).seen → oldest_multi (start_of hall.now).base.oldest_multi

@@ -1,35 +1,24 @@
 -- The volumes of a store's banks, all of them or as far as it went.
-use Rattle.std.proofs.Common.{Global, IfErr, List, Ok, OnOk, Err, Result, Some, Vec, ap, arith, inl, inr, length, refl, subst, sym, ℕ, ⊎_elim, IsTrue, ◌∙◌, ◌≡◌, ◌≤◌}
+use Rattle.std.proofs.Common.{List, Ok, Err, Result, Some, ap, arith, inl, inr, length, refl, subst, sym, ℕ, ⊎_elim, IsTrue, ◌∙◌, ◌≡◌, ◌≤◌}
 use Rattle.std.specs.List.{slice_get}
 use Rattle.disk_core.specs.Faults.{HasRisen}
 use Rattle.disk_core.specs.Pages.{Pages}
 use Rattle.disk_core.specs.declared.page_disk.PageDisk as disks
-use Rattle.tx_events.specs.declared.record.Counters.{Counters}
-use Rattle.tx_events.specs.declared.record.Rec.{Rec}
 use Rattle.tx_events.specs.declared.refusal.Lock.{Lock}
-use Rattle.tx_events.specs.declared.refusal.Lock.TheVariants as locks
-use Rattle.log_bases.specs.LifeBase.{committed_in}
-use Rattle.slru_bank.specs.Crash.{CrashLeaves}
-use Rattle.replay_core.specs.declared.restore.RestoreRefusal.{RestoreRefusal}
-use Rattle.replay_core.specs.declared.restore.RestoreRefusal.TheVariants as restores
-use Rattle.replay_core.specs.declared.share.Share.{Share}
-use Rattle.replay_core.specs.Redo.{IsNamed}
-use Rattle.replay_core.specs.Restore.{MayRestore, bytes_on}
-use Rattle.replay_core.proofs.OnDisk.{untouched}
-use Rattle.replay_core.specs.Banks.{ChangesAt, EmptiesBanks, Emptying, IsCause, IsRefusalAt, IsStoreRefusal, NoCountFell, RestoresBanks, Restoring}
-use Rattle.replay_core.specs.Begun.{AreEmpty}
-use Rattle.replay_core.specs.Emptied.{AreAllEmpty, EmptiesStores, IsEmptyRefusal, lock_of}
-use Rattle.replay_core.specs.declared.stores.EmptyVolumes.{EmptyVolumes}
-use Rattle.replay_core.specs.declared.stores.Store.TheVariants as stores
+use Rattle.slru_bank.specs.Crash.{CrashLeaves, no_call}
+use Rattle.replay_multis.specs.declared.refusal.RestoreRefusal.{RestoreRefusal}
+use Rattle.replay_multis.specs.declared.refusal.RestoreRefusal.TheVariants as restores
+use Rattle.replay_core.specs.Restore.{bytes_on}
+use Rattle.replay_core.specs.Banks.{AreLeaving, Becoming, ChangesAt, EmptiesBanks, Emptying, IsCause, IsRefusalAt, IsStoreRefusal, Leaving, NoCountFell, RestoresBanks, Restoring}
 use Rattle.replay_core.specs.declared.refusal.RecoverRefusal.{RecoverRefusal}
 use Rattle.replay_core.specs.declared.refusal.RecoverRefusal.TheVariants as refusals
 use Rattle.replay_core.proofs.Rows.{Progress, count_more, each_done, each_so_far, first_was, had, some_same}
 
--- what a refusal of a bank of pg_xact means, with its cause
-pub states_cause : {P : Type 0} (p : disks.Ghosts P) (bank : ℕ) (told : RestoreRefusal) (refusal : RecoverRefusal) (old new : P) → IsRefusalAt bank told refusal → (told ≡ restores.DiskFault → HasRisen (p.faults old) (p.faults new))
-    → IsCause p (locks.Xact bank) (Err refusal) old new
-states_cause p bank restores.DiskFault refusal old new is fault = inr (is, fault refl)
-states_cause p bank restores.Memory refusal old new is fault = inl is
+-- what a refusal of a bank means, with its cause
+pub bank_cause : {P : Type 0} (p : disks.Ghosts P) (lock : Lock) (told : RestoreRefusal) (refusal : RecoverRefusal) (old new : P) → IsRefusalAt lock told refusal → (told ≡ restores.DiskFault → HasRisen (p.faults old) (p.faults new))
+    → IsCause p lock (Err refusal) old new
+bank_cause p lock restores.DiskFault refusal old new is fault = inr (is, fault refl)
+bank_cause p lock restores.Memory refusal old new is fault = inl is
 
 module _ {P : Type 0} (p : disks.Ghosts P) where
   same_count : (before now : P) → now ≡ before → p.faults before ≤ p.faults now
@@ -41,14 +30,26 @@ module _ {P : Type 0} (p : disks.Ghosts P) where
       (λ (f : (e ≡ refusals.DiskFault (lock n)) × HasRisen (p.faults before) (p.faults now)). inr (n, f.0, record { before = before; now = now; was = was; is = is; risen = f.1 }))
       cause
 
-  module _ (recs : List Rec) (base : Counters) (old : List P) where
-    abbrev share_of : ℕ → Share
-    share_of n = record { banks = length old; bank = n }
+  abbrev pub OnlyNow : Type 0
+  OnlyNow = (d : P) (c : Pages) → IsTrue p.tells → p.left_at d (p.moment d) c → p.images d c
 
+  abbrev pub StaysSame : (ℕ → Leaving) → Type 0
+  StaysSame leaves = (bank : ℕ) (m : ℕ → List ℕ) (c : Pages) → leaves bank m c c
+
+  -- a volume that wasn't asked
+  untouched : (Leaves : Leaving) → ((m : ℕ → List ℕ) (c : Pages) → Leaves m c c) → OnlyNow → IsTrue p.tells → (disk new : P) → new ≡ disk → CrashLeaves (Leaves (bytes_on p disk)) p.images p.moment p.left_at disk new
+  untouched Leaves same only_now told disk new is = subst (λ d. CrashLeaves (Leaves (bytes_on p disk)) p.images p.moment p.left_at disk d) (sym is)
+      (no_call p.images p.moment p.left_at (Leaves (bytes_on p disk)) disk (same (bytes_on p disk)) (λ c left. only_now disk c told left))
+
+  -- volumes that weren't asked
+  pub left_same : (leaves : ℕ → Leaving) → StaysSame leaves → OnlyNow → IsTrue p.tells → (volumes : List P) → AreLeaving p leaves volumes volumes
+  left_same leaves same only_now told volumes bank before now was is = untouched (leaves bank) (same bank) only_now told before now (some_same now before (sym is ∙ was))
+
+  module _ (lock : ℕ → Lock) (leaves : ℕ → Leaving) (becomes : ℕ → Becoming) (old : List P) where
     abbrev pub restoring : ℕ → Result (Unit {0}) RecoverRefusal → P → P → Type 0
-    restoring n result before now = Restoring p (share_of n) recs base result before now
+    restoring n result before now = Restoring p (lock n) (leaves n) (becomes n) result before now
 
-    pub all_restored : (n : ℕ) (new : List P) → Progress restoring old n new → n ≡ length old → RestoresBanks p recs base old new (Ok (tt {0}))
+    pub all_restored : (n : ℕ) (new : List P) → Progress restoring old n new → n ≡ length old → RestoresBanks p lock leaves becomes old new (Ok (tt {0}))
     all_restored n new done all = record {
       count = done.count;
       moments = λ told bank before now was is. (each_done restoring old n new done all bank before now was is).moments told;
@@ -57,22 +58,22 @@ module _ {P : Type 0} (p : disks.Ghosts P) where
       counted = λ bank before now was is. (each_done restoring old n new done all bank before now was is).count;
     }
 
-    pub restore_failed : (n : ℕ) (mid new : List P) (e : RecoverRefusal) → ((d : P) (c : Pages) → IsTrue p.tells → p.left_at d (p.moment d) c → p.images d c) → Progress restoring old n mid
-        → ChangesAt (restoring n (Err e)) n mid new → RestoresBanks p recs base old new (Err e)
-    restore_failed n mid new e only_now done step = record {
+    pub restore_failed : (n : ℕ) (mid new : List P) (e : RecoverRefusal) → StaysSame leaves → OnlyNow → Progress restoring old n mid
+        → ChangesAt (restoring n (Err e)) n mid new → RestoresBanks p lock leaves becomes old new (Err e)
+    restore_failed n mid new e same only_now done step = record {
       count = count_more restoring old n mid new done (Err e) step;
       moments = λ told bank before now was is. ⊎_elim
           (λ r. r.moments told)
           (λ h. ⊎_elim
-          (λ (k : (bank ≡ n) × Restoring p (share_of n) recs base (Err e) before now). subst (λ z. CrashLeaves (MayRestore (IsNamed (share_of z) base.oldest (committed_in recs)) base.next (bytes_on p before)) p.images p.moment p.left_at before now) (sym k.0) (k.1.moments told))
-          (λ (same : now ≡ before). untouched (IsNamed (share_of bank) base.oldest (committed_in recs)) base.next p before now same told (λ c left. only_now before c told left))
+          (λ (k : (bank ≡ n) × Restoring p (lock n) (leaves n) (becomes n) (Err e) before now). subst (λ z. CrashLeaves (leaves z (bytes_on p before)) p.images p.moment p.left_at before now) (sym k.0) (k.1.moments told))
+          (λ (is_same : now ≡ before). untouched (leaves bank) (same bank) only_now told before now is_same)
           h)
           (each_so_far restoring old n mid new done (Err e) step bank before now was is);
       restored = λ told. tt;
-      refused = store_refused (λ bank. locks.Xact bank) n old new step.before step.now e (first_was restoring old n mid new done (Err e) step) step.is step.changed.cause;
+      refused = store_refused lock n old new step.before step.now e (first_was restoring old n mid new done (Err e) step) step.is step.changed.cause;
       counted = λ bank before now was is. ⊎_elim
           (λ r. r.count)
-          (λ h. ⊎_elim (λ (k : (bank ≡ n) × Restoring p (share_of n) recs base (Err e) before now). k.1.count) (λ (same : now ≡ before). same_count before now same) h)
+          (λ h. ⊎_elim (λ (k : (bank ≡ n) × Restoring p (lock n) (leaves n) (becomes n) (Err e) before now). k.1.count) (λ (is_same : now ≡ before). same_count before now is_same) h)
           (each_so_far restoring old n mid new done (Err e) step bank before now was is);
     }
 
@@ -99,47 +100,5 @@ module _ {P : Type 0} (p : disks.Ghosts P) where
       counted = λ bank before now was is. (each_done emptying old n new done all bank before now was is).count;
     }
 
-  -- ---- all stores that are emptied
-
   pub same_volumes : (volumes : List P) → NoCountFell p volumes volumes
   same_volumes volumes bank before now was is = let e = ap p.faults (some_same before now (sym was ∙ is)) in omega (arith, e)
-
-  module _ (old : EmptyVolumes P) where
-    pub first_failed : (subtrans : Vec P Global) (e : RecoverRefusal) → EmptiesBanks p (lock_of stores.Subtrans) old.subtrans.items subtrans.items (Err e)
-        → EmptiesStores p old (record old { subtrans = subtrans }) (Err e)
-    first_failed subtrans e one = record {
-      count = record { subtrans = one.count; offsets = refl; members = refl };
-      empty = λ told. tt;
-      refused = inl one.refused;
-      counted = record { subtrans = one.counted; offsets = same_volumes old.offsets.items; members = same_volumes old.members.items };
-    }
-
-    pub second_failed : (subtrans offsets : Vec P Global) (e : RecoverRefusal) → EmptiesBanks p (lock_of stores.Subtrans) old.subtrans.items subtrans.items (Ok (tt {0}))
-        → EmptiesBanks p (lock_of stores.Offsets) old.offsets.items offsets.items (Err e)
-        → EmptiesStores p old (record { subtrans = subtrans; offsets = offsets; members = old.members }) (Err e)
-    second_failed subtrans offsets e one two = record {
-      count = record { subtrans = one.count; offsets = two.count; members = refl };
-      empty = λ told. tt;
-      refused = inr (inl two.refused);
-      counted = record { subtrans = one.counted; offsets = two.counted; members = same_volumes old.members.items };
-    }
-
-    pub with_third : (subtrans offsets members : Vec P Global) (result : Result (Unit {0}) RecoverRefusal) → EmptiesBanks p (lock_of stores.Subtrans) old.subtrans.items subtrans.items (Ok (tt {0}))
-        → EmptiesBanks p (lock_of stores.Offsets) old.offsets.items offsets.items (Ok (tt {0})) → EmptiesBanks p (lock_of stores.Members) old.members.items members.items result
-        → EmptiesStores p old (record { subtrans = subtrans; offsets = offsets; members = members }) result
-    with_third subtrans offsets members result one two three = record {
-      count = record { subtrans = one.count; offsets = two.count; members = three.count };
-      empty = λ told. all_three result (one.empty told) (two.empty told) (three.empty told);
-      refused = last_failed result three.refused;
-      counted = record { subtrans = one.counted; offsets = two.counted; members = three.counted };
-    }
-      where
-        all_three : (result : Result (Unit {0}) RecoverRefusal) → AreEmpty p subtrans.items → AreEmpty p offsets.items → OnOk result (AreEmpty p members.items)
-            → OnOk result (AreAllEmpty p (record { subtrans = subtrans; offsets = offsets; members = members }))
-        all_three (Ok u) a b c = record { subtrans = a; offsets = b; members = c }
-        all_three (Err e) a b c = tt
-
-        last_failed : (result : Result (Unit {0}) RecoverRefusal) → IfErr result (IsStoreRefusal p (lock_of stores.Members) old.members.items members.items)
-            → IfErr result (IsEmptyRefusal p old (record { subtrans = subtrans; offsets = offsets; members = members }))
-        last_failed (Ok u) c = tt
-        last_failed (Err e) c = inr (inr c)

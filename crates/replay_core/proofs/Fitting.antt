@@ -7,7 +7,7 @@ use Rattle.tx_events.proofs.Membership.{contains_has, has_cases, has_contains, h
 use Rattle.log_bases.specs.LifeBase.{LifeBase, committed_in}
 use Rattle.recoverable.specs.Fit.{IsCommitCode, KeptLog, XactFits, base_at, log_end}
 use Rattle.recoverable.specs.XactImages.{code_at}
-use Rattle.replay_core.specs.declared.share.Share.{Share}
+use Rattle.replay_multis.specs.declared.share.Share.{Share}
 use Rattle.replay_core.specs.Redo.{HasPlace, code_in}
 use Rattle.replay_core.specs.Restore.{IsPast, MayBecome}
 use Rattle.replay_core.specs.Laws.{FitsWithin, IsOn, IsToRedo, IsWholeFrom, ShowsBase, end_base}

@@ -1,33 +1,36 @@
 -- The logs on the way through a recovery: cut at the last record that was found, and then with the checkpoint.
-use Rattle.std.proofs.Common.{Contains, List, Option, None, Some, Ok, Err, Result, Bool, [], ap, append-nil, append_assoc, arith, drop, length, length-append, refl, subst, suc, sym, take, true, false, zero, ℕ, ⊎_elim, ◌++◌, ◌+◌, ◌-◌, ◌<◌, ◌∙◌, ◌∷◌, ◌^◌, ◌≡◌, ◌≤◌}
-use Rattle.std.proofs.Math.Seq.{take-add, take-length}
-use Rattle.std.proofs.lemmas.List.{drop-take, length-take-le, take-append-drop}
+use Rattle.std.proofs.Common.{Contains, List, Option, None, Some, Ok, Err, Result, [], ap, append-nil, append_assoc, arith, drop, length, length-append, max, refl, subst, suc, sym, take, zero, ℕ, ⊎_elim, ◌++◌, ◌+◌, ◌-◌, ◌<◌, ◌∙◌, ◌∷◌, ◌^◌, ◌≡◌, ◌≤◌}
+use Rattle.std.proofs.Math.Seq.{take-length}
+use Rattle.std.proofs.lemmas.List.{length-take-le, take-append-drop}
 use Rattle.std.specs.List.{filter, slice_get}
 use Rattle.disk_core.specs.Volume.{Volume}
-use Rattle.tx_events.proofs.Membership.{Has, contains_has, filter_none_on, has_contains, has_take}
+use Rattle.tx_events.proofs.Membership.{contains_has, has_cases, has_contains, has_filter}
+use Rattle.tx_events.specs.declared.multi.Member.{Member}
 use Rattle.tx_events.proofs.PlaceLemmas.{slice_get-push}
 use Rattle.tx_events.specs.After.{after_records}
 use Rattle.tx_events.specs.Base.{IsBase}
 use Rattle.tx_events.specs.declared.record.Counters.{Counters}
 use Rattle.tx_events.specs.declared.record.Rec.{Rec}
 use Rattle.tx_events.specs.declared.record.Rec.TheVariants as records
-use Rattle.tx_events.specs.Limits.{stop_limit}
+use Rattle.tx_events.specs.Limits.{member_stop, multi_stop_limit, stop_limit}
 use Rattle.wal_core.specs.Kept.{HasFlushed, IsStretch, OpensToRecords}
 use Rattle.wal_core.specs.Log.{history_in}
 use Rattle.wal_core.specs.LogContents.{ComesTo}
 use Rattle.wal_core.specs.Opening.{History, Opened, next_number, no_counters, opened}
 use Rattle.recoverable.specs.Fit.{KeptLog, MayBegin, base_at, log_end, recs_below}
-use Rattle.log_bases.specs.LifeBase.{IsLifeBase, LifeBase, base_after, committed_in, is_multi}
+use Rattle.log_bases.specs.LifeBase.{AreBelowNext, IsLifeBase, LifeBase, base_after, committed_in, is_multi}
 use Rattle.recoverable.specs.Volumes.{KeepsUpTo, ListFits, LogFits, checkpoint_of}
-use Rattle.recoverable.proofs.LogBases.{committed_below, oldest_multi_grows}
+use Rattle.recoverable.proofs.LogBases.{committed_below, multi_below, multi_grows, offset_grows}
 use Rattle.log_bases.proofs.Bases.{base_then}
 use Rattle.recoverable.proofs.Opened.{first_is, first_stands, history_comes, log_opens}
 use Rattle.recoverable.proofs.Stretches.{get_inside}
 use Rattle.replay_core.specs.Redo.{AreNear}
 use Rattle.replay_core.specs.Restore.{IsWindow}
 use Rattle.replay_core.specs.Laws.{IsWholeFrom, end_base, up_to, with_checkpoint}
-use Rattle.replay_core.proofs.Phases.{checkpoint_before, checkpoint_end, checkpoint_same, cut_base, cut_end, cut_end_base, later_base, take_take}
-use Rattle.replay_core.specs.Opened.{HasNone}
+use Rattle.replay_core.proofs.Phases.{checkpoint_before, checkpoint_end, checkpoint_same, cut_base, cut_end, cut_end_base}
+use Rattle.replay_core.specs.LawsMultis.{IsWholeOfMultis, first_multi, first_offset}
+use Rattle.replay_core.specs.Spans.{AreMultisInReach, begun_counters, member_span, offset_span}
+use Rattle.replay_core.proofs.LaterMultis.{IsLater, is_later_at}
 
 -- ---- a base's window
 
@@ -49,6 +52,36 @@ ids_near first recs base comes y among =
     let window = (base_window base comes.1.1).1 in
     omega arith
 
+-- nor are the multixacts that they name far from the oldest one, and their members from the oldest offset
+pub multis_in_reach : (first : ℕ) (recs : List Rec) (base : Counters) → ComesTo first recs (Some base) → AreMultisInReach recs base
+multis_in_reach first recs base comes =
+    let counters : base ≡ after_records no_counters recs = comes.1.0 in
+    let is : IsBase base = comes.1.1 in
+    let high = is.multi in let top = is.offset in
+    let stop = multi_stop_below base.oldest_multi in let end = member_stop_below base.oldest_offset in let end0 = end.0 in let end1 = end.1 in
+    let below : (m x : ℕ) (ms : List Member) → Contains recs (records.Multi m x ms) → (m < base.multi) × (x + length ms ≤ base.offset) = λ m x ms c.
+    subst (λ (d : Counters). (m < d.multi) × (x + length ms ≤ d.offset)) (sym counters) (multi_below no_counters recs m x ms (contains_has recs (records.Multi m x ms) c)) in
+    record {
+      near = λ m x ms c. let b = (below m x ms c).0 in omega arith;
+      below = λ m x ms c. (below m x ms c).1;
+      window = omega arith;
+      small = omega arith;
+    }
+  where
+    multi_stop_below : (oldest : ℕ) → multi_stop_limit oldest ≤ oldest + 2 ^ 31 - 2999000
+    multi_stop_below oldest = grind arith
+
+    member_stop_below : (oldest : ℕ) → (member_stop oldest ≤ oldest + 2 ^ 30) × (member_stop oldest < 2 ^ 63)
+    member_stop_below oldest = (grind arith, grind arith)
+
+-- what a base and the records behind it name lies below the counters that they give
+pub below_after : (base : LifeBase) (recs : List Rec) → AreBelowNext base → AreBelowNext (base_after base recs)
+below_after base recs below m x ms c = ⊎_elim
+    (λ old. let b = below m x ms (has_contains base.recorded (records.Multi m x ms) old) in let b0 = b.0 in let b1 = b.1 in
+    let up = multi_grows base.counters recs in let rise = offset_grows base.counters recs in (omega arith, omega arith))
+    (λ new. multi_below base.counters recs m x ms (has_filter is_multi recs (records.Multi m x ms) new).0)
+    (has_cases base.recorded (filter is_multi recs) (records.Multi m x ms) (contains_has (base.recorded ++ filter is_multi recs) (records.Multi m x ms) c))
+
 -- ---- what was found
 
 -- the log opens to these records of the list, from one at which it may begin on
@@ -60,7 +93,7 @@ pub record FoundIn (log : KeptLog) (first : ℕ) (recs : List Rec) (base : Count
   pub upto : first + length recs ≤ log_end log
   pub recs_are : recs ≡ drop (first - log.first) (recs_below log (first + length recs))
   pub counters : base ≡ (base_at log (first + length recs)).counters
-  pub none : HasNone recs
+  pub begun : begun_counters recs base ≡ (base_at log (first + 1)).counters
 
 some_same : {A : Type 0} (x y : A) → Some x ≡ Some y → x ≡ y
 some_same {A} x y e = ap (λ (z : Option A). elim z [ None ↦ x | Some v ↦ v ]) e
@@ -68,13 +101,19 @@ some_same {A} x y e = ap (λ (z : Option A). elim z [ None ↦ x | Some v ↦ v 
 some_first : (recs : List Rec) (n : ℕ) → Rattle.wal_core.specs.Opening.first_number recs ≡ Some n → 1 ≤ length recs
 some_first recs n e = let f = first_is recs n e in let g : length recs ≡ length (records.Checkpoint n f.0 ∷ f.1) = ap length f.2 in omega arith
 
-pub found_in : (log : KeptLog) (n first gate : ℕ) (recs : List Rec) (base : Counters) (v : Volume) → ListFits log → MayBegin log n → LogFits log n v → HasNone recs
+pub found_in : (log : KeptLog) (n first gate : ℕ) (recs : List Rec) (base : Counters) (v : Volume) → ListFits log → MayBegin log n → LogFits log n v
     → opened v ≡ Ok (record { history = Some (record { first = first; recs = recs; counters = base }); gate = gate }) → (n ≡ first) × FoundIn log first recs base
-found_in log n first gate recs base v list may fits none opens =
+found_in log n first gate recs base v list may fits opens =
     let h : History = record { first = first; recs = recs; counters = base } in
     let same : fits.history ≡ h = some_same fits.history h (ap history_in (sym fits.opens ∙ opens)) in
     let at : n ≡ first = sym fits.first ∙ ap (λ (z : History). z.first) same in
-    let comes = history_comes v h gate opens in (
+    let comes = history_comes v h gate opens in
+    let check = first_is recs first comes.0 in
+    let begins = subst (MayBegin log) at may in
+    let own : recs ≡ drop (first - log.first) (recs_below log (first + length recs))
+    = subst (λ (z : History). z.recs ≡ drop (first - log.first) (recs_below log (next_number z))) same (subst (λ z. fits.history.recs ≡ drop (z - log.first) (recs_below log (next_number fits.history))) at fits.recs) in
+    let stands : slice_get log.recs (first - log.first) ≡ Some (records.Checkpoint first check.0)
+    = taken_at (first + length recs - log.first) log.recs (first - log.first) (records.Checkpoint first check.0) (head_of (first - log.first) (recs_below log (first + length recs)) (records.Checkpoint first check.0) check.1 (sym own ∙ check.2)) in (
       at,
       record {
         list = list;
@@ -82,11 +121,23 @@ found_in log n first gate recs base v list may fits none opens =
         some = some_first recs first comes.0;
         flushed = subst (λ (z : History). log.flushed ≤ next_number z) same fits.flushed;
         upto = subst (λ (z : History). next_number z ≤ log_end log) same fits.upto;
-        recs_are = subst (λ (z : History). z.recs ≡ drop (first - log.first) (recs_below log (next_number z))) same (subst (λ z. fits.history.recs ≡ drop (z - log.first) (recs_below log (next_number fits.history))) at fits.recs);
+        recs_are = own;
         counters = subst (λ (z : History). z.counters ≡ (base_at log (next_number z)).counters) same fits.counters;
-        none = none;
+        begun = ap (λ (t : List Rec). begun_counters t base) check.2 ∙ sym (list.whole first begins.from check.0 stands);
       },
     )
+  where
+    head_of : {A : Type 0} (k : ℕ) (xs : List A) (y : A) (ys : List A) → drop k xs ≡ y ∷ ys → slice_get xs k ≡ Some y
+    head_of zero [] y ys e = absurd cc
+    head_of zero (x ∷ xs) y ys e = cc
+    head_of (suc k) [] y ys e = absurd cc
+    head_of (suc k) (x ∷ xs) y ys e = head_of k xs y ys e
+
+    taken_at : {A : Type 0} (m : ℕ) (xs : List A) (n : ℕ) (x : A) → slice_get (take m xs) n ≡ Some x → slice_get xs n ≡ Some x
+    taken_at zero xs n x e = absurd cc
+    taken_at (suc m) [] n x e = absurd cc
+    taken_at (suc m) (y ∷ ys) zero x e = e
+    taken_at (suc m) (y ∷ ys) (suc n) x e = taken_at m ys n x e
 
 -- ---- from the log to later ones
 
@@ -149,18 +200,48 @@ module _ (log : KeptLog) (first : ℕ) (recs : List Rec) (base : Counters) (f : 
       let c : length (take (first - log.first) (recs_below log (first + length recs))) ≡ first - log.first = length-take-le (first - log.first) (recs_below log (first + length recs)) (omega arith) in
       omega arith
 
-  pub whole_from : IsWholeFrom (up_to log (first + length recs)) first recs
+  -- its base is that at the first one found, and these records behind it
+  both : end_base (up_to log (first + length recs)) ≡ base_after (base_at (up_to log (first + length recs)) first) recs
   unfolding front
+  both = cut_base_is ∙ ap (base_after log.base) cut_split ∙ base_then log.base (take (first - log.first) (recs_below log (first + length recs))) recs
+
+  pub whole_from : IsWholeFrom (up_to log (first + length recs)) first recs
   whole_from =
       let life : IsLifeBase (base_at log (first + length recs)) = f.list.bases (first + length recs) f.flushed f.upto in
-      let both : end_base (up_to log (first + length recs)) ≡ base_after (base_at (up_to log (first + length recs)) first) recs
-      = cut_base_is ∙ ap (base_after log.base) cut_split ∙ base_then log.base (take (first - log.first) (recs_below log (first + length recs))) recs in
       record {
         flushed = sym cut_end_is;
         rest = ap (λ (b : LifeBase). b.committed) both;
         window = subst (λ (b : LifeBase). IsWindow b.counters.oldest b.counters.next) (sym cut_base_is) (base_window (base_at log (first + length recs)).counters life.counters);
         below = λ x among. subst (λ (b : LifeBase). x < b.counters.next) (sym cut_base_is) (life.committed x (subst (λ (b : LifeBase). Contains b.committed x) cut_base_is among)).1;
       }
+
+  pub whole_multis : IsWholeOfMultis (up_to log (first + length recs)) first recs
+  whole_multis =
+      let some = f.some in
+      let before = is_later_at (up_to log (first + length recs)) first (first + 1) (omega arith) in
+      let last : base_at (up_to log (first + length recs)) (first + length recs) ≡ end_base (up_to log (first + length recs)) = ap (base_at (up_to log (first + length recs))) (sym cut_end_is) in
+      let behind = subst (IsLater (base_at (up_to log (first + length recs)) (first + 1))) last (is_later_at (up_to log (first + length recs)) (first + 1) (first + length recs) (omega arith)) in
+      record {
+        flushed = sym cut_end_is;
+        base = subst IsLifeBase (sym cut_base_is) (f.list.bases (first + length recs) f.flushed f.upto);
+        rest = ap (λ (b : LifeBase). b.recorded) both;
+        before = below_after log.base (recs_below (up_to log (first + length recs)) first) f.list.below;
+        begun = before.multi;
+        begun_offset = before.offset;
+        upto = behind.multi;
+        upto_offset = behind.offset;
+      }
+
+  -- what is redone and cleared is what the cut log says
+  begun_is : begun_counters recs base ≡ (base_at (up_to log (first + length recs)) (first + 1)).counters
+  begun_is = let some = f.some in f.begun ∙ ap (λ (b : LifeBase). b.counters) (sym (cut_base log (first + 1) (first + length recs) (omega arith)))
+
+  pub offset_span_is : offset_span recs base ≡ record { oldest = (end_base (up_to log (first + length recs))).counters.oldest_multi; from = first_multi (up_to log (first + length recs)) first; next = (end_base (up_to log (first + length recs))).counters.multi }
+  offset_span_is = λ i. record { oldest = (sym counters_are i).oldest_multi; from = max (begun_is i).multi (sym counters_are i).oldest_multi; next = (sym counters_are i).multi }
+
+  pub member_span_is : member_span recs base
+      ≡ record { oldest = (end_base (up_to log (first + length recs))).counters.oldest_multi; oldest_offset = (end_base (up_to log (first + length recs))).counters.oldest_offset; from = first_offset (up_to log (first + length recs)) first; next = (end_base (up_to log (first + length recs))).counters.offset }
+  member_span_is = λ i. record { oldest = (sym counters_are i).oldest_multi; oldest_offset = (sym counters_are i).oldest_offset; from = max (begun_is i).offset (sym counters_are i).oldest_offset; next = (sym counters_are i).offset }
 
   -- ---- their lists fit
 
@@ -175,6 +256,7 @@ module _ (log : KeptLog) (first : ℕ) (recs : List Rec) (base : Counters) (f : 
 
   pub cut_list_fits : ListFits (up_to log (first + length recs))
   cut_list_fits = record {
+    below = f.list.below;
     from = low;
     upto = let e = cut_end_is in omega arith;
     bases = λ j from to. subst IsLifeBase (sym (ap (base_at (up_to log (first + length recs))) (same_place j from to) ∙ cut_base log (first + length recs) (first + length recs) (omega arith))) (f.list.bases (first + length recs) f.flushed f.upto);
@@ -187,6 +269,7 @@ module _ (log : KeptLog) (first : ℕ) (recs : List Rec) (base : Counters) (f : 
 
   checkpoint_list_fits : (flushed : ℕ) → first + length recs ≤ flushed → flushed ≤ first + length recs + 1 → ListFits (with_checkpoint (up_to log (first + length recs)) flushed)
   checkpoint_list_fits flushed at_least at_most = record {
+    below = f.list.below;
     from = let a = low in omega arith;
     upto = let e = checkpoint_end (up_to log (first + length recs)) flushed in let g = cut_end_is in omega arith;
     bases = λ j from to. let g = cut_end_is in subst IsLifeBase (sym (checkpoint_same (up_to log (first + length recs)) flushed j (omega arith) ∙ cut_base_is)) (f.list.bases (first + length recs) f.flushed f.upto);
@@ -230,36 +313,6 @@ module _ (log : KeptLog) (first : ℕ) (recs : List Rec) (base : Counters) (f : 
     recs = (λ i. recs_below log (first + length recs) ++ checkpoint_of (cut_end_is i) (cut_base_is i)) ∙ ap (λ (t : List Rec). t ++ checkpoint_of (first + length recs) (base_at log (first + length recs))) (sym (drop_none log (recs_below log (first + length recs))));
     flushed = let a = f.flushed in omega arith;
   }
-
-  -- ---- no multixact comes in
-
-  pub recorded_same : (n : ℕ) → first ≤ n → n ≤ first + length recs → (base_at log n).recorded ≡ (base_at log first).recorded
-  recorded_same n from to =
-      let a = f.may_begin.from in
-      let rest : List Rec = take (n - first) (drop (first - log.first) log.recs) in
-      let split : n - log.first ≡ (first - log.first) + (n - first) = omega arith in
-      let later : base_at log n ≡ base_after (base_at log first) rest
-      = ap (λ m. base_after log.base (take m log.recs)) split ∙ ap (base_after log.base) (take-add (first - log.first) (n - first) log.recs) ∙ base_then log.base (take (first - log.first) log.recs) rest in
-      let own : recs ≡ take (first + length recs - first) (drop (first - log.first) log.recs) = f.recs_are ∙ own_drop in
-      let part : rest ≡ take (n - first) recs = sym (take_take (n - first) (first + length recs - first) (drop (first - log.first) log.recs) (omega arith)) ∙ ap (take (n - first)) (sym own) in
-      let nothing : filter is_multi rest ≡ [] = filter_none_on is_multi rest (λ x h. none_is x (has_take (n - first) recs x (subst (λ (t : List Rec). Has t x) part h))) in
-      ap (λ (b : LifeBase). b.recorded) later ∙ ap (λ (t : List Rec). (base_at log first).recorded ++ t) nothing ∙ append-nil (base_at log first).recorded
-    where
-      own_drop : drop (first - log.first) (recs_below log (first + length recs)) ≡ take (first + length recs - first) (drop (first - log.first) log.recs)
-      own_drop =
-          let a = f.may_begin.from in
-          let split : first - log.first + (first + length recs - first) ≡ first + length recs - log.first = omega arith in
-          ap (λ z. drop (first - log.first) (take z log.recs)) (sym split) ∙ drop-take (first - log.first) (first + length recs - first) log.recs
-
-      none_is : (x : Rec) → Has recs x → is_multi x ≡ false
-      none_is x h =
-          let step : (b : Bool) → is_multi x ≡ b → is_multi x ≡ false = elim [ true ↦ λ e. absurd (f.none x (has_contains recs x h) e) | false ↦ λ e. e ] in
-          step (is_multi x) refl
-
-  pub oldest_multi_up : (base_at log log.flushed).counters.oldest_multi ≤ (base_at log (first + length recs)).counters.oldest_multi
-  oldest_multi_up =
-      let later = later_base log log.flushed (first + length recs) f.list.from f.flushed in
-      subst (λ (b : LifeBase). (base_at log log.flushed).counters.oldest_multi ≤ b.counters.oldest_multi) (sym later.1) (oldest_multi_grows (base_at log log.flushed).counters later.0)
 
 -- ---- what an image opens to
 

@@ -1,15 +1,19 @@
 mod PastIds
+mod PastMultis
 mod OneId
 mod Redoing
 mod Restoring
 mod OnDisk
 mod Fitting
+mod FittingOffsets
+mod FittingMembers
 mod Phases
+mod LaterMultis
 pub mod Rows
 mod BankRows
-mod Multis
-mod Absent
+mod StoreRows
 mod LaterLogs
+mod Locating
 mod Joining
 mod Settling
 mod Prefixed

@@ -9,8 +9,8 @@ use Rattle.tx_events.specs.declared.record.Rec.{Rec}
 use Rattle.wal_core.specs.Log.{OpensAsBefore}
 use Rattle.wal_core.specs.LogContents.{history_with}
 use Rattle.wal_core.specs.Opening.{opened}
-use Rattle.replay_core.specs.Opened.{HasMulti, HasNone, OpensStill}
-use Rattle.replay_core.specs.Refused.{HasMultis, HasNoMultis, IsNewLog}
+use Rattle.replay_core.specs.Opened.{OpensStill}
+use Rattle.replay_core.specs.Refused.{IsNewLog}
 
 -- a log without counters is a new one
 pub new_log : (v : Volume) (first gate : ℕ) (recs : List Rec) (o : Option Counters) (t : Bool) → opened v ≡ Ok (record { history = history_with first recs o; gate = gate }) → IsTrue t ↔ IsNone o → t ≡ true → IsNewLog v
@@ -25,13 +25,6 @@ some_counters (Some c) t says is = refl
 pub opens_with : (v : Volume) (first gate : ℕ) (recs : List Rec) (o : Option Counters) (base : Counters) → opened v ≡ Ok (record { history = history_with first recs o; gate = gate }) → o ≡ Some base
     → opened v ≡ Ok (record { history = Some (record { first = first; recs = recs; counters = base }); gate = gate })
 opens_with v first gate recs o base opens is = subst (λ (z : Option Counters). opened v ≡ Ok (record { history = history_with first recs z; gate = gate })) is opens
-
-pub with_multis : (v : Volume) (first gate : ℕ) (recs : List Rec) (o : Option Counters) → opened v ≡ Ok (record { history = history_with first recs o; gate = gate }) → IsSome o → HasMulti recs → HasMultis v
-with_multis v first gate recs None opens some has = absurd cc
-with_multis v first gate recs (Some base) opens some has = record { history = record { first = first; recs = recs; counters = base }; opens = record { gate = gate; opens = opens }; multi = has.rec; among = has.among; is = has.is }
-
-pub without_multis : (v : Volume) (first gate : ℕ) (recs : List Rec) (base : Counters) → opened v ≡ Ok (record { history = Some (record { first = first; recs = recs; counters = base }); gate = gate }) → HasNone recs → HasNoMultis v
-without_multis v first gate recs base opens none = record { history = record { first = first; recs = recs; counters = base }; opens = record { gate = gate; opens = opens }; none = none }
 
 -- what is so at each moment of a call is so behind it
 pub still_behind : {D : Type 0} (g : logs.Ghosts D) (old new : D) → ((c : Volume) → g.images new c → g.left_at new (g.moment new) c) → LeavesOnly g.moment g.left_at old new (OpensAsBefore (g.images old)) → OpensStill g old new

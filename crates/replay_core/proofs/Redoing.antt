@@ -16,7 +16,7 @@ use Rattle.slru_bank.specs.declared.refusal.BankRefusal.{BankRefusal}
 use Rattle.log_bases.specs.LifeBase.{committed_by, committed_in}
 use Rattle.recoverable.specs.XactImages.{code_at}
 use Rattle.recoverable.proofs.Stretches.{flat_map_has}
-use Rattle.replay_core.specs.declared.share.Share.{Share}
+use Rattle.replay_multis.specs.declared.share.Share.{Share}
 use Rattle.replay_core.specs.Redo.{AreNear, HasPlace, IsNamed, IsOne, MayRedo, Redoes, RedoesBank, code_in}
 
 module _ (A C : ℕ → Type 0) (wide : (y : ℕ) → A y → C y) where

@@ -8,7 +8,7 @@ use Rattle.log_bases.specs.LifeBase.{LifeBase, committed_in}
 use Rattle.recoverable.specs.Fit.{IsCommitCode, KeptLog, XactFits, base_at, log_end, recs_below}
 use Rattle.recoverable.specs.Volumes.{checkpoint_of}
 use Rattle.recoverable.specs.XactImages.{code_at}
-use Rattle.replay_core.specs.declared.share.Share.{Share}
+use Rattle.replay_multis.specs.declared.share.Share.{Share}
 use Rattle.replay_core.specs.Redo.{IsNamed, code_in}
 use Rattle.replay_core.specs.Restore.{IsWindow, MayRestore, RestoresAll}
 

@@ -3,7 +3,9 @@ pub mod Restore
 pub mod Laws
 pub mod Volumes
 pub mod Begun
-pub mod Emptied
+pub mod LawsMultis
+pub mod PageVolumes
+pub mod Spans
 pub mod Refused
 pub mod Opened
 pub mod Banks

@@ -1,5 +1,5 @@
 -- The log as it was found, and what becomes of it until it is settled.
-use Rattle.std.specs.Prelude.{◌≡◌, ◌⊎◌, ℕ, ◌+◌, ◌≤◌, true, IsTrue, List, [], ◌∷◌, ◌++◌, length, Contains, None, Some, Ok}
+use Rattle.std.specs.Prelude.{◌≡◌, ◌⊎◌, ℕ, ◌+◌, ◌≤◌, IsTrue, List, [], ◌∷◌, ◌++◌, length, None, Some, Ok}
 use Rattle.disk_core.specs.Volume.{Volume}
 use Rattle.disk_core.specs.declared.log_disk.LogDisk as logs
 use Rattle.tx_events.specs.Base.{IsBase}
@@ -12,17 +12,7 @@ use Rattle.wal_core.specs.Log.{OpensAsBefore}
 use Rattle.wal_core.specs.LogContents.{ComesTo}
 use Rattle.wal_core.specs.LogViews.{KeepsAll, log_counters, log_disk, log_down, log_end, log_first, log_flushed, log_next, log_pending, log_recs}
 use Rattle.wal_core.specs.Opening.{opened}
-use Rattle.log_bases.specs.LifeBase.{is_multi}
 use Rattle.replay_core.specs.declared.found.Found.{Found}
-
--- one of the records is of a multixact, or none is
-pub record HasMulti (recs : List Rec) : Type 0 where
-  pub rec : Rec
-  pub among : Contains recs rec
-  pub is : is_multi rec ≡ true
-
-abbrev pub HasNone : List Rec → Type 0
-HasNone recs = (rec : Rec) → Contains recs rec → is_multi rec ≡ true → ⊥
 
 module _ {D : Type 0} {g : logs.Ghosts D} where
   -- a log that was just started, with these counters
@@ -34,12 +24,11 @@ module _ {D : Type 0} {g : logs.Ghosts D} where
     pub counters : log_counters log ≡ Some base
     pub keeps : IsTrue g.tells → (first : ℕ) × (all : List Rec) × KeepsAll first all g.images log
 
-  -- It is that of this volume, with the records that the volume has, none of a multixact.
+  -- It is that of this volume, with the records that the volume has.
   pub record IsFound (disk : D) (found : Found D g) : Type 0 where
     pub is_open : IsOpen found.base found.log
     pub next : log_next found.log ≡ log_first found.log + length found.recs
     pub comes : ComesTo (log_first found.log) found.recs (Some found.base)
-    pub none : HasNone found.recs
     pub count : g.faults disk ≤ g.faults (log_disk found.log)
     pub opens : IsTrue g.tells → opened (g.reads disk) ≡ Ok (record { history = Some (record { first = log_first found.log; recs = found.recs; counters = found.base }); gate = log_end found.log })
     pub keeps : IsTrue g.tells → KeepsAll (log_first found.log) found.recs g.images found.log

@@ -12,7 +12,7 @@ use Rattle.slru_bank.specs.declared.refusal.BankRefusal.TheVariants.{DiskFault}
 use Rattle.slru_bank.specs.Calls.{cutoff_of, faults_of, pages_of, volume_of}
 use Rattle.slru_bank.specs.Crash.{CrashLeaves}
 use Rattle.recoverable.specs.XactImages.{code_at}
-use Rattle.replay_core.specs.declared.share.Share.{Share}
+use Rattle.replay_multis.specs.declared.share.Share.{Share}
 
 -- the bits at the place of an id
 abbrev pub code_in : (ℕ → List ℕ) → ℕ → ℕ

@@ -1,11 +1,10 @@
 -- Why a cluster wasn't recovered, by its volumes before and after.
-use Rattle.std.specs.Prelude.{◌≡◌, ℕ, true, IsTrue, Contains, Option, None, Some, Ok, Err, length}
+use Rattle.std.specs.Prelude.{◌≡◌, ℕ, IsTrue, Option, None, Some, Ok, Err, length}
 use Rattle.disk_core.specs.Faults.{HasRisen}
 use Rattle.disk_core.specs.Volume.{Volume}
 use Rattle.disk_core.specs.declared.log_disk.LogDisk as logs
 use Rattle.disk_core.specs.declared.page_disk.PageDisk as disks
 use Rattle.tx_events.specs.declared.record.Counters.{Counters}
-use Rattle.tx_events.specs.declared.record.Rec.{Rec}
 use Rattle.tx_events.specs.declared.record.Rec.TheVariants as records
 use Rattle.tx_events.specs.declared.refusal.Lock.TheVariants as locks
 use Rattle.wal_core.specs.Log.{IsFull}
@@ -15,7 +14,6 @@ use Rattle.wal_core.specs.declared.refusal.LogRefusal.{LogRefusal}
 use Rattle.wal_core.specs.declared.refusal.LogRefusal.TheVariants as log_refusals
 use Rattle.wal_core.specs.declared.wal_log.WalLog.{WalLog}
 use Rattle.wal_records.specs.Spelling.{rec_bytes}
-use Rattle.log_bases.specs.LifeBase.{is_multi}
 use Rattle.recoverable.specs.Clusters.{HasFailedAt}
 use Rattle.disk_core.specs.declared.media.Volumes.{Volumes}
 use Rattle.replay_core.specs.declared.refusal.RecoverRefusal.{RecoverRefusal}
@@ -28,20 +26,6 @@ pub record OpensTo (history : Option History) (v : Volume) : Type 0 where
 
 abbrev pub IsNewLog : Volume → Type 0
 IsNewLog v = OpensTo None v
-
--- it opens to records, one of which is of a multixact
-pub record HasMultis (v : Volume) : Type 0 where
-  pub history : History
-  pub opens : OpensTo (Some history) v
-  pub multi : Rec
-  pub among : Contains history.recs multi
-  pub is : is_multi multi ≡ true
-
--- it opens to records, none of which is
-pub record HasNoMultis (v : Volume) : Type 0 where
-  pub history : History
-  pub opens : OpensTo (Some history) v
-  pub none : (rec : Rec) → Contains history.recs rec → is_multi rec ≡ true → ⊥
 
 -- a checkpoint of the log's counters has no room behind its gate
 pub record HasNoRoom (v : Volume) : Type 0 where
@@ -63,7 +47,6 @@ module _ {D : Type 0} (g : logs.Ghosts D) where
   abbrev pub IsOpenRefusal : D → D → RecoverRefusal → Type 0
   IsOpenRefusal old new (refusals.Damaged at) = IsTrue g.tells → opened (g.reads old) ≡ Err at
   IsOpenRefusal old new refusals.NoRecord = IsTrue g.tells → IsNewLog (g.reads old)
-  IsOpenRefusal old new refusals.HasMultis = IsTrue g.tells → HasMultis (g.reads old)
   IsOpenRefusal old new refusals.LogFault = HasRisen (g.faults old) (g.faults new)
   IsOpenRefusal old new refusals.Memory = Unit {0}
   IsOpenRefusal old new refusal = ⊥
@@ -80,7 +63,6 @@ module _ {L P : Type 0} (l : logs.Ghosts L) (p : disks.Ghosts P) where
   abbrev pub IsRefusal : Volumes L P → Volumes L P → RecoverRefusal → Type 0
   IsRefusal old new (refusals.Damaged at) = IsTrue l.tells → opened (l.reads old.log) ≡ Err at
   IsRefusal old new refusals.NoRecord = IsTrue l.tells → IsNewLog (l.reads old.log)
-  IsRefusal old new refusals.HasMultis = IsTrue l.tells → HasMultis (l.reads old.log)
   IsRefusal old new refusals.LogFault = HasRisen (l.faults old.log) (l.faults new.log)
   IsRefusal old new (refusals.DiskFault (locks.Xact bank)) = HasFailedAt p.faults bank old.xact.items new.xact.items
   IsRefusal old new (refusals.DiskFault (locks.Subtrans bank)) = HasFailedAt p.faults bank old.subtrans.items new.subtrans.items

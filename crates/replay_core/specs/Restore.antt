@@ -1,7 +1,7 @@
 -- What a recovery does to the pages of pg_xact: it redoes the commits, and clears the states from the next id on.
 use Rattle.std.specs.Prelude.{◌≡◌, ℕ, ◌+◌, ◌^◌, ◌<◌, ◌≤◌, ◌⊎◌, List, true, IsErr, IsTrue, OnOk, Err, Result}
 use Rattle.disk_core.specs.Faults.{HasRisen}
-use Rattle.disk_core.specs.Pages.{Pages, page_bytes}
+use Rattle.disk_core.specs.Pages.{Pages}
 use Rattle.disk_core.specs.declared.page_disk.PageDisk as disks
 use Rattle.store_pages.specs.Layouts.{xact_page_of, xact_place_of}
 use Rattle.store_pages.specs.declared.page_rule.PageRule as rules
@@ -13,6 +13,7 @@ use Rattle.slru_bank.specs.Calls.{IsDurable, faults_of, pages_of, volume_of}
 use Rattle.slru_bank.specs.Crash.{CrashLeaves}
 use Rattle.recoverable.specs.XactImages.{code_at}
 use Rattle.replay_core.specs.Redo.{HasPlace, code_in}
+pub use Rattle.replay_multis.specs.Restore.{HasBytesOnDisk, bytes_on}
 
 -- the ids that a life has room for, as far as its places tell them apart
 abbrev pub IsWindow : ℕ → ℕ → Type 0
@@ -38,13 +39,6 @@ pub record RestoresAll (Named : ℕ → Type 0) (next : ℕ) (old new : ℕ → 
 -- a crash leaves of each place what an image of before had, or the map, or what it may become
 pub record MayRestore (Named : ℕ → Type 0) (next : ℕ) (m : ℕ → List ℕ) (c d : Pages) : Type 0 where
   pub each : (x : ℕ) → (code_at d x ≡ code_at c x) ⊎ ((code_at d x ≡ code_in m x) ⊎ MayBecome Named next x (code_at d x))
-
--- the bytes of a volume's pages, and that each image has them
-abbrev pub bytes_on : {P : Type 0} → disks.Ghosts P → P → ℕ → List ℕ
-bytes_on g disk q = page_bytes (g.pages disk q)
-
-abbrev pub HasBytesOnDisk : {P : Type 0} → disks.Ghosts P → P → Type 0
-HasBytesOnDisk g disk = (c : Pages) → g.images disk c → (q : ℕ) → page_bytes (c q) ≡ bytes_on g disk q
 
 module _ {P O : Type 0} {g : disks.Ghosts P} {r : rules.Ghosts O} where
   -- The pages show that, and all of it is on the disk; or the volume failed on the way.

@@ -1,16 +1,18 @@
 // The volumes of the banks, one after another, each in its place.
-ghost use Rattle.std.specs.Prelude.{◌≡◌, ◌<◌, ◌≤◌, ◌^◌, insert, length, vec_capacity};
-ghost use Rattle.replay_core.specs.Emptied.{EmptiesStores, lock_of};
+ghost use Rattle.std.specs.Prelude.{◌≡◌, ◌+◌, ◌<◌, ◌≤◌, ◌^◌, insert, length, vec_capacity};
+ghost use Rattle.tx_events.specs.declared.refusal.Lock.TheVariants as locks;
 ghost use Rattle.log_bases.specs.LifeBase.{committed_in};
+ghost use Rattle.replay_multis.specs.Named.{AreMembersBelow, AreMultisNear};
 ghost use Rattle.replay_core.specs.Redo.{AreNear};
 ghost use Rattle.replay_core.specs.Restore.{IsWindow};
-ghost use Rattle.replay_core.specs.Banks.{ChangesAt, EmptiesBanks, Emptying, IsRefusalAt, RestoresBanks, Restoring};
+ghost use Rattle.replay_core.specs.Banks.{ChangesAt, EmptiesBanks, Emptying, IsRefusalAt, RestoresBanks, Restoring, members_become, members_leave, offsets_become, offsets_leave, states_become, states_leave};
 
 use crate::refusal::RecoverRefusal;
-use crate::restore::{RestoreRefusal, restore_states};
-use crate::share::Share;
-use crate::stores::{EmptyVolumes, Store, lock_of};
+use crate::restore::restore_states;
 use disk_core::PageDisk;
+use replay_multis::{
+    MemberSpan, OffsetSpan, RestoreRefusal, Share, restore_members, restore_offsets,
+};
 use slru_bank::SlruBank;
 use std::alloc::Global;
 use store_pages::{SubtransPages, subtrans_page};
@@ -26,20 +28,18 @@ fn put_back<P: PageDisk + Drop>(volumes: &mut Vec<P>, at: usize, disk: P)
     let Ok(()) = inserted else { unreachable!() };
 }
 
-// What a refusal of a bank of pg_xact means.
-fn refusal_at(bank: u32, refusal: RestoreRefusal) -> RecoverRefusal
-    ensures { IsRefusalAt bank refusal result }
+// What a refusal of the bank behind a lock means.
+fn refusal_at(lock: Lock, refusal: RestoreRefusal) -> RecoverRefusal
+    ensures { IsRefusalAt lock refusal result }
 {
     match refusal {
-        RestoreRefusal::DiskFault => RecoverRefusal::DiskFault {
-            lock: Lock::Xact(bank),
-        },
+        RestoreRefusal::DiskFault => RecoverRefusal::DiskFault { lock },
         RestoreRefusal::Memory => RecoverRefusal::Memory,
     }
 }
 
 // One volume of pg_xact is restored.
-fn restore_at<P: PageDisk + Drop>(
+fn restore_states_at<P: PageDisk + Drop>(
     alloc: Global,
     volumes: &mut Vec<P>,
     recs: &[Rec],
@@ -50,7 +50,8 @@ fn restore_at<P: PageDisk + Drop>(
     requires inside { share.now.bank < length volumes.old.items }
     requires near { AreNear base.now.oldest (committed_in recs.now) }
     requires window { IsWindow base.now.oldest base.now.next }
-    ensures { ChangesAt (Restoring P.PageDisk share.now recs.now base.now result) share.now.bank volumes.old.items volumes.new.items }
+    ensures { ChangesAt (Restoring P.PageDisk (locks.Xact share.now.bank) (states_leave share.now.banks recs.now base.now share.now.bank) (states_become share.now.banks recs.now base.now share.now.bank) result)
+        share.now.bank volumes.old.items volumes.new.items }
 {
     let at = share.bank as usize;
     let disk = volumes.remove(at);
@@ -58,12 +59,12 @@ fn restore_at<P: PageDisk + Drop>(
     put_back(volumes, at, disk);
     match outcome {
         Ok(()) => Ok(()),
-        Err(refusal) => Err(refusal_at(share.bank, refusal)),
+        Err(refusal) => Err(refusal_at(Lock::Xact(share.bank), refusal)),
     }
 }
 
 /// All volumes of pg_xact are restored, one after another.
-pub(crate) fn restore_all<P: PageDisk + Drop>(
+pub(crate) fn restore_all_states<P: PageDisk + Drop>(
     alloc: Global,
     volumes: &mut Vec<P>,
     recs: &[Rec],
@@ -72,16 +73,104 @@ pub(crate) fn restore_all<P: PageDisk + Drop>(
     requires few { length volumes.old.items ≤ 16 }
     requires near { AreNear base.now.oldest (committed_in recs.now) }
     requires window { IsWindow base.now.oldest base.now.next }
-    ensures { RestoresBanks P.PageDisk recs.now base.now volumes.old.items volumes.new.items result }
+    ensures { RestoresBanks P.PageDisk (λ bank. locks.Xact bank) (states_leave (length volumes.old.items) recs.now base.now) (states_become (length volumes.old.items) recs.now base.now) volumes.old.items volumes.new.items result }
 {
     let banks = volumes.len() as u32;
     for bank in 0..banks {
-        restore_at(alloc, volumes, recs, base, &Share { banks, bank })?;
+        restore_states_at(alloc, volumes, recs, base, &Share { banks, bank })?;
     }
     Ok(())
 }
 
-// Removes all pages of a volume, and syncs. Since no page stays, each store's pages may be taken for those of pg_subtrans.
+// One volume of the offsets is restored.
+fn restore_offsets_at<P: PageDisk + Drop>(
+    alloc: Global,
+    volumes: &mut Vec<P>,
+    recs: &[Rec],
+    span: &OffsetSpan,
+    share: &Share,
+) -> Result<(), RecoverRefusal>
+    requires share { 1 ≤ share.now.banks }
+    requires inside { share.now.bank < length volumes.old.items }
+    requires near { AreMultisNear span.now.oldest recs.now }
+    ensures { ChangesAt (Restoring P.PageDisk (locks.Offsets share.now.bank) (offsets_leave share.now.banks recs.now span.now share.now.bank) (offsets_become share.now.banks recs.now span.now share.now.bank) result)
+        share.now.bank volumes.old.items volumes.new.items }
+{
+    let at = share.bank as usize;
+    let disk = volumes.remove(at);
+    let (disk, outcome) = restore_offsets(alloc, disk, recs, span, share);
+    put_back(volumes, at, disk);
+    match outcome {
+        Ok(()) => Ok(()),
+        Err(refusal) => Err(refusal_at(Lock::Offsets(share.bank), refusal)),
+    }
+}
+
+/// All volumes of the offsets are restored, one after another.
+pub(crate) fn restore_all_offsets<P: PageDisk + Drop>(
+    alloc: Global,
+    volumes: &mut Vec<P>,
+    recs: &[Rec],
+    span: &OffsetSpan,
+) -> Result<(), RecoverRefusal>
+    requires few { length volumes.old.items ≤ 16 }
+    requires near { AreMultisNear span.now.oldest recs.now }
+    ensures { RestoresBanks P.PageDisk (λ bank. locks.Offsets bank) (offsets_leave (length volumes.old.items) recs.now span.now) (offsets_become (length volumes.old.items) recs.now span.now) volumes.old.items volumes.new.items result }
+{
+    let banks = volumes.len() as u32;
+    for bank in 0..banks {
+        restore_offsets_at(alloc, volumes, recs, span, &Share { banks, bank })?;
+    }
+    Ok(())
+}
+
+// One volume of the members is restored.
+fn restore_members_at<P: PageDisk + Drop>(
+    alloc: Global,
+    volumes: &mut Vec<P>,
+    recs: &[Rec],
+    span: &MemberSpan,
+    share: &Share,
+) -> Result<(), RecoverRefusal>
+    requires share { 1 ≤ share.now.banks }
+    requires inside { share.now.bank < length volumes.old.items }
+    requires below { AreMembersBelow span.now.next recs.now }
+    requires window { span.now.next + 2 ^ 15 ≤ span.now.oldest_offset + 2 ^ 31 }
+    requires small { span.now.next < 2 ^ 63 }
+    ensures { ChangesAt (Restoring P.PageDisk (locks.Members share.now.bank) (members_leave share.now.banks recs.now span.now share.now.bank) (members_become share.now.banks recs.now span.now share.now.bank) result)
+        share.now.bank volumes.old.items volumes.new.items }
+{
+    let at = share.bank as usize;
+    let disk = volumes.remove(at);
+    let (disk, outcome) = restore_members(alloc, disk, recs, span, share);
+    put_back(volumes, at, disk);
+    match outcome {
+        Ok(()) => Ok(()),
+        Err(refusal) => Err(refusal_at(Lock::Members(share.bank), refusal)),
+    }
+}
+
+/// All volumes of the members are restored, one after another.
+pub(crate) fn restore_all_members<P: PageDisk + Drop>(
+    alloc: Global,
+    volumes: &mut Vec<P>,
+    recs: &[Rec],
+    span: &MemberSpan,
+) -> Result<(), RecoverRefusal>
+    requires few { length volumes.old.items ≤ 16 }
+    requires below { AreMembersBelow span.now.next recs.now }
+    requires window { span.now.next + 2 ^ 15 ≤ span.now.oldest_offset + 2 ^ 31 }
+    requires small { span.now.next < 2 ^ 63 }
+    ensures { RestoresBanks P.PageDisk (λ bank. locks.Members bank) (members_leave (length volumes.old.items) recs.now span.now) (members_become (length volumes.old.items) recs.now span.now) volumes.old.items volumes.new.items result }
+{
+    let banks = volumes.len() as u32;
+    for bank in 0..banks {
+        restore_members_at(alloc, volumes, recs, span, &Share { banks, bank })?;
+    }
+    Ok(())
+}
+
+// Removes all pages of a volume of pg_subtrans, and syncs.
 fn empty<P: PageDisk + Drop>(
     alloc: Global,
     disk: P,
@@ -105,54 +194,35 @@ fn empty<P: PageDisk + Drop>(
     }
 }
 
-// One volume of a store is emptied.
 fn empty_at<P: PageDisk + Drop>(
     alloc: Global,
     volumes: &mut Vec<P>,
     base: &Counters,
-    store: Store,
     bank: u32,
 ) -> Result<(), RecoverRefusal>
     requires inside { bank < length volumes.old.items }
-    ensures { ChangesAt (Emptying P.PageDisk (lock_of store bank) result) bank volumes.old.items volumes.new.items }
+    ensures { ChangesAt (Emptying P.PageDisk (locks.Subtrans bank) result) bank volumes.old.items volumes.new.items }
 {
     let at = bank as usize;
     let disk = volumes.remove(at);
-    let (disk, outcome) = empty(alloc, disk, base, lock_of(store, bank));
+    let (disk, outcome) = empty(alloc, disk, base, Lock::Subtrans(bank));
     put_back(volumes, at, disk);
     outcome
 }
 
-// All volumes of a store are emptied, one after another.
-fn empty_all<P: PageDisk + Drop>(
+/// All volumes of pg_subtrans are emptied, one after another: nothing is read of them that an earlier life left
+/// (`StartupSUBTRANS` of `subtrans.c`).
+pub(crate) fn empty_all<P: PageDisk + Drop>(
     alloc: Global,
     volumes: &mut Vec<P>,
     base: &Counters,
-    store: Store,
 ) -> Result<(), RecoverRefusal>
     requires few { length volumes.old.items ≤ 16 }
-    ensures { EmptiesBanks P.PageDisk (lock_of store) volumes.old.items volumes.new.items result }
+    ensures { EmptiesBanks P.PageDisk (λ bank. locks.Subtrans bank) volumes.old.items volumes.new.items result }
 {
     let banks = volumes.len() as u32;
     for bank in 0..banks {
-        empty_at(alloc, volumes, base, store, bank)?;
+        empty_at(alloc, volumes, base, bank)?;
     }
     Ok(())
-}
-
-/// The stores of which nothing is read that an earlier life left are emptied, one after another (`StartupSUBTRANS` of
-/// `subtrans.c`).
-pub(crate) fn empty_stores<P: PageDisk + Drop>(
-    alloc: Global,
-    volumes: &mut EmptyVolumes<P>,
-    base: &Counters,
-) -> Result<(), RecoverRefusal>
-    requires subtrans { length volumes.old.subtrans.items ≤ 16 }
-    requires offsets { length volumes.old.offsets.items ≤ 16 }
-    requires members { length volumes.old.members.items ≤ 16 }
-    ensures { EmptiesStores P.PageDisk volumes.old volumes.new result }
-{
-    empty_all(alloc, &mut volumes.subtrans, base, Store::Subtrans)?;
-    empty_all(alloc, &mut volumes.offsets, base, Store::Offsets)?;
-    empty_all(alloc, &mut volumes.members, base, Store::Members)
 }

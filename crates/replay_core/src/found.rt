@@ -1,14 +1,13 @@
 // The log of a cluster is opened.
-ghost use Rattle.std.specs.Prelude.{◌≡◌, IfErr, IfOk, IsTrue, true, false};
+ghost use Rattle.std.specs.Prelude.{IfErr, IfOk, IsTrue};
 ghost use Rattle.wal_core.specs.Log.{EndsWithin};
-ghost use Rattle.wal_core.specs.LogViews.{log_disk};
-ghost use Rattle.replay_core.specs.Opened.{HasMulti, HasNone, IsFound, OpensStill};
+ghost use Rattle.replay_core.specs.Opened.{IsFound, OpensStill};
 ghost use Rattle.replay_core.specs.Refused.{IsOpenRefusal};
 
 use crate::refusal::{RecoverRefusal, refusal_of};
 use disk_core::LogDisk;
 use std::alloc::Global;
-use tx_events::{Counters, Rec, RecList};
+use tx_events::{Counters, RecList};
 use wal_core::{Started, WalLog};
 
 // A log, the records that its volume has, and the counters behind them.
@@ -18,22 +17,7 @@ pub(crate) struct Found<D: LogDisk> {
     pub(crate) base: Counters,
 }
 
-// Whether one of the records is of a multixact.
-fn has_multi(recs: &[Rec]) -> bool
-    ensures has { result ≡ true → HasMulti recs.now }
-    ensures none { result ≡ false → HasNone recs.now }
-{
-    let mut i = 0;
-    while i < recs.len() {
-        if let Rec::Multi { .. } = &recs[i] {
-            return true;
-        }
-        i += 1;
-    }
-    false
-}
-
-/// Opens the log of a volume (`WalLog::start`), where it has records, none of them of a multixact.
+/// Opens the log of a volume (`WalLog::start`), where it has records.
 pub(crate) fn open_log<D: LogDisk + Drop>(
     alloc: Global,
     disk: D,
@@ -52,9 +36,6 @@ pub(crate) fn open_log<D: LogDisk + Drop>(
             } = started;
             if log.is_new() {
                 return Err((log.into_disk(), RecoverRefusal::NoRecord));
-            }
-            if has_multi(recs.items()) {
-                return Err((log.into_disk(), RecoverRefusal::HasMultis));
             }
             let base = log.counters();
             Ok(Found { log, recs, base })

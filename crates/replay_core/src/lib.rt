@@ -9,17 +9,18 @@ mod cluster;
 mod found;
 /// The laws. The functions do nothing; their contracts are the laws.
 pub mod laws;
+mod pages;
 mod recovery;
 mod redo;
 mod refusal;
 mod restore;
 mod restore_bank;
 mod settle;
-mod share;
-mod stores;
+mod spans;
+mod volumes;
 
 pub use cluster::Recovered;
 pub use recovery::recover;
 pub use refusal::RecoverRefusal;
-pub use restore::{RestoreRefusal, restore_states};
-pub use share::Share;
+pub use replay_multis::{RestoreRefusal, Share};
+pub use restore::restore_states;

@@ -8,26 +8,28 @@ ghost use Rattle.wal_core.specs.LogViews.{log_disk};
 ghost use Rattle.replay_core.specs.Banks.{NoCountFell};
 ghost use Rattle.replay_core.specs.Begun.{AreEmpty, AreOnDisk, IsSettled};
 ghost use Rattle.replay_core.specs.Opened.{IsOpen};
-ghost use Rattle.replay_core.specs.Refused.{HasNoMultis, IsRefusal};
+ghost use Rattle.replay_core.specs.PageVolumes.{AreFew};
+ghost use Rattle.replay_core.specs.Refused.{IsRefusal};
 ghost use Rattle.replay_core.specs.Replay.{Replays};
+ghost use Rattle.replay_core.specs.Spans.{AreMultisInReach};
 ghost use Rattle.recoverable.specs.Clusters.{Fit};
 ghost use Rattle.replay_core.specs.Volumes.{LeavesFit, RecoversLog};
 
-use crate::banks::{empty_stores, restore_all};
 use crate::cluster::Recovered;
 use crate::found::{Found, open_log};
+use crate::pages::restore_pages;
 use crate::refusal::RecoverRefusal;
 use crate::settle::settle;
-use crate::stores::EmptyVolumes;
+use crate::volumes::PageVolumes;
 use disk_core::{LogDisk, PageDisk, Volumes};
 use std::alloc::Global;
 use tx_events::{Counters, Rec};
 use wal_core::WalLog;
 
 /// Recovers a cluster (`StartupXLOG`): the log is opened; the commits among its records are put on the pages of pg_xact,
-/// and what lies past the next id is cleared; pg_subtrans, the offsets and the members are emptied, since no multixact was
-/// made; then a checkpoint is flushed, alone in its batch, and the log before it forgotten. After an error the volumes come
-/// back, and may be recovered again.
+/// and what lies past the next id is cleared; its multixacts are put on the pages of the offsets and the members, and what
+/// no record tells of is cleared; pg_subtrans is emptied; then a checkpoint is flushed, alone in its batch, and the log
+/// before it forgotten. After an error the volumes come back, and may be recovered again.
 ///
 /// There is one volume of each store for each bank, 1 to 16.
 pub fn recover<L: LogDisk + Drop, P: PageDisk + Drop>(
@@ -41,15 +43,17 @@ pub fn recover<L: LogDisk + Drop, P: PageDisk + Drop>(
     // From volumes that fit a log the base at a number from the flushed one to its end is answered, and the volumes are
     // left as a life may begin with them. Any later recovery from there answers the same, and the log keeps the list that
     // it goes by.
-    ensures recovers { IsTrue L.tells → IsTrue P.tells → IfOk result (λ r. (log : KeptLog) → Fit L.LogDisk P.PageDisk log volumes.log volumes.xact.items
-        → RecoversLog L.LogDisk P.PageDisk volumes.log volumes.xact.items r.log r.xact.items r.from r.base log) }
+    ensures recovers { IsTrue L.tells → IsTrue P.tells → IfOk result (λ r. (log : KeptLog)
+        → Fit L.LogDisk P.PageDisk log volumes.log volumes.xact.items volumes.offsets.items volumes.members.items
+        → RecoversLog L.LogDisk P.PageDisk volumes.log volumes.xact.items r.log r.xact.items r.offsets.items r.members.items r.from r.base log) }
     // After an error they fit, and a later recovery answers what this one might have answered.
-    ensures again { IsTrue L.tells → IsTrue P.tells → IfErr result (λ e. (log : KeptLog) → Fit L.LogDisk P.PageDisk log volumes.log volumes.xact.items
-        → LeavesFit L.LogDisk P.PageDisk volumes.xact.items e.0.log e.0.xact.items log) }
+    ensures again { IsTrue L.tells → IsTrue P.tells → IfErr result (λ e. (log : KeptLog)
+        → Fit L.LogDisk P.PageDisk log volumes.log volumes.xact.items volumes.offsets.items volumes.members.items
+        → LeavesFit L.LogDisk P.PageDisk volumes.xact.items e.0.log e.0.xact.items e.0.offsets.items e.0.members.items log) }
     ensures log { IfOk result (λ r. IsSettled r.from r.base r.log) }
     ensures states { IsTrue P.tells → IfOk result (λ r. AreOnDisk P.PageDisk r.xact.items) }
     ensures parents { IsTrue P.tells → IfOk result (λ r. AreEmpty P.PageDisk r.subtrans.items) }
-    ensures multis { IsTrue P.tells → IfOk result (λ r. AreEmpty P.PageDisk r.offsets.items × AreEmpty P.PageDisk r.members.items) }
+    ensures multis { IsTrue P.tells → IfOk result (λ r. AreOnDisk P.PageDisk r.offsets.items × AreOnDisk P.PageDisk r.members.items) }
     ensures banks { IfOk result (λ r. (length r.xact.items ≡ length volumes.xact.items) × (length r.subtrans.items ≡ length volumes.subtrans.items)
         × (length r.offsets.items ≡ length volumes.offsets.items) × (length r.members.items ≡ length volumes.members.items)) }
     ensures banks_err { IfErr result (λ e. (length e.0.xact.items ≡ length volumes.xact.items) × (length e.0.subtrans.items ≡ length volumes.subtrans.items)
@@ -57,54 +61,53 @@ pub fn recover<L: LogDisk + Drop, P: PageDisk + Drop>(
     ensures counted { IfOk result (λ r. (L.faults volumes.log ≤ L.faults (log_disk r.log)) × NoCountFell P.PageDisk volumes.xact.items r.xact.items
         × NoCountFell P.PageDisk volumes.subtrans.items r.subtrans.items × NoCountFell P.PageDisk volumes.offsets.items r.offsets.items
         × NoCountFell P.PageDisk volumes.members.items r.members.items) }
-    // Each refusal has its cause, and where the log is new or has a multixact there is one.
-    ensures only { IsTrue L.tells → IfOk result (λ r. HasNoMultis (L.reads volumes.log)) }
+    // Each refusal has its cause.
     ensures refused { IfErr result (λ e. IsRefusal L.LogDisk P.PageDisk volumes e.0 e.1) }
 {
     let Volumes {
         log,
-        mut xact,
+        xact,
         subtrans,
         offsets,
         members,
     } = volumes;
-    let mut others = EmptyVolumes {
+    let mut pages = PageVolumes {
+        xact,
         subtrans,
         offsets,
         members,
     };
     let found = match open_log(alloc, log) {
         Ok(found) => found,
-        Err((log, refusal)) => return Err((with_log(log, xact, others), refusal)),
+        Err((log, refusal)) => return Err((with_log(log, pages), refusal)),
     };
     let Found { log, recs, base } = found;
     let mut log = log;
     let from = log.next();
-    if let Err(refusal) = replay(alloc, &mut log, &mut xact, &mut others, recs.items(), &base) {
-        return Err((with_log(log.into_disk(), xact, others), refusal));
+    if let Err(refusal) = replay(alloc, &mut log, &mut pages, recs.items(), &base) {
+        return Err((with_log(log.into_disk(), pages), refusal));
     }
-    Ok(begun(log, xact, others, from, &base))
+    Ok(begun(log, pages, from, &base))
 }
 
 // What a life begins from.
 fn begun<L: LogDisk, P: Drop>(
     log: WalLog<L>,
-    xact: Vec<P>,
-    others: EmptyVolumes<P>,
+    pages: PageVolumes<P>,
     from: u64,
     base: &Counters,
 ) -> Recovered<L, P>
     ensures log { result.log ≡ log }
-    ensures xact { result.xact ≡ xact }
-    ensures others { (result.subtrans ≡ others.subtrans) × (result.offsets ≡ others.offsets) × (result.members ≡ others.members) }
+    ensures pages { (result.xact ≡ pages.xact) × (result.subtrans ≡ pages.subtrans) × (result.offsets ≡ pages.offsets) × (result.members ≡ pages.members) }
     ensures from { result.from ≡ from }
     ensures base { result.base ≡ base.now }
 {
-    let EmptyVolumes {
+    let PageVolumes {
+        xact,
         subtrans,
         offsets,
         members,
-    } = others;
+    } = pages;
     Recovered {
         log,
         xact,
@@ -117,16 +120,16 @@ fn begun<L: LogDisk, P: Drop>(
 }
 
 // The volumes that weren't recovered.
-fn with_log<L: Drop, P: Drop>(log: L, xact: Vec<P>, others: EmptyVolumes<P>) -> Volumes<L, P>
+fn with_log<L: Drop, P: Drop>(log: L, pages: PageVolumes<P>) -> Volumes<L, P>
     ensures log { result.log ≡ log }
-    ensures xact { result.xact ≡ xact }
-    ensures others { (result.subtrans ≡ others.subtrans) × (result.offsets ≡ others.offsets) × (result.members ≡ others.members) }
+    ensures pages { (result.xact ≡ pages.xact) × (result.subtrans ≡ pages.subtrans) × (result.offsets ≡ pages.offsets) × (result.members ≡ pages.members) }
 {
-    let EmptyVolumes {
+    let PageVolumes {
+        xact,
         subtrans,
         offsets,
         members,
-    } = others;
+    } = pages;
     Volumes {
         log,
         xact,
@@ -140,19 +143,17 @@ fn with_log<L: Drop, P: Drop>(log: L, xact: Vec<P>, others: EmptyVolumes<P>) -> 
 fn replay<L: LogDisk, P: PageDisk + Drop>(
     alloc: Global,
     log: &mut WalLog<L>,
-    xact: &mut Vec<P>,
-    others: &mut EmptyVolumes<P>,
+    pages: &mut PageVolumes<P>,
     recs: &[Rec],
     base: &Counters,
 ) -> Result<(), RecoverRefusal>
-    requires few { (length xact.old.items ≤ 16) × (length others.old.subtrans.items ≤ 16) × (length others.old.offsets.items ≤ 16)
-        × (length others.old.members.items ≤ 16) }
+    requires few { AreFew pages.old }
     requires open { IsOpen base.now log.old }
     requires near { AreNear base.now.oldest (committed_in recs.now) }
     requires window { IsWindow base.now.oldest base.now.next }
-    ensures { Replays P.PageDisk recs.now base.now log.old log.new xact.old.items xact.new.items others.old others.new result }
+    requires multis { AreMultisInReach recs.now base.now }
+    ensures { Replays P.PageDisk recs.now base.now log.old log.new pages.old pages.new result }
 {
-    restore_all(alloc, xact, recs, base)?;
-    empty_stores(alloc, others, base)?;
+    restore_pages(alloc, pages, recs, base)?;
     settle(log, *base)
 }

@@ -1,14 +1,14 @@
 // Commits are put on the pages again.
-ghost use Rattle.std.specs.Prelude.{◌≡◌, ℕ, ◌+◌, ◌^◌, ◌<◌, ◌≤◌, Contains, [], ◌∷◌};
+ghost use Rattle.std.specs.Prelude.{◌≡◌, ◌+◌, ◌<◌, ◌≤◌, [], ◌∷◌};
 ghost use Rattle.slru_bank.specs.Calls.{IsCut, cutoff_of};
 ghost use Rattle.store_pages.specs.Layouts.{xact_page_of};
 ghost use Rattle.log_bases.specs.LifeBase.{committed_by, committed_in};
 ghost use Rattle.replay_core.specs.Redo.{AreNear, IsNamed, IsOne, RedoesBank};
 
-use crate::share::Share;
 use disk_core::PageDisk;
+use replay_multis::Share;
 use slru_bank::{BankRefusal, SlruBank, State, set_states};
-use store_pages::XactPages;
+use store_pages::{XactPages, xact_page};
 use tx_events::{FullXid, Rec};
 
 // One id becomes committed.
@@ -31,7 +31,7 @@ fn redo_named<P: PageDisk>(
     requires kept { cutoff_of bank.old ≡ xact_page_of oldest }
     ensures { RedoesBank (IsNamed share.now oldest (id ∷ [])) bank.old bank.new result }
 {
-    if id < oldest || !share.has(id) {
+    if id < oldest || !share.has_page(xact_page(id.low())) {
         return Ok(());
     }
     redo_id(bank, id)

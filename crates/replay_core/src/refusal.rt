@@ -11,8 +11,6 @@ pub enum RecoverRefusal {
     Damaged { at: u64 },
     /// The log has no record: the cluster is a new one, and nothing is there to recover.
     NoRecord,
-    /// The log has a record of a multixact, for which there are no volumes.
-    HasMultis,
     /// The log's volume failed.
     LogFault,
     /// The volume of this lock's bank failed.

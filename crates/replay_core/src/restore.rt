@@ -5,24 +5,15 @@ ghost use Rattle.slru_bank.specs.Crash.{CrashLeaves};
 ghost use Rattle.log_bases.specs.LifeBase.{committed_in};
 ghost use Rattle.replay_core.specs.Redo.{AreNear, IsNamed};
 ghost use Rattle.replay_core.specs.Restore.{HasBytesOnDisk, IsWindow, MayRestore, RestoresAll, bytes_on};
-ghost use Rattle.replay_core.specs.declared.restore.RestoreRefusal.TheVariants.{DiskFault};
+ghost use Rattle.replay_multis.specs.declared.refusal.RestoreRefusal.TheVariants.{DiskFault};
 
 use crate::restore_bank::restore_bank;
-use crate::share::Share;
 use disk_core::PageDisk;
+use replay_multis::{RestoreRefusal, Share};
 use slru_bank::SlruBank;
 use std::alloc::Global;
 use store_pages::xact_page;
 use tx_events::{Counters, Rec};
-
-/// Why the pages of a bank weren't restored.
-#[derive(Clone, Copy, Debug, PartialEq, Eq)]
-pub enum RestoreRefusal {
-    /// The volume failed, and its count of faults rose.
-    DiskFault,
-    /// Out of memory.
-    Memory,
-}
 
 /// The volume of a bank of pg_xact shows the commits of these records and nothing past the next id, and all of that is on
 /// the disk. `base` has the counters behind the records. Ids before the oldest one are passed over, and so are aborts. The

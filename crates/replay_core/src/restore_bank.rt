@@ -7,8 +7,8 @@ ghost use Rattle.replay_core.specs.Redo.{AreNear, IsNamed};
 ghost use Rattle.replay_core.specs.Restore.{IsWindow, RestoresBank};
 
 use crate::redo::redo_records;
-use crate::share::Share;
 use disk_core::PageDisk;
+use replay_multis::Share;
 use slru_bank::{BankRefusal, SlruBank, trim_after};
 use store_pages::XactPages;
 use tx_events::{FullXid, Rec};

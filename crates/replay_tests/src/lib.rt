@@ -5,4 +5,6 @@
 #[cfg(test)]
 mod cluster;
 #[cfg(test)]
+mod multis;
+#[cfg(test)]
 mod recover_tests;

@@ -5,7 +5,10 @@ use Rattle.std.proofs.lemmas.Option.{slice_get_within}
 use Rattle.notes.specs.Lists.{at, own}
 use Rattle.tx_events.specs.declared.event.By.{By}
 use Rattle.tx_events.specs.declared.event.Event.{Event}
+use Rattle.tx_events.specs.declared.multi.MultiEvent.{MultiEvent}
+use Rattle.tx_events.specs.declared.multi.MultiEvent.TheVariants as multis
 use Rattle.tx_events.specs.Events.{by_of, given, given_to, is_of}
+use Rattle.tx_events.specs.Multis.{made, multi_by}
 use Rattle.tx_events.proofs.Membership.{Has, contains_has, filter_has, filter_none_on, has_filter_map}
 use Rattle.tx_model.specs.Stance.{Stance, lacking, nothing_yet}
 use Rattle.tx_core.specs.declared.entry.Entry.{Entry}
@@ -14,6 +17,8 @@ use Rattle.tx_core.specs.declared.entry.Start.{Start}
 use Rattle.tx_core.specs.Entries.{event_of, history, session_of}
 use Rattle.tx_core.specs.EventsLegal.{NeedsOwn}
 use Rattle.tx_core.specs.Locks.{log_lock, multi_lock, proc_lock}
+use Rattle.tx_core.specs.MultiEntries.{multi_history}
+use Rattle.tx_core.specs.OwnMultis.{is_multi_of}
 use Rattle.tx_core.proofs.Asking.{own_event, upheld_has}
 use Rattle.session_levels.specs.Stands.{levels_of, told_of}
 use Rattle.engine_parts.specs.declared.session.Session.{Session}
@@ -47,17 +52,23 @@ module _ (tells : Bool) (start : Start) (lists : List (List Entry)) (n : ℕ) (s
           step true q = absurd (no_event e k (eqb-true (by_of e).session n q))
           step false q = refl
 
+  no_multis : (e : MultiEvent) → Has (multi_history lists) e → (multi_by e).session ≡ n → ⊥
+  no_multis e h own = subst (λ (es : List MultiEvent). Has es e) (none_multi start lists n d.kept (d.empty multi_lock)) (filter_has (is_multi_of n) (multi_history lists) e h (eq-eqb (multi_by e).session n own))
+
   pub begun : Promise tells start lists n [] s
   begun = record {
     each = λ p t e. absurd (none_at p e);
     no_other = λ e c own. absurd (no_event e (contains_has (history lists) e c) own);
+    no_multi = λ e c own. absurd (no_multis e (contains_has (multi_history lists) e c) own);
     stance_is = nothing;
     pending_is = sym (ap pending_in d.stage);
+    making = d.making;
     count = d.fresh.0;
     ids = let g = ap length given_none in let l = ap (λ (z : Stance). lacking z.levels) (sym nothing) in omega (arith, g, l);
+    raises = λ t few by multi offset own c low. absurd (no_multis (multis.Raise by multi offset) (contains_has (multi_history lists) (multis.Raise by multi offset) c) own);
+    gens = let g = ap (λ (h : List MultiEvent). length (made h)) (none_multi start lists n d.kept (d.empty multi_lock)) in omega (arith, g);
     faults = λ by asked count own c. absurd (none_own log_lock (record { by = by; kind = kinds.LogFault asked count }) (contains_has (at lists log_lock) _ c) own);
     ends = λ by rec own c. absurd (none_own log_lock (record { by = by; kind = kinds.Append rec }) (contains_has (at lists log_lock) _ c) own);
-    no_multis = none_multi start lists n d.kept (d.empty multi_lock);
   }
     where
       none_at : {X : Type 0} {x : X} (p : ℕ) → slice_get [] p ≡ Some x → ⊥

@@ -11,7 +11,7 @@ use Rattle.session_promise.specs.Told.{ToldRound, all_lines, steps_of}
 
 -- ---- what passes of a list
 
-filter_take : {X : Type 0} (p : X → Bool) (xs : List X) (k : ℕ) → (n : ℕ) × (take n (filter p xs) ≡ filter p (take k xs))
+pub filter_take : {X : Type 0} (p : X → Bool) (xs : List X) (k : ℕ) → (n : ℕ) × (take n (filter p xs) ≡ filter p (take k xs))
 filter_take p xs zero = (0, refl)
 filter_take p [] (suc k) = (0, refl)
 filter_take {X} p (x ∷ xs) (suc k) = step (p x) (filter_take p xs k)

@@ -9,6 +9,13 @@ use Rattle.notes.specs.Lists.{Grows, at, own}
 use Rattle.notes.proofs.Growing.{begins_same}
 use Rattle.tx_events.specs.declared.event.By.{By}
 use Rattle.tx_events.specs.declared.event.Event.{Event}
+use Rattle.tx_events.specs.declared.multi.MultiEvent.{MultiEvent}
+use Rattle.life_law.specs.MultiStanding as making
+use Rattle.life_law.specs.MultiStanding.{Unfinished, unfinished}
+use Rattle.tx_core.specs.MultiEntries.{multi_history}
+use Rattle.tx_core.proofs.Rising.{multis_grow}
+use Rattle.engine_parts.specs.Makings.{IsToldMaking}
+use Rattle.session_promise.proofs.MakingsStay.{makings_stay, nothing_beyond, own_making}
 use Rattle.tx_events.specs.declared.record.Counters.{Counters}
 use Rattle.tx_events.specs.declared.record.Rec.{Rec}
 use Rattle.tx_events.specs.declared.refusal.Refusal.TheVariants as refusals
@@ -33,11 +40,11 @@ use Rattle.tx_core.proofs.Lasting.{history_grows}
 use Rattle.engine_parts.specs.declared.session.Session.{Session}
 use Rattle.engine_parts.specs.Stages.{pending_in}
 use Rattle.engine_parts.specs.Stand.{IsDownAt}
-use Rattle.session_promise.specs.Checkpoints.{AddsFor, Appends, AreCheckpointsTold, IsAnsweredIn, IsCheckpointTold, IsCommitting, IsFlushedBehind, IsPendingBehind, IsStepLeft, LeftStep, MayLeave, NamesLeast, WentCheckpoint, checkpoint_next, hosts_entries, is_down_fault}
+use Rattle.session_promise.specs.Checkpoints.{AddsFor, Appends, AreCheckpointsTold, IsAnsweredIn, IsCheckpointTold, IsCommitting, IsFlushedBehind, IsMakingMulti, IsPendingBehind, IsStepLeft, IsSurelyMaking, LeftStep, MayBeMaking, MayLeave, NamesLeast, WentCheckpoint, checkpoint_next, hosts_entries, is_down_fault}
 use Rattle.session_promise.specs.CheckpointLaws.{CheckpointGoesOn, CheckpointsBegin, CheckpointsStayThroughDump, CheckpointsStayThroughRound, DumpsStayThroughCheckpoint, SoFarThroughCheckpoint}
 use Rattle.session_promise.specs.Promise.{recs_of}
 use Rattle.session_promise.specs.SoFar.{IsSoFar, round_of}
-use Rattle.session_promise.specs.Told.{Follow, ToldRound, all_lines, steps_of, told_by}
+use Rattle.session_promise.specs.Told.{Follow, ToldRound, all_lines, in_events, in_multis, steps_of, told_by}
 use Rattle.session_promise.specs.Dumps.{AreDumpsTold}
 use Rattle.session_promise.proofs.CheckpointRecords.{checkpoints_append, recs_append}
 use Rattle.session_promise.proofs.Flushing.{checkpoints_up, own_fewer, take_whole}
@@ -53,10 +60,11 @@ one_if b = cond b 1 0
 -- ---- one that was told
 
 -- which sessions it names goes by what holds of them alone
-pub names_same : (P Q : ℕ → Type 0) → ((n : ℕ) → P n → Q n) → ((n : ℕ) → Q n → P n) → (reply : Reply) → NamesLeast P reply → NamesLeast Q reply
-names_same P Q f g (replies.Pending session refusals.CommitPending) k = (f session k.0, λ n low q. k.1 n low (g n q))
-names_same P Q f g (replies.Pending session refusal) k = absurd k
-names_same P Q f g reply k = λ n q. k n (g n q)
+pub names_same : (P Q : ℕ → Type 0) (May May' Must Must' : ℕ → Type 0) → ((n : ℕ) → P n → Q n) → ((n : ℕ) → Q n → P n) → ((n : ℕ) → May n → May' n) → ((n : ℕ) → Must' n → Must n) → (reply : Reply) → NamesLeast P May Must reply → NamesLeast Q May' Must' reply
+names_same P Q May May' Must Must' f g a b (replies.Pending session refusals.CommitPending) k = (f session k.0, λ n low q. k.1 n low (g n q))
+names_same P Q May May' Must Must' f g a b (replies.Pending session refusals.MultiPending) k = (a session k.0, λ n low m. k.1 n low (b n m), λ n q. k.2 n (g n q))
+names_same P Q May May' Must Must' f g a b (replies.Pending session refusal) k = absurd k
+names_same P Q May May' Must Must' f g a b reply k = (λ n q. k.0 n (g n q), λ n m. k.1 n (b n m))
 
 down_goes_on : (start : Start) (es rest : List Entry) (down : ℕ) → IsDownAt start es down → IsDownAt start (es ++ rest) down
 down_goes_on start es rest down d = record {
@@ -87,11 +95,19 @@ PendingStays lists more rounds =
     (front behind : List ToldRound) → rounds ≡ front ++ behind → (n : ℕ)
     → pending (recs_of more) (history more) (all_lines front) n ≡ pending (recs_of lists) (history lists) (all_lines front) n
 
-module _ (start : Start) (lists more : List (List Entry)) (rounds added : List ToldRound) (g : Grows lists more) (same : PendingStays lists more rounds) where
+-- and what is unfinished
+abbrev MakingStays : List (List Entry) → List (List Entry) → List ToldRound → Type 0
+MakingStays lists more rounds =
+    (front behind : List ToldRound) → rounds ≡ front ++ behind → (n : ℕ)
+    → unfinished (multi_history more) (all_lines front) n ≡ unfinished (multi_history lists) (all_lines front) n
+
+module _ (start : Start) (lists more : List (List Entry)) (rounds added : List ToldRound) (g : Grows lists more) (same : PendingStays lists more rounds) (alike : MakingStays lists more rounds) where
   checkpoint_stays : (before : List Step) (reply : Reply) (left : Option Counters) → IsCheckpointTold start lists rounds before reply left → IsCheckpointTold start more (rounds ++ added) before reply left
   checkpoint_stays before reply left c =
       let grown = history_grows lists more g in
-      let still = same c.front c.behind c.split in record {
+      let multi_grown = multis_grow lists more g in
+      let still = same c.front c.behind c.split in
+      let makes = alike c.front c.behind c.split in record {
         front = c.front;
         behind = c.behind ++ added;
         split = ap (λ (rs : List ToldRound). rs ++ added) c.split ∙ append_assoc c.front c.behind added;
@@ -99,7 +115,11 @@ module _ (start : Start) (lists more : List (List Entry)) (rounds added : List T
         events = c.events;
         begins = (c.begins.0 ++ grown.0, sym (append_assoc c.events c.begins.0 grown.0) ∙ ap (λ (t : List Event). t ++ grown.0) c.begins.1 ∙ grown.1);
         places = c.places;
-        named = names_same (IsPendingBehind lists c.front) (IsPendingBehind more c.front) (λ n p. still n ∙ p) (λ n p. sym (still n) ∙ p) reply c.named;
+        multis = c.multis;
+        multi_begins = (c.multi_begins.0 ++ multi_grown.0, sym (append_assoc c.multis c.multi_begins.0 multi_grown.0) ∙ ap (λ (t : List MultiEvent). t ++ multi_grown.0) c.multi_begins.1 ∙ multi_grown.1);
+        multi_places = c.multi_places;
+        named = names_same (IsPendingBehind lists c.front) (IsPendingBehind more c.front) (MayBeMaking lists c.front) (MayBeMaking more c.front) (IsSurelyMaking lists c.front) (IsSurelyMaking more c.front)
+            (λ n p. still n ∙ p) (λ n p. sym (still n) ∙ p) (λ n may q. may (sym (makes n) ∙ q)) (λ n q. sym (makes n) ∙ q) reply c.named;
         answer = answer_stays start lists more reply g c.answer;
         leaves = c.leaves;
       }
@@ -175,15 +195,18 @@ checkpoints_stay_round tells start before after old new turns parts rounds told 
     let then = so_far_goes_on tells start before after old new turns parts rounds so_far went in
     let still : hosts_entries start after ≡ hosts_entries start before = went.hosts.own log_lock in
     told_more start before after rounds (round ∷ []) went.grows
-    (rounds_stay tells start before after old new rounds (round ∷ []) went.kept went.grows so_far then)
+    (rounds_stay tells start before after old new rounds (round ∷ []) went.kept went.grows so_far then) (makings_stay tells start before after old new rounds (round ∷ []) went.grows so_far then)
     told (steps.Round number lines) None c refl (quiet_records start before after still) (quiet_faults start before after still) (λ q. absurd cc)
 
 -- in the same lists and rounds
 pub checkpoints_stay_dump : CheckpointsStayThroughDump
 checkpoints_stay_dump start lists rounds told what place size reply c =
     subst (λ (rs : List ToldRound). AreCheckpointsTold start lists rs (told ++ steps.Dump what place size reply ∷ [])) (append-nil rounds)
-    (told_more start lists lists rounds [] (record { begins = λ q. begins_same (at lists q) }) (λ front behind split n. refl)
+    (told_more start lists lists rounds [] (record { begins = λ q. begins_same (at lists q) }) (λ front behind split n. refl) (λ front behind split n. refl)
     told (steps.Dump what place size reply) None c refl (quiet_records start lists lists refl) (quiet_faults start lists lists refl) (λ q. absurd cc))
+
+none_sure : making.none ≡ making.sure → ⊥
+none_sure e = cc
 
 -- ---- behind a checkpoint
 
@@ -194,7 +217,8 @@ so_far_checkpoint tells start before after sessions rounds reply so_far went = r
       let inside = slice_get_within sessions n s e in
       let low : n < start.sessions = (let c = so_far.count in omega (arith, c, inside)) in
       through_idle tells start before after n (told_by n rounds) s went.kept (went.idle n low) (so_far.each n s e);
-  places = subst (λ (h : List Event). Follow 0 rounds (length h)) (sym went.same_history) so_far.places;
+  places = subst (λ (h : List Event). Follow in_events 0 rounds (length h)) (sym went.same_history) so_far.places;
+  multi_places = subst (λ (h : List MultiEvent). Follow in_multis 0 rounds (length h)) (sym went.same_multis) so_far.multi_places;
   lines = so_far.lines;
 }
 
@@ -203,12 +227,12 @@ record LeavesBy (start : Start) (before after : List (List Entry)) (added : List
   left : Option Counters
   records : checkpoints_in (recs_in added) ≡ cons_option left []
   faults : count_by is_down_fault added ≡ one_if (is_log_fault reply)
-  leaves : MayLeave start (history before) reply left
+  leaves : MayLeave start (history before) (multi_history before) reply left
   answer : IsAnsweredIn start before reply
 
 module _ (start : Start) (before after : List (List Entry)) (added : List Entry) where
   abbrev now : Counters
-  now = counters_behind start.base (history before)
+  now = counters_behind start.base (history before) (multi_history before)
 
   none_left : (faults : ℕ) → Appends added [] faults → checkpoints_in (recs_in added) ≡ []
   none_left faults a = ap checkpoints_in a.recs_are
@@ -254,6 +278,21 @@ module _ (tells : Bool) (start : Start) (before after : List (List Entry)) (sess
       (s.0, s.1, sym (pending_now n s.0 s.1) ∙ q))
       (le_or_over start.sessions n)
 
+  -- and what it makes, what is unfinished
+  making_now : (n : ℕ) (s : Session) → slice_get sessions n ≡ Some s → IsToldMaking (unfinished (multi_history after) (all_lines rounds) n) s.making
+  making_now n s e = subst (λ (u : Unfinished). IsToldMaking u s.making) (own_making (multi_history after) rounds n) (then.each n s e).making
+
+  may_make : (n : ℕ) → IsMakingMulti sessions n → MayBeMaking after rounds n
+  may_make n c q = c.2 (subst (λ (u : Unfinished). IsToldMaking u c.0.making) q (making_now n c.0 c.1))
+
+  must_make : (n : ℕ) → IsSurelyMaking after rounds n → IsMakingMulti sessions n
+  must_make n q = ⊎_elim
+      (λ (past : start.sessions ≤ n). absurd (none_sure (sym (nothing_beyond (multi_history after) start.sessions rounds n past so_far.lines) ∙ q)))
+      (λ (low : n < start.sessions).
+      let s = there sessions n (let c = so_far.count in omega (arith, c, low)) in
+      (s.0, s.1, subst (λ (u : Unfinished). IsToldMaking u s.0.making) q (making_now n s.0 s.1)))
+      (le_or_over start.sessions n)
+
   left : LeavesBy start before after went.added reply
   left = left_by start before after went.added reply went.adds
 
@@ -281,7 +320,7 @@ module _ (tells : Bool) (start : Start) (before after : List (List Entry)) (sess
         subst (λ (rs : List Rec). length (filter_map (λ (x : LeftStep). x.1) steps_left) < length (checkpoints_in rs)) (sym all) (omega (arith, one, now, then, fewer));
   }
     where
-      one_left : (o : Option Counters) → MayLeave start (history before) reply o → reply ≡ replies.Done → length (cons_option o []) ≡ 1
+      one_left : (o : Option Counters) → MayLeave start (history before) (multi_history before) reply o → reply ≡ replies.Done → length (cons_option o []) ≡ 1
       one_left None not q = absurd (not q)
       one_left (Some counters) m q = refl
 
@@ -295,7 +334,10 @@ module _ (tells : Bool) (start : Start) (before after : List (List Entry)) (sess
         events = history before;
         begins = ([], append-nil (history before) ∙ sym went.same_history);
         places = so_far.places;
-        named = names_same (IsCommitting sessions) (IsPendingBehind after rounds) committing committed reply went.named;
+        multis = multi_history before;
+        multi_begins = ([], append-nil (multi_history before) ∙ sym went.same_multis);
+        multi_places = so_far.multi_places;
+        named = names_same (IsCommitting sessions) (IsPendingBehind after rounds) (IsMakingMulti sessions) (MayBeMaking after rounds) (IsMakingMulti sessions) (IsSurelyMaking after rounds) committing committed may_make must_make reply went.named;
         answer = answer_stays start before after reply went.grows left.answer;
         leaves = left.leaves;
       } in
@@ -308,6 +350,7 @@ module _ (tells : Bool) (start : Start) (before after : List (List Entry)) (sess
       omega (arith, a, b, f) in
       subst (λ (rs : List ToldRound). AreCheckpointsTold start after rs (told ++ steps.Checkpoint reply ∷ [])) (append-nil rounds)
       (told_more start before after rounds [] went.grows (rounds_stay tells start before after sessions sessions rounds [] (λ n low. went.kept) went.grows so_far (subst (IsSoFar tells start after sessions) (sym (append-nil rounds)) then))
+      (makings_stay tells start before after sessions sessions rounds [] went.grows so_far (subst (IsSoFar tells start after sessions) (sym (append-nil rounds)) then))
       told (steps.Checkpoint reply) left.left c here records faults (λ ok. covered (same_reply ok) c.left c.records records))
 
 pub checkpoint_goes_on : CheckpointGoesOn

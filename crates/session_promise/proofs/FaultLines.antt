@@ -27,12 +27,15 @@ use Rattle.tx_core.specs.FaultsRise.{count_in, counts_in, faults_at, faults_told
 use Rattle.tx_core.specs.Locks.{log_lock, number_of}
 use Rattle.tx_core.specs.ProgramOrder.{MayStand}
 use Rattle.tx_core.proofs.FaultCounts.{faults_counted}
-use Rattle.engine_parts.specs.Answers.{MayAnswer, MetFault, MetLogFault}
+use Rattle.engine_parts.specs.Answers.{MetFault, MetLogFault}
+use Rattle.tx_model.specs.Stance.{Stance}
+use Rattle.session_promise.specs.Promise.{MayAnswerIn}
+use Rattle.session_promise.proofs.Devices.{fault_met, log_fault_met}
 use Rattle.session_promise.specs.Causes.{FaultsAreTold, failed_volume, faults_in, is_behind}
 use Rattle.session_promise.specs.Closing.{IsOver}
-use Rattle.session_promise.specs.Told.{ToldRound, all_lines, lines_by}
+use Rattle.session_promise.specs.Told.{Span, ToldRound, all_lines, lines_by}
 use Rattle.session_promise.proofs.OneFault.{known, none_counts, numbered, once_counts, one_if, told_line}
-use Rattle.session_promise.proofs.Standing.{same_is}
+use Rattle.session_promise.proofs.Sides.{same_is}
 
 -- ---- counts
 
@@ -198,18 +201,19 @@ module _ (tells : Bool) (start : Start) (lists : List (List Entry)) (rounds : Li
   line_hit : (lock : ℕ) (l : Line) → Has all l → is_behind lock (failed_volume l.reply) ≡ true → hit_in (at lists lock) l ≡ true
   line_hit lock l h t =
       let told = told_line tells start lists rounds over l h in
-      let how = stance (history lists) told.before l.by.session in
-      let answer : MayAnswer tells start lists told.told.span l.by how told.well.stage l.command l.reply
-      = subst (λ (x : Line). MayAnswer tells start lists told.told.span x.by how told.well.stage x.command x.reply) told.line told.well.answer in
+      let how : Stance = stance (history lists) told.before l.by.session in
+      let begun = told.well.begun in
+      let span : Span = told.told.span in
+      let stage = told.well.stage in
+      let answer : MayAnswerIn tells start begun lists span l.by how stage l.command l.reply
+      = subst (λ (x : Line). MayAnswerIn tells start begun lists span x.by how stage x.command x.reply) told.line told.well.answer in
       ⊎_elim
       (λ (k : (met : Lock) × (number_of met ≡ lock) × (l.reply ≡ replies.Refused (refusals.DiskFault met))).
-      let met : MayAnswer tells start lists told.told.span l.by how told.well.stage l.command (replies.Refused (refusals.DiskFault k.0))
-      = subst (λ (reply : Reply). MayAnswer tells start lists told.told.span l.by how told.well.stage l.command reply) k.2 answer in
-      met_hit lists lock l (subst (λ n. MetFault lists n l.by) k.1 met.1))
+      let met = fault_met tells start begun lists span l.by how stage l.command k.0 (subst (λ (reply : Reply). MayAnswerIn tells start begun lists span l.by how stage l.command reply) k.2 answer) in
+      met_hit lists lock l (subst (λ n. MetFault lists n l.by) k.1 met))
       (λ (k : (log_lock ≡ lock) × (l.reply ≡ replies.Refused refusals.LogFault)).
-      let met : MayAnswer tells start lists told.told.span l.by how told.well.stage l.command (replies.Refused refusals.LogFault)
-      = subst (λ (reply : Reply). MayAnswer tells start lists told.told.span l.by how told.well.stage l.command reply) k.1 answer in
-      subst (λ n. hit_in (at lists n) l ≡ true) k.0 (met_log_hit lists l met.1))
+      let met = log_fault_met tells start begun lists span l.by how stage l.command (subst (λ (reply : Reply). MayAnswerIn tells start begun lists span l.by how stage l.command reply) k.1 answer) in
+      subst (λ n. hit_in (at lists n) l ≡ true) k.0 (met_log_hit lists l met))
       (fault_said lock l.reply t)
 
   told_few : (n lock : ℕ) → faults_in lock (lines_by n all) ≤ length (counts_in (at lists lock))

@@ -1,5 +1,5 @@
 -- Behind its next command a session promises of one line more.
-use Rattle.std.proofs.Common.{Bool, Contains, IsTrue, List, [], ap, append-nil, append_assoc, arith, cond, eq-eqb, get_or, inl, inr, length, refl, subst, sym, ℕ, ⊎_elim, ◌+◌, ◌++◌, ◌<◌, ◌==◌, ◌||◌, ◌≡◌, ◌≤◌, ◌∙◌, ◌∷◌, ◌⊎◌}
+use Rattle.std.proofs.Common.{Bool, true, Contains, IsTrue, List, [], drop, eqb-true, nat_lt, ap, append-nil, append_assoc, arith, cond, eq-eqb, get_or, inl, inr, length, refl, subst, sym, ℕ, ⊎_elim, ◌+◌, ◌++◌, ◌<◌, ◌==◌, ◌||◌, ◌≡◌, ◌≤◌, ◌∙◌, ◌∷◌, ◌⊎◌}
 use Rattle.std.specs.List.{AllByRecursion, count_by, filter, slice_get}
 use Rattle.std.proofs.Math.Bool.{or-true}
 use Rattle.std.proofs.lemmas.Bool.{false≢true}
@@ -12,6 +12,8 @@ use Rattle.notes.proofs.Growing.{begins_same}
 use Rattle.tx_events.specs.declared.event.By.{By}
 use Rattle.tx_events.specs.declared.event.Event.{Event}
 use Rattle.tx_events.specs.declared.multi.MultiEvent.{MultiEvent}
+use Rattle.tx_events.specs.declared.multi.MultiEvent.TheVariants as multi_events
+use Rattle.tx_events.specs.Multis.{made, made_by, multi_by}
 use Rattle.tx_events.specs.declared.record.Rec.{Rec}
 use Rattle.tx_events.specs.declared.record.Rec.TheVariants as records
 use Rattle.tx_events.specs.Running.{open_ids}
@@ -23,13 +25,17 @@ use Rattle.tx_events.proofs.PlaceLemmas.{each_place_push, slice_get-grows}
 use Rattle.tx_model.specs.declared.command.Command.{Command}
 use Rattle.tx_model.specs.declared.command.Command.TheVariants as commands
 use Rattle.tx_model.specs.declared.reply.Reply.{Reply}
+use Rattle.tx_model.specs.declared.reply.Reply.TheVariants as replies
 use Rattle.tx_model.specs.declared.report.Line.{Line}
 use Rattle.tx_model.specs.CommandEvents.{HasEvents}
 use Rattle.tx_model.specs.Lines.{has_line, stance}
 use Rattle.tx_model.specs.Replies.{alone}
 use Rattle.tx_model.specs.Stance.{Stance, after, lacking}
 use Rattle.tx_model.proofs.LineGrowth.{stance_push}
-use Rattle.life_law.specs.Commands.{has_command}
+use Rattle.life_law.specs.LawfulMultis.{is_ok_trim}
+use Rattle.life_law.specs.MultiLines.{HasMultiEvents}
+use Rattle.life_law.specs.MultiPlaces.{has_multi_line, multis_of}
+use Rattle.life_law.specs.MultiStanding.{Unfinished, unfinished, unfinished_behind}
 use Rattle.life_law.specs.Pending.{pending, pending_after}
 use Rattle.life_law.specs.Refused.{refused_by}
 use Rattle.life_law.proofs.IdSteps.{bounds_of}
@@ -39,27 +45,34 @@ use Rattle.tx_core.specs.declared.entry.Kind.TheVariants as kinds
 use Rattle.tx_core.specs.declared.entry.Start.{Start}
 use Rattle.tx_core.specs.EngineInvariant.{EngineInvariant}
 use Rattle.tx_core.specs.Entries.{history, session_of}
-use Rattle.tx_core.specs.Locks.{log_lock}
-use Rattle.tx_core.specs.MultiEntries.{multi_history}
-use Rattle.tx_core.specs.OwnMultis.{own_multis}
+use Rattle.tx_core.specs.Locks.{log_lock, multi_lock}
+use Rattle.tx_core.specs.MultiEntries.{AreFewMultis, multi_history}
+use Rattle.tx_core.specs.OwnMultis.{is_multi_of, own_multis}
+use Rattle.tx_core.proofs.Asking.{has_all}
+use Rattle.tx_core.proofs.Rising.{multis_grow}
 use Rattle.tx_core.proofs.Lasting.{history_grows}
 use Rattle.engine_parts.specs.declared.session.Session.{Session}
 use Rattle.engine_parts.specs.declared.session.Stage.{Stage}
-use Rattle.engine_parts.specs.Adding.{AddsTo, IsAbortOf, IsCommitOf, IsRecordBy, IsTruncation, MayLeave}
-use Rattle.engine_parts.specs.Answers.{MayAnswer}
+use Rattle.engine_parts.specs.Adding.{AddsTo, IsAbortOf, IsCommitOf, IsOfMulti, IsRecordBy, IsTruncation, MayLeave}
+use Rattle.engine_parts.specs.Answers.{MayAnswerAny}
 use Rattle.engine_parts.specs.Holds.{Knowledge}
 use Rattle.engine_parts.specs.Sessions.{by_at, stance_of}
 use Rattle.engine_parts.specs.Stages.{pending_in}
-use Rattle.engine_parts.proofs.Answering.{answer_grows}
-use Rattle.session_promise.specs.Told.{Told, between, lines_of, told_in}
-use Rattle.session_promise.specs.Promise.{Answered, IsOfEnd, IsInRound, IsToldWell, Promise, PromiseGoesOn, SaysLogFault, is_made_level, recs_of}
-use Rattle.session_promise.proofs.Growing.{all_lines_of, each_grows, IsUpTo, pending_same, stance_same}
+use Rattle.engine_parts.specs.Makings.{IsToldMaking, has_more_multis}
+use Rattle.session_promise.specs.Told.{IsNoLater, Place, Told, between, lines_of, place_of, told_in}
+use Rattle.session_promise.specs.Promise.{Answered, IsInRound, IsOfSession, IsRecordedIn, IsToldWell, MayAnswerIn, Promise, PromiseGoesOn, SaysLogFault, is_made_level, is_made_multi, recs_of}
+use Rattle.session_promise.specs.MultiGrowth.{IsLaterThan}
+use Rattle.session_promise.proofs.Growing.{all_lines_of, answer_stays, each_grows, IsUpTo, making_same, pending_same, stance_same}
 use Rattle.session_promise.proofs.Known.{known_of}
 use Rattle.session_promise.proofs.PendingFollows.{IsKnownOf, by_reply}
 use Rattle.session_promise.proofs.PendingGrowth.{AreSettled}
-use Rattle.session_promise.proofs.Plain.{plain_answer, plain_events}
+use Rattle.session_promise.proofs.MakingFollows.{gave, more_given, unfinished_push}
+use Rattle.session_promise.proofs.MultiEvents.{events_grow}
+use Rattle.session_promise.proofs.MultiKinds.{made_most, raised_told, raises_alone}
+use Rattle.session_promise.proofs.MultiStaying.{few_multis}
+use Rattle.session_promise.proofs.OwnNone.{entry_of}
 use Rattle.session_promise.proofs.Settling.{settled_of, up_to, within_all}
-use Rattle.session_promise.proofs.Widening.{AreWider, wider_both, wider_lines, wider_same, wider_to}
+use Rattle.session_promise.proofs.Widening.{AreWider, IsWithin, wider_both, wider_lines, wider_same, wider_to}
 
 all_front : {X : Type 0} (P : X → Type 0) (xs ys : List X) → AllByRecursion P (xs ++ ys) → AllByRecursion P xs
 all_front P [] ys a = tt
@@ -69,21 +82,45 @@ all_back : {X : Type 0} (P : X → Type 0) (xs ys : List X) → AllByRecursion P
 all_back P [] ys a = a
 all_back P (x ∷ xs) ys a = all_back P xs ys a.1
 
--- the record that a command may append is of an end
-truncation_of : (rec : Rec) → IsTruncation rec → IsOfEnd rec
+-- the record that a command may append is of an end, of a multixact or of a truncation
+truncation_of : (rec : Rec) → IsTruncation rec → IsOfSession rec
 truncation_of (records.Truncate oldest multi offset) t = tt
 truncation_of rec t = absurd t
 
-end_of : (command : Command) (s : Stance) (stage : Stage) (opened : List ℕ) (rec : Rec) → IsTrue (has_command command) → IsRecordBy command s stage opened rec → IsOfEnd rec
-end_of commands.Commit s stage opened rec has r = ⊎_elim (λ (c : IsCommitOf opened rec). subst IsOfEnd (sym c.is) tt) (truncation_of rec) r.1
-end_of commands.Abort s stage opened rec has r = ⊎_elim (λ (c : IsAbortOf opened rec). subst IsOfEnd (sym c.is) tt) (truncation_of rec) r.1
-end_of (commands.Multi pairs) s stage opened rec has r = absurd (false≢true has)
-end_of commands.Trim s stage opened rec has r = absurd (false≢true has)
-end_of command s stage opened rec has r = absurd r
+multi_of_session : (rec : Rec) → IsOfMulti rec → IsOfSession rec
+multi_of_session (records.Multi multi offset members) m = tt
+multi_of_session (records.Truncate oldest multi offset) m = tt
+multi_of_session rec m = absurd m
+
+of_session : (command : Command) (s : Stance) (stage : Stage) (opened : List ℕ) (rec : Rec) → IsRecordBy command s stage opened rec → IsOfSession rec
+of_session commands.Commit s stage opened rec r = ⊎_elim (λ (c : IsCommitOf opened rec). subst IsOfSession (sym c.is) tt) (truncation_of rec) r.1
+of_session commands.Abort s stage opened rec r = ⊎_elim (λ (c : IsAbortOf opened rec). subst IsOfSession (sym c.is) tt) (truncation_of rec) r.1
+of_session (commands.Multi pairs) s stage opened rec r = multi_of_session rec r
+of_session commands.Trim s stage opened rec r = truncation_of rec r
+of_session command s stage opened rec r = absurd r
+
+-- what a command was answered that ran alone
+answered_in : (tells : Bool) (start : Start) (begun lists : List (List Entry)) (by : By) (s : Stance) (stage : Stage) (command : Command) (reply : Reply)
+    → MayAnswerAny tells start begun lists by s stage command reply → MayAnswerIn tells start begun lists (between (place_of begun) (place_of lists)) by s stage command reply
+answered_in tells start begun lists by s stage (commands.Multi pairs) reply a = a
+answered_in tells start begun lists by s stage (commands.SeeMulti name m) reply a = a
+answered_in tells start begun lists by s stage (commands.MultiFreeze multi) reply a = a
+answered_in tells start begun lists by s stage commands.Trim reply a = a
+answered_in tells start begun lists by s stage command reply a = a
+
+-- an `ok` trim is one
+trim_is : (by : By) (command : Command) (reply : Reply) → is_ok_trim (record { by = by; command = command; reply = reply }) ≡ true → (command ≡ commands.Trim) × (reply ≡ replies.Done)
+trim_is by commands.Trim replies.Done e = (refl, refl)
+trim_is by command reply e = absurd (false≢true e)
+
+-- nothing stands behind all
+none_behind : {X : Type 0} (P : X → Type 0) (xs : List X) → AllByRecursion P (drop (length xs) xs)
+none_behind P [] = tt
+none_behind P (x ∷ xs) = none_behind P xs
 
 -- the session's next command, and its line
-module _ (tells : Bool) (start : Start) (v w : Knowledge) (n : ℕ) (past : List Told) (from to : ℕ) (lines : List Line) (command : Command) (reply : Reply) (s s' : Session)
-    (a : Answered tells start v w n command reply s s') (low : from ≤ length (history v.seen)) (p : Promise tells start v.seen n (past ++ told_in (between from to) lines) s) where
+module _ (tells : Bool) (start : Start) (v w : Knowledge) (n : ℕ) (past : List Told) (from to : Place) (lines : List Line) (command : Command) (reply : Reply) (s s' : Session)
+    (a : Answered tells start v w n command reply s s') (low : IsNoLater from (place_of v.seen)) (p : Promise tells start v.seen n (past ++ told_in (between from to) lines) s) where
   abbrev by : By
   by = by_at n (s.levels.commands + 1)
 
@@ -100,10 +137,19 @@ module _ (tells : Bool) (start : Start) (v w : Knowledge) (n : ℕ) (past : List
   hw = history w.seen
 
   abbrev wide : List Told
-  wide = past ++ told_in (between from (length hw)) lines
+  wide = past ++ told_in (between from (place_of w.seen)) lines
+
+  abbrev mv : List MultiEvent
+  mv = multi_history v.seen
+
+  abbrev mw : List MultiEvent
+  mw = multi_history w.seen
+
+  abbrev multis : List MultiEvent
+  multis = a.acted.multis
 
   abbrev t : Told
-  t = record { line = l; span = between from (length hw) }
+  t = record { line = l; span = between from (place_of w.seen) }
 
   abbrev added : List Event
   added = a.acted.added
@@ -111,17 +157,21 @@ module _ (tells : Bool) (start : Start) (v w : Knowledge) (n : ℕ) (past : List
   kept : EngineInvariant start w.seen
   kept = a.may.ready.at.kept
 
-  -- it touches no multixact
-  allowed : MayAnswer tells start w.seen (alone hv hw) by (stance_of s) s.stage command reply
-  allowed = plain_answer tells start v.seen w.seen by (stance_of s) s.stage command reply a.fits.0 a.acted.allowed
-
-  no_multi : own_multis n w.seen ≡ []
-  no_multi =
-      let none : a.acted.multis ≡ [] = plain_events start.base hw (alone hv hw) (multi_history w.seen) by command reply a.acted.multis a.fits.0 a.acted.fitting_multi in
-      a.acted.own_multi ∙ (λ j. p.no_multis j ++ none j)
+  allowed : MayAnswerIn tells start v.seen w.seen (between (place_of v.seen) (place_of w.seen)) by (stance_of s) s.stage command reply
+  allowed = answered_in tells start v.seen w.seen by (stance_of s) s.stage command reply a.acted.allowed
 
   turn : AllByRecursion (λ e. (by_of e).command ≤ s.levels.commands) (filter (is_of n) hv)
   turn = a.might.ready.at.stands.turn
+
+  -- of multixacts too
+  multi_turn : AllByRecursion (λ e. (multi_by e).command ≤ s.levels.commands) (filter (is_multi_of n) mv)
+  multi_turn = all_from (λ e. (multi_by e).command ≤ s.levels.commands) (filter (is_multi_of n) mv) (λ e k.
+      let there = has_filter (is_multi_of n) mv e k in
+      let f = entry_of start v.seen e a.might.ready.at.kept there.0 in
+      let mine : f.0.by.session ≡ n = ap (λ (b : By). b.session) (sym f.3) ∙ eqb-true (multi_by e).session n there.1 in
+      let low = has_all (λ (f : Entry). f.by.command ≤ s.levels.commands) (filter (λ (f : Entry). f.by.session == n) (at v.seen multi_lock)) (a.might.ready.at.turns multi_lock).after f.0 (filter_has (λ (f : Entry). f.by.session == n) (at v.seen multi_lock) f.0 f.1 (eq-eqb f.0.by.session n mine)) in
+      let number : (multi_by e).command ≡ f.0.by.command = ap (λ (b : By). b.command) f.3 in
+      omega (arith, low, number))
 
   -- an event of the session is one of those before, or of the command
   own_new : (rest : List Event) → hv ++ rest ≡ hw → filter (is_of n) rest ≡ added
@@ -134,6 +184,30 @@ module _ (tells : Bool) (start : Start) (v w : Knowledge) (n : ℕ) (past : List
       let number : (by_of e).command ≡ s.levels.commands + 1 = ap (λ (b : By). b.command) whose in
       let count = p.count in
       omega (arith, number, count))
+
+  multi_new : (rest : List MultiEvent) → mv ++ rest ≡ mw → filter (is_multi_of n) rest ≡ multis
+  multi_new rest q = append_cancel_left (filter (is_multi_of n) mv) (filter (is_multi_of n) rest) multis (sym (filter-append (is_multi_of n) mv rest) ∙ (ap (filter (is_multi_of n)) q ∙ a.acted.own_multi))
+
+  multi_later : (rest : List MultiEvent) → mv ++ rest ≡ mw → AllByRecursion (λ e. (multi_by e).session ≡ n → length told < (multi_by e).command) rest
+  multi_later rest q = all_from (λ e. (multi_by e).session ≡ n → length told < (multi_by e).command) rest (λ e k o.
+      let there : Has multis e = subst (λ (es : List MultiEvent). Has es e) (multi_new rest q) (filter_has (is_multi_of n) rest e k (eq-eqb (multi_by e).session n o)) in
+      let whose : multi_by e ≡ by = all_at (λ e. multi_by e ≡ by) multis e a.acted.each_multi there in
+      let number : (multi_by e).command ≡ s.levels.commands + 1 = ap (λ (b : By). b.command) whose in
+      let count = p.count in
+      omega (arith, number, count))
+
+  multis_are : multis_of by mw ≡ multis
+  multis_are =
+      filter_in_turn (is_multi_of n) (λ e. (multi_by e).command == by.command) mw
+      ∙ (ap (filter (λ e. (multi_by e).command == by.command)) a.acted.own_multi
+      ∙ (filter-append (λ e. (multi_by e).command == by.command) (filter (is_multi_of n) mv) multis
+      ∙ ((λ j. none j ++ all j))))
+    where
+      none : filter (λ e. (multi_by e).command == by.command) (filter (is_multi_of n) mv) ≡ []
+      none = filter_none (λ (e : MultiEvent). (multi_by e).command ≤ s.levels.commands) (λ e. (multi_by e).command == by.command) (filter (is_multi_of n) mv) (λ e k. below_not (multi_by e).command by.command (omega (arith, k))) multi_turn
+
+      all : filter (λ e. (multi_by e).command == by.command) multis ≡ multis
+      all = filter_all (λ (e : MultiEvent). multi_by e ≡ by) (λ e. (multi_by e).command == by.command) multis (λ e q. eq-eqb (multi_by e).command by.command (ap (λ (b : By). b.command) q)) a.acted.each_multi
 
   events_are : events_of by hw ≡ added
   events_are =
@@ -151,15 +225,18 @@ module _ (tells : Bool) (start : Start) (v w : Knowledge) (n : ℕ) (past : List
   longer : length hv ≤ length hw
   longer = let g = history_grows v.seen w.seen a.acted.grows in let q : length hv + length g.0 ≡ length hw = sym (length-append hv g.0) ∙ ap length g.1 in omega (arith, q)
 
-  wider : AreWider (length hw) told wide
+  multi_longer : length mv ≤ length mw
+  multi_longer = let g = multis_grow v.seen w.seen a.acted.grows in let q : length mv + length g.0 ≡ length mw = sym (length-append mv g.0) ∙ ap length g.1 in omega (arith, q)
+
+  wider : AreWider (place_of w.seen) told wide
   wider =
-      let within : AllByRecursion (λ (t : Told). t.span.to ≤ length hw) told = all_weaker (λ (t : Told). t.span.to ≤ length hv) (λ t. t.span.to ≤ length hw) (λ t f. let g = longer in omega (arith, f, g)) told (within_all tells start n v.seen told p.each) in
-      wider_both (length hw) past past (told_in (between from to) lines) (told_in (between from (length hw)) lines)
-      (wider_same (length hw) past (all_front (λ (t : Told). t.span.to ≤ length hw) past (told_in (between from to) lines) within))
-      (wider_to (length hw) from to lines (all_back (λ (t : Told). t.span.to ≤ length hw) past (told_in (between from to) lines) within))
+      let within : AllByRecursion (IsWithin (place_of w.seen)) told = all_weaker (IsWithin (place_of v.seen)) (IsWithin (place_of w.seen)) (λ t f. (let g = longer in omega (arith, f.0, g), let g = multi_longer in omega (arith, f.1, g))) told (within_all tells start n v.seen told p.each) in
+      wider_both (place_of w.seen) past past (told_in (between from to) lines) (told_in (between from (place_of w.seen)) lines)
+      (wider_same (place_of w.seen) past (all_front (IsWithin (place_of w.seen)) past (told_in (between from to) lines) within))
+      (wider_to (place_of w.seen) from to lines (all_back (IsWithin (place_of w.seen)) past (told_in (between from to) lines) within))
 
   same_lines : lines_of wide ≡ lines_of told
-  same_lines = wider_lines (length hw) told wide wider
+  same_lines = wider_lines (place_of w.seen) told wide wider
 
   up : AllByRecursion (λ t. IsUpTo n (length told) t.line) told
   up = up_to tells start n v.seen told p.each
@@ -171,13 +248,13 @@ module _ (tells : Bool) (start : Start) (v w : Knowledge) (n : ℕ) (past : List
   settled = settled_of tells start n v.seen w.seen told kept a.acted.grows p.each
 
   stance_before : stance hw (lines_of told) n ≡ stance_of s
-  stance_before = stance_same tells start n (length told) v.seen w.seen a.acted.grows later (lines_of told) lines_up ∙ p.stance_is
+  stance_before = stance_same tells start n (length told) v.seen w.seen a.acted.grows later multi_later (lines_of told) lines_up ∙ p.stance_is
 
   pending_before : pending (recs_of w.seen) hw (lines_of told) n ≡ pending_in s.stage
-  pending_before = pending_same tells start n (length told) v.seen w.seen a.acted.grows later (lines_of told) lines_up settled ∙ p.pending_is
+  pending_before = pending_same tells start n (length told) v.seen w.seen a.acted.grows later multi_later (lines_of told) lines_up settled ∙ p.pending_is
 
-  place_is : IsInRound hw t
-  place_is q e at is = (⊎_elim (λ up. omega (arith, up, low)) (λ below. absurd (before below)) (le_or_over (length hv) q), slice_get_within hw q e at)
+  place_is : IsInRound by_of hw (between from (place_of w.seen)).events by
+  place_is q e at is = (⊎_elim (λ up. let b = low.events in omega (arith, up, b)) (λ below. absurd (before below)) (le_or_over (length hv) q), slice_get_within hw q e at)
     where
       before : q < length hv → ⊥
       before below =
@@ -189,19 +266,45 @@ module _ (tells : Bool) (start : Start) (v w : Knowledge) (n : ℕ) (past : List
           let least : (by_of e).command ≤ s.levels.commands = all_at (λ (e : Event). (by_of e).command ≤ s.levels.commands) (filter (is_of n) hv) e turn (filter_has (is_of n) hv e old (eq-eqb (by_of e).session n (ap (λ (b : By). b.session) is))) in
           omega (arith, number, least)
 
+  multi_place_is : IsInRound multi_by mw (between from (place_of w.seen)).multis by
+  multi_place_is q e at is = (⊎_elim (λ up. let b = low.multis in omega (arith, up, b)) (λ below. absurd (before below)) (le_or_over (length mv) q), slice_get_within mw q e at)
+    where
+      before : q < length mv → ⊥
+      before below =
+          let g = multis_grow v.seen w.seen a.acted.grows in
+          let there = slice_get-get_or mv q e below in
+          let same : get_or mv q e ≡ e = same_Some _ e (sym (slice_get-grows mv g.0 _ q there) ∙ (ap (λ h. slice_get h q) g.1 ∙ at)) in
+          let old : Has mv e = subst (λ (x : MultiEvent). Has mv x) same (place_has mv q _ there) in
+          let number : (multi_by e).command ≡ s.levels.commands + 1 = ap (λ (b : By). b.command) is in
+          let least : (multi_by e).command ≤ s.levels.commands = all_at (λ (e : MultiEvent). (multi_by e).command ≤ s.levels.commands) (filter (is_multi_of n) mv) e multi_turn (filter_has (is_multi_of n) mv e old (eq-eqb (multi_by e).session n (ap (λ (b : By). b.session) is))) in
+          omega (arith, number, least)
+
   is_told : IsToldWell tells start w.seen n (lines_of told) t
   is_told = record {
     own = refl;
     number = let c = p.count in let m = length-map told (λ (t : Told). t.line) in omega (arith, c, m);
     events = subst (λ z. HasEvents by z command reply (events_of by hw)) (sym stance_before) (subst (λ es. HasEvents by (stance_of s) command reply es) (sym events_are) a.acted.fitting);
+    multis = subst (λ (es : List MultiEvent). HasMultiEvents start.base hw (between from (place_of w.seen)).events mw by command reply es) (sym multis_are)
+        (subst (λ (z : List Event × List MultiEvent). HasMultiEvents start.base z.0 (between from (place_of w.seen)).events z.1 by command reply multis) (λ j. (append-nil hw j, append-nil mw j))
+        (events_grow start.base hw [] mw [] by (alone hv hw) (between from (place_of w.seen)).events low.events (omega arith) (omega arith) command reply multis a.acted.fitting_multi));
     place = place_is;
-    within = (let g = longer in omega (arith, low, g), omega arith);
+    multi_place = multi_place_is;
+    behind = none_behind (λ e. IsLaterThan by (by_of e)) hw;
+    multi_behind = none_behind (λ e. IsLaterThan by (multi_by e)) mw;
+    within = (let g = longer in let b = low.events in omega (arith, b, g), omega arith);
+    multi_within = (let g = multi_longer in let b = low.multis in omega (arith, b, g), omega arith);
     stage = s.stage;
     pending_is = sym pending_before;
     standing = a.acted.standing ∙ ap (λ z. refused_by command z (pending_in s.stage)) (sym stance_before);
-    answer = subst (λ z. MayAnswer tells start w.seen (between from (length hw)) by z s.stage command reply) (sym stance_before)
-        (answer_grows tells start w.seen w.seen (alone hv hw) (between from (length hw)) by (stance_of s) s.stage command reply low (omega arith) (omega arith) (record { begins = λ q. begins_same (at w.seen q) })
-        (λ rest q. subst (AllByRecursion (λ e. (by_of e).session ≡ n → by.command < (by_of e).command)) (append_cancel_left hw [] rest (append-nil hw ∙ sym q)) tt) allowed);
+    members = a.members;
+    begun = v.seen;
+    answer = subst (λ z. MayAnswerIn tells start v.seen w.seen (between from (place_of w.seen)) by z s.stage command reply) (sym stance_before)
+        (answer_stays tells start v.seen w.seen w.seen (record { begins = λ q. begins_same (at w.seen q) }) (between (place_of v.seen) (place_of w.seen)) (between from (place_of w.seen)) by (stance_of s) s.stage
+        (record { from = low.events; to = omega arith; within = omega arith; later = none_behind (λ e. IsLaterThan by (by_of e)) hw })
+        (record { from = low.multis; to = omega arith; within = omega arith; later = none_behind (λ e. IsLaterThan by (multi_by e)) mw })
+        (λ rest q. subst (AllByRecursion (λ e. (by_of e).session ≡ n → by.command < (by_of e).command)) (append_cancel_left hw [] rest (append-nil hw ∙ sym q)) tt) command reply allowed);
+    made = a.made;
+    trimmed = λ e. let q = trim_is by command reply e in a.trimmed q.0 q.1;
     fits = a.fits;
   }
 
@@ -220,7 +323,7 @@ module _ (tells : Bool) (start : Start) (v w : Knowledge) (n : ℕ) (past : List
 
   pending_then : pending (recs_of w.seen) hw all n ≡ pending_in s'.stage
   pending_then = pending_push (recs_of w.seen) hw (lines_of told) l ∙ (ap (λ z. pending_after (recs_of w.seen) z (pending (recs_of w.seen) hw (lines_of told) n) command reply) stance_before ∙ (ap (λ o. pending_after (recs_of w.seen) (stance_of s) o command reply) pending_before
-      ∙ by_reply tells start w.seen (alone hv hw) by (recs_of w.seen) (stance_of s) (stance_of s') s.stage s'.stage command reply (given added) allowed (a.fits).1 a.stage a.acted.left known))
+      ∙ by_reply tells start v.seen w.seen (between (place_of v.seen) (place_of w.seen)) by (recs_of w.seen) (stance_of s) (stance_of s') s.stage s'.stage command reply (given added) allowed a.fits a.stage a.acted.left known))
 
   ids_then : length (given_to n hw) + lacking (stance_of s').levels ≤ count_by is_made_level all
   ids_then =
@@ -230,6 +333,44 @@ module _ (tells : Bool) (start : Start) (v w : Knowledge) (n : ℕ) (past : List
       let more = sum_by-append (λ (x : Line). cond (is_made_level x) 1 0) (lines_of told) (l ∷ []) in
       let before = p.ids in
       omega (arith, split, bound, left, more, before)
+
+  -- the multixact that it makes is as the lines tell
+  gave_is : gave mw l ≡ has_more_multis n v.seen w.seen
+  gave_is =
+      ap (λ (es : List MultiEvent). nat_lt 0 (length es)) multis_are
+      ∙ (sym (more_given (length (own_multis n v.seen)) (length multis)) ∙ ap (nat_lt (length (own_multis n v.seen))) (sym (ap length a.acted.own_multi ∙ length-append (own_multis n v.seen) multis)))
+
+  making_then : IsToldMaking (unfinished mw all n) s'.making
+  making_then =
+      let before : unfinished mw (lines_of told) n ≡ unfinished mv (lines_of told) n = making_same tells start n (length told) v.seen w.seen a.acted.grows later multi_later (lines_of told) lines_up in
+      subst (λ (u : Unfinished). IsToldMaking u s'.making)
+      (sym (unfinished_push mw (lines_of told) l ∙ (λ j. unfinished_behind (before j) (gave_is j) command reply)))
+      (a.making (unfinished mv (lines_of told) n) p.making)
+
+  -- an own event of multixacts was there, or is of the command
+  multi_cases : (e : MultiEvent) → (multi_by e).session ≡ n → Contains mw e → Contains mv e ⊎ Has multis e
+  multi_cases e own c =
+      ⊎_elim
+      (λ k. inl (has_contains mv e (has_filter (is_multi_of n) mv e k).0))
+      inr
+      (has_cases (filter (is_multi_of n) mv) multis e (subst (λ (es : List MultiEvent). Has es e) a.acted.own_multi (filter_has (is_multi_of n) mw e (contains_has mw e c) (eq-eqb (multi_by e).session n own))))
+
+  raises_then : IsTrue tells → AreFewMultis w.seen → (b : By) (multi offset : ℕ) → b.session ≡ n → Contains mw (multi_events.Raise b multi offset) → multi < start.base.multi → IsRecordedIn start multi offset
+  raises_then t few b multi offset own c below = ⊎_elim
+      (λ old. p.raises t (few_multis v.seen w.seen a.acted.grows few) b multi offset own old below)
+      (λ new.
+      let whose : b ≡ by = all_at (λ e. multi_by e ≡ by) multis (multi_events.Raise b multi offset) a.acted.each_multi new in
+      raised_told tells start w.seen by multi offset command reply (raises_alone start.base hw (alone hv hw) mw by b multi offset command reply multis a.acted.fitting_multi new) a.raised t few below
+      (subst (λ (x : By). Contains mw (multi_events.Raise x multi offset)) whose c))
+      (multi_cases (multi_events.Raise b multi offset) own c)
+
+  gens_then : length (made (own_multis n w.seen)) ≤ count_by is_made_multi all
+  gens_then =
+      let split : length (made (own_multis n w.seen)) ≡ length (made (own_multis n v.seen)) + length (made multis) = ap (λ es. length (made es)) a.acted.own_multi ∙ (ap length (filter_map-append made_by (own_multis n v.seen) multis) ∙ length-append (made (own_multis n v.seen)) (made multis)) in
+      let bound = made_most start.base hw (alone hv hw) mw by command reply multis a.acted.fitting_multi in
+      let more = sum_by-append (λ (x : Line). cond (is_made_multi x) 1 0) (lines_of told) (l ∷ []) in
+      let before = p.gens in
+      omega (arith, split, bound, more, before)
 
   -- what the command added to the log
   abbrev mine : AddsTo by (MayLeave command (stance_of s) s.stage (open_ids n hv) reply log_lock) (at v.seen log_lock) (at w.seen log_lock)
@@ -249,14 +390,20 @@ module _ (tells : Bool) (start : Start) (v w : Knowledge) (n : ℕ) (past : List
 
   promise_then : Promise tells start w.seen n (wide ++ t ∷ []) s'
   promise_then = record {
-    each = each_place_push (λ before t. IsToldWell tells start w.seen n (lines_of before) t) wide t (each_grows tells start n (length told) v.seen w.seen a.acted.grows later told wide wider up settled p.each) (subst (λ ls. IsToldWell tells start w.seen n ls t) (sym same_lines) is_told);
+    each = each_place_push (λ before t. IsToldWell tells start w.seen n (lines_of before) t) wide t (each_grows tells start n (length told) v.seen w.seen a.acted.grows later multi_later told wide wider up settled p.each) (subst (λ ls. IsToldWell tells start w.seen n ls t) (sym same_lines) is_told);
     no_other = λ e c own.
         subst (λ ls. IsTrue (has_line ls e)) (sym all_are) (list_any-push (λ (j : Line). same_by j.by (by_of e)) (lines_of told) l ∙ ⊎_elim
         (λ k. ap (λ b. b || same_by by (by_of e)) (p.no_other e (has_contains hv e (has_filter (is_of n) hv e k).0) own))
         (λ k. ap (λ b. has_line (lines_of told) e || b) (ap (same_by by) (all_at (λ e. by_of e ≡ by) added e a.acted.each k) ∙ same_by_refl by) ∙ or-true (has_line (lines_of told) e))
         (has_cases (filter (is_of n) hv) added e (subst (λ (es : List Event). Has es e) a.acted.own (filter_has (is_of n) hw e (contains_has hw e c) (eq-eqb (by_of e).session n own)))));
+    no_multi = λ e c own.
+        subst (λ ls. IsTrue (has_multi_line ls e)) (sym all_are) (list_any-push (λ (j : Line). same_by j.by (multi_by e)) (lines_of told) l ∙ ⊎_elim
+        (λ k. ap (λ b. b || same_by by (multi_by e)) (p.no_multi e k own))
+        (λ k. ap (λ b. has_multi_line (lines_of told) e || b) (ap (same_by by) (all_at (λ e. multi_by e ≡ by) multis e a.acted.each_multi k) ∙ same_by_refl by) ∙ or-true (has_multi_line (lines_of told) e))
+        (multi_cases e own c));
     stance_is = ap (λ ls. stance hw ls n) all_are ∙ stance_then;
     pending_is = ap (λ ls. pending (recs_of w.seen) hw ls n) all_are ∙ pending_then;
+    making = subst (λ ls. IsToldMaking (unfinished mw ls n) s'.making) (sym all_are) making_then;
     count =
         let c = p.count in let d = a.count in
         let m = length-map told (λ (t : Told). t.line) in
@@ -265,6 +412,8 @@ module _ (tells : Bool) (start : Start) (v w : Knowledge) (n : ℕ) (past : List
         let r = length-append (lines_of told) (l ∷ []) in
         omega (arith, c, d, m, o, q, r);
     ids = subst (λ ls. length (given_to n hw) + lacking (stance_of s').levels ≤ count_by is_made_level ls) (sym all_are) ids_then;
+    raises = raises_then;
+    gens = subst (λ ls. length (made (own_multis n w.seen)) ≤ count_by is_made_multi ls) (sym all_are) gens_then;
     faults = λ b asked count own c.
         subst (λ ls. SaysLogFault ls b) (sym all_are) (⊎_elim
         (λ old. let f = p.faults b asked count own old in (f.0, Contains-append_left (lines_of told) (l ∷ []) f.0 f.1, f.2, f.3))
@@ -273,15 +422,14 @@ module _ (tells : Bool) (start : Start) (v w : Knowledge) (n : ℕ) (past : List
     ends = λ b rec own c.
         ⊎_elim
         (λ old. p.ends b rec own old)
-        (λ new. end_of command (stance_of s) s.stage (open_ids n hv) rec a.fits.0 (all_at IsMine mine.added (record { by = b; kind = kinds.Append rec }) mine.each new).1)
+        (λ new. of_session command (stance_of s) s.stage (open_ids n hv) rec (all_at IsMine mine.added (record { by = b; kind = kinds.Append rec }) mine.each new).1)
         (log_cases (record { by = b; kind = kinds.Append rec }) own c);
-    no_multis = no_multi;
   }
 
-  shape : wide ++ t ∷ [] ≡ past ++ told_in (between from (length hw)) (lines ++ l ∷ [])
-  shape = append_assoc past (told_in (between from (length hw)) lines) (t ∷ []) ∙ ap (λ ts. past ++ ts) (sym (map-append (λ (x : Line). record { line = x; span = between from (length hw) }) lines (l ∷ [])))
+  shape : wide ++ t ∷ [] ≡ past ++ told_in (between from (place_of w.seen)) (lines ++ l ∷ [])
+  shape = append_assoc past (told_in (between from (place_of w.seen)) lines) (t ∷ []) ∙ ap (λ ts. past ++ ts) (sym (map-append (λ (x : Line). record { line = x; span = between from (place_of w.seen) }) lines (l ∷ [])))
 
-  pub goes_on : Promise tells start w.seen n (past ++ told_in (between from (length hw)) (lines ++ l ∷ [])) s'
+  pub goes_on : Promise tells start w.seen n (past ++ told_in (between from (place_of w.seen)) (lines ++ l ∷ [])) s'
   goes_on = subst (λ (ts : List Told). Promise tells start w.seen n ts s') shape promise_then
 
 pub promise_goes_on : PromiseGoesOn

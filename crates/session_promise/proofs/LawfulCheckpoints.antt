@@ -1,5 +1,5 @@
 -- The checkpoints of a life, between its rounds.
-use Rattle.std.proofs.Common.{List, None, Option, Some, [], ap, append-nil, append_assoc, arith, cond, drop, eq-eqb, false, inl, inr, length, map, refl, subst, suc, sym, take, true, zero, Bool, ℕ, ⊎_elim, ◌+◌, ◌-◌, ◌++◌, ◌<◌, ◌==◌, ◌≤◌, ◌∙◌, ◌∷◌, ◌≡◌}
+use Rattle.std.proofs.Common.{List, ◌≢◌, None, Option, Some, [], ap, append-nil, append_assoc, arith, cond, drop, eq-eqb, false, inl, inr, length, map, refl, subst, suc, sym, take, true, zero, Bool, ℕ, ⊎_elim, ◌+◌, ◌-◌, ◌++◌, ◌<◌, ◌==◌, ◌≤◌, ◌∙◌, ◌∷◌, ◌≡◌}
 use Rattle.std.specs.List.{cons_option, filter, filter_map, flat_map, slice_get}
 use Rattle.std.proofs.Math.Seq.{take-append_seam}
 use Rattle.std.proofs.lemmas.Bool.{false≢true}
@@ -24,12 +24,16 @@ use Rattle.tx_model.specs.declared.report.Step.TheVariants as steps
 use Rattle.tx_model.specs.Lines.{is_line_of}
 use Rattle.tx_model.specs.Rounds.{is_round, lines_in}
 use Rattle.tx_model.specs.Stance.{nothing_yet}
-use Rattle.life_law.specs.Checkpoints.{AreLawfulCheckpoints, IsCommitPending, IsLawfulCheckpoint, LeaveCheckpoints, MayCheckpoint, checkpoint_in, checkpoints_in, flushed_in}
+use Rattle.life_law.specs.Checkpoints.{AreLawfulCheckpoints, IsCommitPending, IsLawfulCheckpoint, IsNonePending, LeaveCheckpoints, MayCheckpoint, checkpoint_in, checkpoints_in, flushed_in}
 use Rattle.life_law.specs.Dumps.{events_behind}
 use Rattle.life_law.specs.Facts.{Facts}
 use Rattle.life_law.specs.LawfulLife.{facts_of}
 use Rattle.life_law.specs.LifeLog.{counters_behind}
+use Rattle.life_law.specs.MultiPlaces.{multis_behind}
+use Rattle.life_law.specs.MultiStanding as making
+use Rattle.life_law.specs.MultiStanding.{unfinished}
 use Rattle.life_law.specs.Pending.{pending}
+use Rattle.tx_core.specs.MultiEntries.{multi_history}
 use Rattle.tx_core.specs.declared.entry.Entry.{Entry}
 use Rattle.tx_core.specs.declared.entry.Kind.{Kind}
 use Rattle.tx_core.specs.declared.entry.Kind.TheVariants as kinds
@@ -39,15 +43,15 @@ use Rattle.tx_core.specs.Entries.{flushed_to, history, recs_in, session_of}
 use Rattle.tx_core.specs.Locks.{log_lock}
 use Rattle.tx_core.proofs.LogLaws.{flushes_rise}
 use Rattle.tx_core.proofs.Opening.{sessions_known}
-use Rattle.session_promise.specs.Checkpoints.{AreCheckpointsTold, IsAnsweredIn, IsFlushedBehind, IsPendingBehind, IsStepLeft, LeftStep, MayLeave, NamesLeast, hosts_entries}
+use Rattle.session_promise.specs.Checkpoints.{AreCheckpointsTold, IsAnsweredIn, IsFlushedBehind, IsPendingBehind, IsStepLeft, IsSurelyMaking, LeftStep, MayBeMaking, MayLeave, NamesLeast, hosts_entries}
 use Rattle.session_promise.specs.Closing.{BeginsAt, IsOver, IsReportOf}
-use Rattle.session_promise.specs.Promise.{IsOfEnd, recs_of}
+use Rattle.session_promise.specs.Promise.{IsOfSession, recs_of}
 use Rattle.session_promise.specs.Told.{ToldRound, all_lines, steps_of}
 use Rattle.session_promise.proofs.Between.{lines_of_rounds, step_lines}
 use Rattle.session_promise.proofs.CheckpointsStay.{names_same}
 use Rattle.session_promise.proofs.Flushing.{checkpoints_to}
 use Rattle.session_promise.proofs.HostFaults.{failed}
-use Rattle.session_promise.proofs.LawfulDumps.{events_first}
+use Rattle.session_promise.proofs.LawfulDumps.{events_first, multis_first}
 use Rattle.session_promise.proofs.LawfulReplies.{down_flushed}
 use Rattle.session_promise.proofs.LawfulSteps.{each_mid, from_logged, report_lines}
 use Rattle.session_promise.proofs.RecordPlaces.{filter_map_has, rec_has}
@@ -108,7 +112,7 @@ module _ (tells : Bool) (start : Start) (lists : List (List Entry)) (rounds : Li
   of_end : (e : Entry) → e.by.session < start.sessions → Has (at lists log_lock) e → left_by_kind e.kind ≡ None
   of_end e low h = by_kind e.kind refl
     where
-      end : (rec : Rec) → IsOfEnd rec → checkpoint_in rec ≡ None
+      end : (rec : Rec) → IsOfSession rec → checkpoint_in rec ≡ None
       end (records.Checkpoint number counters) x = absurd x
       end rec x = refl
 
@@ -128,14 +132,17 @@ module _ (tells : Bool) (start : Start) (lists : List (List Entry)) (rounds : Li
 
 module _ (start : Start) (lists : List (List Entry)) (rounds : List ToldRound) (told : List Step) (c : AreCheckpointsTold start lists rounds told) where
   abbrev IsOfPlace : Counters → Type 0
-  IsOfPlace counters = (place : ℕ) × (place ≤ length (history lists)) × (counters ≡ counters_behind start.base (take place (history lists)))
+  IsOfPlace counters = (place : ℕ) × (place ≤ length (history lists)) × (at : ℕ) × (at ≤ length (multi_history lists))
+      × (counters ≡ counters_behind start.base (take place (history lists)) (take at (multi_history lists)))
 
   step_behind : (before : List Step) (step : Step) (o : Option Counters) (counters : Counters) → IsStepLeft start lists rounds before step o → o ≡ Some counters → IsOfPlace counters
   step_behind before (steps.Checkpoint reply) o counters s q =
-      let m : MayLeave start s.events reply (Some counters) = subst (MayLeave start s.events reply) q s.leaves in
+      let m : MayLeave start s.events s.multis reply (Some counters) = subst (MayLeave start s.events s.multis reply) q s.leaves in
+      let multi_first : take (length s.multis) (multi_history lists) ≡ s.multis = ap (take (length s.multis)) (sym s.multi_begins.1) ∙ take-append_seam s.multis s.multi_begins.0 in
+      let multi_whole : length s.multis + length s.multi_begins.0 ≡ length (multi_history lists) = sym (length-append s.multis s.multi_begins.0) ∙ ap length s.multi_begins.1 in
       let first : take (length s.events) (history lists) ≡ s.events = ap (take (length s.events)) (sym s.begins.1) ∙ take-append_seam s.events s.begins.0 in
       let whole : length s.events + length s.begins.0 ≡ length (history lists) = sym (length-append s.events s.begins.0) ∙ ap length s.begins.1 in
-      (length s.events, omega (arith, whole), m.1 ∙ ap (counters_behind start.base) (sym first))
+      (length s.events, omega (arith, whole), length s.multis, omega (arith, multi_whole), m.1 ∙ (λ j. counters_behind start.base (sym first j) (sym multi_first j)))
   step_behind before (steps.Round number lines) o counters s q = let none : None ≡ Some counters = sym s ∙ q in absurd cc
   step_behind before (steps.Dump what place size reply) o counters s q = let none : None ≡ Some counters = sym s ∙ q in absurd cc
 
@@ -164,22 +171,40 @@ module _ (tells : Bool) (start : Start) (lists : List (List Entry)) (rounds : Li
       (λ j. pending (recs_are j) (is.events j) (lines j) n)
       ∙ from_logged r.life.from start.base (recs_of lists) (history lists) (filter (is_line_of n) (all_lines front)) nothing_yet None
 
-  answered : (before : List Line) (reply : Reply) → NamesLeast (IsCommitPending f before) reply → IsAnsweredIn start lists reply → MayCheckpoint f before reply
-  answered before replies.Done k a = k
+  making_is : (before : List Step) (front : List ToldRound) → filter is_round before ≡ steps_of 1 front → (n : ℕ) → unfinished r.life.multis (flat_map lines_in before) n ≡ unfinished (multi_history lists) (all_lines front) n
+  making_is before front told n =
+      let lines : flat_map lines_in before ≡ all_lines front = sym (lines_of_rounds before) ∙ (ap (flat_map lines_in) told ∙ step_lines 1 front) in
+      λ j. unfinished (is.multis j) (lines j) n
+
+  abbrev MayMake : List Line → ℕ → Type 0
+  MayMake before n = unfinished f.multis before n ≢ making.none
+
+  abbrev MustMake : List Line → ℕ → Type 0
+  MustMake before n = unfinished f.multis before n ≡ making.sure
+
+  none_of : (before : List Line) → ((n : ℕ) → IsCommitPending f before n → ⊥) × ((n : ℕ) → MustMake before n → ⊥) → IsNonePending f before
+  none_of before k = record { commits = k.0; multis = k.1 }
+
+  answered : (before : List Line) (reply : Reply) → NamesLeast (IsCommitPending f before) (MayMake before) (MustMake before) reply → IsAnsweredIn start lists reply → MayCheckpoint f before reply
+  answered before replies.Done k a = none_of before k
   answered before (replies.Pending session refusals.CommitPending) k a = k
+  answered before (replies.Pending session refusals.MultiPending) k a = k
   answered before (replies.Pending session refusal) k a = absurd k
-  answered before (replies.Refused refusals.LogFault) k a = k
+  answered before (replies.Refused refusals.LogFault) k a = none_of before k
   answered before (replies.Refused (refusals.LogDown down)) k a =
-      (k, down_flushed start lists down over.kept a ∙ sym is.flushed, failed tells start lists rounds over r.steps c (report_lines start lists rounds r is) down a)
-  answered before (replies.Refused (refusals.DiskFault lock)) k a = (k, a)
-  answered before (replies.Refused refusals.Full) k a = k
-  answered before (replies.Refused refusals.Memory) k a = k
+      (none_of before k, down_flushed start lists down over.kept a ∙ sym is.flushed, failed tells start lists rounds over r.steps c (report_lines start lists rounds r is) down a)
+  answered before (replies.Refused (refusals.DiskFault lock)) k a = (none_of before k, a)
+  answered before (replies.Refused refusals.Full) k a = none_of before k
+  answered before (replies.Refused refusals.Memory) k a = none_of before k
   answered before reply k a = absurd a
 
   step_lawful : (before : List Step) (step : Step) (o : Option Counters) → IsStepLeft start lists rounds before step o → IsLawfulCheckpoint f (flat_map lines_in before) step
   step_lawful before (steps.Checkpoint reply) o s =
       let same = pending_is before s.front s.steps in
-      answered (flat_map lines_in before) reply (names_same (IsPendingBehind lists s.front) (IsCommitPending f (flat_map lines_in before)) (λ n p. same n ∙ p) (λ n p. sym (same n) ∙ p) reply s.named) s.answer
+      let alike = making_is before s.front s.steps in
+      answered (flat_map lines_in before) reply
+      (names_same (IsPendingBehind lists s.front) (IsCommitPending f (flat_map lines_in before)) (MayBeMaking lists s.front) (MayMake (flat_map lines_in before)) (IsSurelyMaking lists s.front) (MustMake (flat_map lines_in before))
+      (λ n p. same n ∙ p) (λ n p. sym (same n) ∙ p) (λ n may q. may (sym (alike n) ∙ q)) (λ n q. sym (alike n) ∙ q) reply s.named) s.answer
   step_lawful before (steps.Round number lines) o s = tt
   step_lawful before (steps.Dump what place size reply) o s = tt
 
@@ -208,7 +233,9 @@ module _ (tells : Bool) (start : Start) (lists : List (List Entry)) (rounds : Li
       inr (s.leaves, subst (λ ls. LeaveCheckpoints f ls more left) (append-nil (flat_map lines_in before)) rest)
   one_left before (steps.Checkpoint reply) (Some counters) more left s rest =
       let events = events_first tells start lists rounds over r is before s.front s.behind s.events s.split s.steps s.begins s.places in
-      let same : counters ≡ counters_behind r.life.base (events_behind r.life.events (flat_map lines_in before)) = s.leaves.1 ∙ (λ j. counters_behind (sym is.base j) (events j)) in
+      let multis = multis_first tells start lists rounds over r is before s.front s.behind s.multis s.split s.steps s.multi_begins s.multi_places in
+      let same : counters ≡ counters_behind r.life.base (events_behind r.life.events (flat_map lines_in before)) (multis_behind r.life.multis (flat_map lines_in before))
+      = s.leaves.1 ∙ (λ j. counters_behind (sym is.base j) (events j) (multis j)) in
       inl (s.leaves.0, left, ap (λ x. x ∷ left) same, subst (λ ls. LeaveCheckpoints f ls more left) (append-nil (flat_map lines_in before)) rest)
 
   leave : (before rest : List LeftStep) → c.left ≡ before ++ rest → LeaveCheckpoints f (flat_map lines_in (steps_in before)) (steps_in rest) (left_in rest)

@@ -7,6 +7,10 @@ use Rattle.std.specs.List.{count_by, filter, flat_map}
 use Rattle.notes.specs.Lists.{Begins, Grows, at}
 use Rattle.tx_events.specs.declared.event.By.{By}
 use Rattle.tx_events.specs.declared.event.Event.{Event}
+use Rattle.tx_events.specs.declared.multi.MultiEvent.{MultiEvent}
+use Rattle.tx_model.specs.Replies.{RoundSpan}
+use Rattle.life_law.specs.MultiPlaces.{has_multi_line, multis_behind}
+use Rattle.tx_core.specs.MultiEntries.{multi_history}
 use Rattle.tx_events.specs.declared.record.Counters.{Counters}
 use Rattle.tx_events.specs.declared.record.Rec.{Rec}
 use Rattle.tx_events.specs.declared.record.Rec.TheVariants as records
@@ -34,15 +38,15 @@ use Rattle.tx_core.proofs.Lasting.{history_grows}
 use Rattle.session_promise.specs.Closing.{IsOver, IsReportOf}
 use Rattle.session_promise.specs.Dumps.{AreDumpsTold, IsDumpTold, IsStepTold}
 use Rattle.session_promise.specs.Promise.{recs_of}
-use Rattle.session_promise.specs.Told.{Follow, ToldRound, all_lines, steps_of}
+use Rattle.session_promise.specs.Told.{Follow, ToldRound, all_lines, in_events, in_multis, steps_of}
 use Rattle.session_promise.proofs.Between.{lines_of_rounds, step_lines}
-use Rattle.session_promise.proofs.Standing.{follow_split, front_counts}
+use Rattle.session_promise.proofs.Standing.{follow_split, front_counts, multi_counts}
 
 -- ---- places
 
-follow_end : (from a b : ℕ) (rounds : List ToldRound) → Follow from rounds a → Follow from rounds b → a ≡ b
-follow_end from a b [] f g = sym f ∙ g
-follow_end from a b (r ∷ rounds) f g = follow_end r.span.to a b rounds f.2 g.2
+follow_end : (span : ToldRound → RoundSpan) (from a b : ℕ) (rounds : List ToldRound) → Follow span from rounds a → Follow span from rounds b → a ≡ b
+follow_end span from a b [] f g = sym f ∙ g
+follow_end span from a b (r ∷ rounds) f g = follow_end span (span r).to a b rounds f.2 g.2
 
 -- ---- more records
 
@@ -121,15 +125,26 @@ module _ (start : Start) (lists more : List (List Entry)) (rounds added : List T
 -- and behind its end
 module _ (tells : Bool) (start : Start) (lists : List (List Entry)) (rounds : List ToldRound) (over : IsOver tells start lists rounds) (r : LifeReport) (is : IsReportOf start lists rounds r) where
   -- the events of the first rounds stand first
-  pub events_first : (before : List Step) (front behind : List ToldRound) (events : List Event) → rounds ≡ front ++ behind → filter is_round before ≡ steps_of 1 front → Begins events (history lists) → Follow 0 front (length events) → events ≡ events_behind r.life.events (flat_map lines_in before)
+  pub events_first : (before : List Step) (front behind : List ToldRound) (events : List Event) → rounds ≡ front ++ behind → filter is_round before ≡ steps_of 1 front → Begins events (history lists) → Follow in_events 0 front (length events) → events ≡ events_behind r.life.events (flat_map lines_in before)
   events_first before front behind events split steps begins places =
       let h : List Event = history lists in
       let lines : flat_map lines_in before ≡ all_lines front = sym (lines_of_rounds before) ∙ (ap (flat_map lines_in) steps ∙ step_lines 1 front) in
-      let s = follow_split 0 (length h) front behind (subst (λ (rs : List ToldRound). Follow 0 rs (length h)) split over.places) in
+      let s = follow_split in_events 0 (length h) front behind (subst (λ (rs : List ToldRound). Follow in_events 0 rs (length h)) split over.places) in
       let count : count_by (has_line (flat_map lines_in before)) h ≡ length events =
-      ap (λ (ls : List Line). count_by (has_line ls) h) lines ∙ (front_counts tells start lists rounds over front behind s.0 split s.1 s.2 ∙ follow_end 0 s.0 (length events) front s.1 places) in
+      ap (λ (ls : List Line). count_by (has_line ls) h) lines ∙ (front_counts tells start lists rounds over front behind s.0 split s.1 s.2 ∙ follow_end in_events 0 s.0 (length events) front s.1 places) in
       let first : take (length events) h ≡ events = ap (take (length events)) (sym begins.1) ∙ take-append_seam events begins.0 in
       sym first ∙ (ap (λ n. take n h) (sym count) ∙ ap (λ (t : List Event). events_behind t (flat_map lines_in before)) (sym is.events))
+
+  -- and so of multixacts
+  pub multis_first : (before : List Step) (front behind : List ToldRound) (events : List MultiEvent) → rounds ≡ front ++ behind → filter is_round before ≡ steps_of 1 front → Begins events (multi_history lists) → Follow in_multis 0 front (length events) → events ≡ multis_behind r.life.multis (flat_map lines_in before)
+  multis_first before front behind events split steps begins places =
+      let h : List MultiEvent = multi_history lists in
+      let lines : flat_map lines_in before ≡ all_lines front = sym (lines_of_rounds before) ∙ (ap (flat_map lines_in) steps ∙ step_lines 1 front) in
+      let s = follow_split in_multis 0 (length h) front behind (subst (λ (rs : List ToldRound). Follow in_multis 0 rs (length h)) split over.multi_places) in
+      let count : count_by (has_multi_line (flat_map lines_in before)) h ≡ length events =
+      ap (λ (ls : List Line). count_by (has_multi_line ls) h) lines ∙ (multi_counts tells start lists rounds over front behind s.0 split s.1 s.2 ∙ follow_end in_multis 0 s.0 (length events) front s.1 places) in
+      let first : take (length events) h ≡ events = ap (take (length events)) (sym begins.1) ∙ take-append_seam events begins.0 in
+      sym first ∙ (ap (λ n. take n h) (sym count) ∙ ap (λ (t : List MultiEvent). multis_behind t (flat_map lines_in before)) (sym is.multis))
 
   dump_lawful : (before : List Step) (what : DumpOf) (size : ℕ) (reply : Reply) → IsDumpTold start lists rounds before what size reply → MayDump start.banks r.life.base r.life.recs (events_behind r.life.events (flat_map lines_in before)) what size reply
   dump_lawful before what size reply d =

@@ -8,7 +8,6 @@ use Rattle.tx_events.specs.declared.event.By.{By}
 use Rattle.tx_events.specs.declared.event.Event.{Event}
 use Rattle.tx_events.specs.declared.event.Event.TheVariants as events
 use Rattle.tx_events.specs.declared.multi.MultiEvent.{MultiEvent}
-use Rattle.tx_events.specs.declared.multi.MultiEvent.TheVariants as multis
 use Rattle.tx_events.specs.declared.record.Counters.{Counters}
 use Rattle.tx_events.specs.declared.record.Rec.{Rec}
 use Rattle.tx_events.specs.declared.record.Rec.TheVariants as records
@@ -20,7 +19,7 @@ use Rattle.tx_events.proofs.Closing.{commit_ends, open_is}
 use Rattle.tx_events.proofs.ListSteps.{le_or_over, not_both}
 use Rattle.tx_events.proofs.Membership.{Has, contains_has, has_contains, has_filter, place_has}
 use Rattle.tx_model.specs.declared.report.Step.{Step}
-use Rattle.life_law.specs.LifeLog.{IsAmong, IsLogOf, IsRecordOf, ends_top}
+use Rattle.life_law.specs.LifeLog.{IsAmong, IsLogOf, IsMultisRecord, IsRecordOf, ends_top}
 use Rattle.tx_core.specs.declared.entry.Entry.{Entry}
 use Rattle.tx_core.specs.declared.entry.Kind.TheVariants as kinds
 use Rattle.tx_core.specs.declared.entry.Start.{Start}
@@ -30,17 +29,18 @@ use Rattle.tx_core.specs.Entries.{IsAppended, appended, flushed_to, history, rec
 use Rattle.tx_core.specs.Locks.{log_lock}
 use Rattle.tx_core.specs.MultiEntries.{multi_history}
 use Rattle.tx_core.specs.ProgramOrder.{IsCheckpoint}
-use Rattle.tx_core.specs.RecordsFollow.{IsMultiAnnounced, IsOldestAnnounced, NeedsCounters}
-use Rattle.tx_core.specs.RecordsOnce.{OnceIn}
+use Rattle.tx_core.specs.RecordsFollow.{NeedsCounters}
+use Rattle.tx_core.specs.RecordsOnce.{IsMultiNamed, OnceIn}
 use Rattle.tx_core.proofs.Asking.{upheld_has}
 use Rattle.tx_core.proofs.Flushed.{commits_are_flushed}
 use Rattle.tx_core.proofs.Opening.{sessions_known}
+use Rattle.tx_core.proofs.Once.{records_given}
 use Rattle.tx_core.proofs.LogLaws.{flushes_rise}
 use Rattle.tx_core.proofs.Reading.{appended_at, appended_by, appended_is}
 use Rattle.tx_core.proofs.Taking.{get_in_take}
 use Rattle.session_promise.specs.Checkpoints.{AreCheckpointsTold}
 use Rattle.session_promise.specs.Closing.{BeginsAt, IsOver, PromisesMakeLog}
-use Rattle.session_promise.specs.Promise.{IsOfEnd, recs_of}
+use Rattle.session_promise.specs.Promise.{IsOfSession, recs_of}
 use Rattle.session_promise.specs.Told.{ToldRound}
 use Rattle.session_promise.proofs.LawfulCheckpoints.{left_behind}
 use Rattle.session_promise.proofs.RecordPlaces.{has_rec}
@@ -114,7 +114,7 @@ named base h p t session by subs legal own at_p exact =
 
 -- ---- the log
 
-module _ (tells : Bool) (start : Start) (lists : List (List Entry)) (rounds : List ToldRound) (told : List Step) (number : ℕ) (begins : BeginsAt number start) (over : IsOver tells start lists rounds) (checks : AreCheckpointsTold start lists rounds told) (quiet : multi_history lists ≡ []) where
+module _ (tells : Bool) (start : Start) (lists : List (List Entry)) (rounds : List ToldRound) (told : List Step) (number : ℕ) (begins : BeginsAt number start) (over : IsOver tells start lists rounds) (checks : AreCheckpointsTold start lists rounds told) where
   abbrev h : List Event
   h = history lists
 
@@ -124,30 +124,24 @@ module _ (tells : Bool) (start : Start) (lists : List (List Entry)) (rounds : Li
   abbrev flushed : ℕ
   flushed = flushed_to start es
 
-  -- no multixact was announced as the oldest one, so a truncation names that of the base
-  multi_is : (multi offset : ℕ) → IsMultiAnnounced start lists multi offset → (multi ≡ start.base.oldest_multi) × (offset ≡ start.base.oldest_offset)
-  multi_is multi offset a = ⊎_elim
-      (λ same. same)
-      (λ (r : (by : By) × Contains (multi_history lists) (multis.Raise by multi offset)). absurd (contains_has [] (multis.Raise r.0 multi offset) (subst (λ (t : List MultiEvent). Contains t (multis.Raise r.0 multi offset)) quiet r.1)))
-      a
+  abbrev all : List MultiEvent
+  all = multi_history lists
 
-  whole : (session : ℕ) (rec : Rec) → IsOfEnd rec → IsAppended lists session rec → IsRecordOf start.base h rec
+  whole : (session : ℕ) (rec : Rec) → IsOfSession rec → IsAppended lists session rec → IsRecordOf start.base h all rec
   whole session (records.Commit t subs) is a = let x = over.kept.records.exact session t subs a in record { session = session; root = x.root; ids = x.ids }
   whole session (records.Abort t subs) is a = let x = over.kept.ends.exact session t subs a in record { session = session; root = x.root; ids = x.ids }
+  whole session (records.Multi multi offset members) is a = let g = (records_given start lists session over.kept).multi multi offset members a in (g.0, g.2)
   whole session (records.Truncate oldest multi offset) is a =
       let e : Entry = record { by = a.0; kind = kinds.Append (records.Truncate oldest multi offset) } in
-      let of : IsOldestAnnounced start lists oldest × IsMultiAnnounced start lists multi offset
-      = (upheld_has (NeedsCounters start) lists log_lock e over.kept.log.counters (contains_has es e a.2)).1.1 in
-      let same = multi_is multi offset of.1 in
-      (of.0, same.0, same.1)
-  whole session rec is a = absurd is
+      (upheld_has (NeedsCounters start) lists log_lock e over.kept.log.counters (contains_has es e a.2)).1.1
+  whole session (records.Checkpoint number counters) is a = absurd is
 
   -- the host's is a checkpoint
-  whole_hosts : (by : By) (rec : Rec) → IsCheckpoint rec → by.session ≡ start.sessions → Contains es (record { by = by; kind = kinds.Append rec }) → IsRecordOf start.base h rec
+  whole_hosts : (by : By) (rec : Rec) → IsCheckpoint rec → by.session ≡ start.sessions → Contains es (record { by = by; kind = kinds.Append rec }) → IsRecordOf start.base h all rec
   whole_hosts by (records.Checkpoint place counters) is own stands = left_behind start lists rounds told checks by place counters own (contains_has es _ stands)
   whole_hosts by rec is own stands = absurd is
 
-  each_whole : (rec : Rec) → Contains (recs_of lists) rec → IsRecordOf start.base h rec
+  each_whole : (rec : Rec) → Contains (recs_of lists) rec → IsRecordOf start.base h all rec
   each_whole rec c =
       let r = has_rec lists rec (contains_has (recs_of lists) rec c) in
       let by : By = r.1.0 in
@@ -176,18 +170,37 @@ module _ (tells : Bool) (start : Start) (lists : List (List Entry)) (rounds : Li
       clash (records.Abort t subs) b e f c once = absurd f
       clash a b e f c once = absurd e
 
-  once : (i j id : ℕ) (a b : Rec) → slice_get (recs_of lists) i ≡ Some a → slice_get (recs_of lists) j ≡ Some b → ends_top a id → ends_top b id → i ≡ j
-  once i j id a b at_i at_j is_a is_b =
+  -- so of what no two records are that stand one behind the other, no two are
+  one_of : (Is : Rec → Type 0) → ((p q : ℕ) (a b : Rec) (ba bb : By) → slice_get es p ≡ Some (record { by = ba; kind = kinds.Append a }) → slice_get es q ≡ Some (record { by = bb; kind = kinds.Append b }) → Is a → Is b → p < q → ⊥)
+      → (i j : ℕ) (a b : Rec) → slice_get (recs_of lists) i ≡ Some a → slice_get (recs_of lists) j ≡ Some b → Is a → Is b → i ≡ j
+  one_of Is apart i j a b at_i at_j is_a is_b =
       let x = entry_of es i a at_i in
       let y = entry_of es j b at_j in
       let same : x.place ≡ y.place = ⊎_elim
       (λ (upto : x.place ≤ y.place). ⊎_elim
       (λ (back : y.place ≤ x.place). omega (arith, upto, back))
-      (λ (below : x.place < y.place). absurd (not_twice x.place y.place id a b x.by y.by x.at y.at is_a is_b below))
+      (λ (below : x.place < y.place). absurd (apart x.place y.place a b x.by y.by x.at y.at is_a is_b below))
       (le_or_over y.place x.place))
-      (λ (above : y.place < x.place). absurd (not_twice y.place x.place id b a y.by x.by y.at x.at is_b is_a above))
+      (λ (above : y.place < x.place). absurd (apart y.place x.place b a y.by x.by y.at x.at is_b is_a above))
       (le_or_over x.place y.place) in
       x.behind ∙ (ap (λ z. length (recs_in (take z es))) same ∙ sym y.behind)
+
+  once : (i j id : ℕ) (a b : Rec) → slice_get (recs_of lists) i ≡ Some a → slice_get (recs_of lists) j ≡ Some b → ends_top a id → ends_top b id → i ≡ j
+  once i j id a b = one_of (λ rec. ends_top rec id) (λ p q a b ba bb. not_twice p q id a b ba bb) i j a b
+
+  -- nor is an earlier record of the same multixact
+  multi_twice : (multi p q : ℕ) (a b : Rec) (ba bb : By) → slice_get es p ≡ Some (record { by = ba; kind = kinds.Append a }) → slice_get es q ≡ Some (record { by = bb; kind = kinds.Append b }) → IsMultisRecord a multi → IsMultisRecord b multi → p < q → ⊥
+  multi_twice multi p q (records.Multi m offset members) (records.Multi k at others) ba bb at_p at_q is_a is_b low =
+      let e : Entry = record { by = ba; kind = kinds.Append (records.Multi m offset members) } in
+      let there = has_contains (take q es) e (place_has (take q es) p e (get_in_take q p es e low at_p)) in
+      let same : m ≡ k = is_a ∙ sym is_b in
+      over.kept.once.each.each log_lock q (record { by = bb; kind = kinds.Append (records.Multi k at others) }) at_q
+      (subst (IsMultiNamed (take q es)) same (record { by = ba; offset = offset; members = members; stands = there }))
+  multi_twice multi p q (records.Multi m offset members) b ba bb at_p at_q is_a is_b low = absurd is_b
+  multi_twice multi p q a b ba bb at_p at_q is_a is_b low = absurd is_a
+
+  multi_once : (i j multi : ℕ) (a b : Rec) → slice_get (recs_of lists) i ≡ Some a → slice_get (recs_of lists) j ≡ Some b → IsMultisRecord a multi → IsMultisRecord b multi → i ≡ j
+  multi_once i j multi a b = one_of (λ rec. IsMultisRecord rec multi) (multi_twice multi) i j a b
 
   abbrev first_rec : Rec
   first_rec = records.Checkpoint number start.base
@@ -224,7 +237,7 @@ module _ (tells : Bool) (start : Start) (lists : List (List Entry)) (rounds : Li
           let f = begins.from in
           omega (arith, k, m, b, f)
 
-  pub log_of : (end : ℕ) → number + length (start.logged ++ recs_of lists) < 2 ^ 64 → end < 2 ^ 64 → IsLogOf number start.base h (start.logged ++ recs_of lists) flushed end
+  pub log_of : (end : ℕ) → number + length (start.logged ++ recs_of lists) < 2 ^ 64 → end < 2 ^ 64 → IsLogOf number start.base h all (start.logged ++ recs_of lists) flushed end
   log_of end count gate =
       let last = flushes_rise start lists over.kept in
       let one = begins.from in
@@ -235,6 +248,7 @@ module _ (tells : Bool) (start : Start) (lists : List (List Entry)) (rounds : Li
         within = let w = last.within in let m = length-map (records_of lists) (λ (r : By × Rec). r.1) in let n = ap length recs_are in omega (arith, w, one, m, n);
         each = each_whole;
         once = once;
+        multi_once = multi_once;
         numbered = numbered;
         committed = committed;
         count = let few = count in omega (arith, few);
@@ -242,4 +256,4 @@ module _ (tells : Bool) (start : Start) (lists : List (List Entry)) (rounds : Li
       }
 
 pub promises_make_log : PromisesMakeLog
-promises_make_log tells start lists rounds told number end begins over checks quiet count gate = log_of tells start lists rounds told number begins over checks quiet end count gate
+promises_make_log tells start lists rounds told number end begins over checks count gate = log_of tells start lists rounds told number begins over checks end count gate

@@ -1,14 +1,22 @@
 -- What may be answered in the lists at the end is lawful.
 use Rattle.engine_parts.specs.Stages.{pending_in}
-use Rattle.std.proofs.Common.{Bool, IsTrue, List, [], append_assoc, arith, refl, sym, zero, suc, ℕ, ◌++◌, ◌-◌, ◌≡◌, ◌∙◌, ◌∷◌, is_some, false}
+use Rattle.std.proofs.Common.{Bool, Contains, IsTrue, List, Some, subst, ◌<◌, [], append_assoc, arith, refl, sym, zero, suc, ℕ, ◌++◌, ◌-◌, ◌≡◌, ◌∙◌, ◌∷◌, is_some, false}
 use Rattle.std.specs.List.{flat_map}
 use Rattle.std.proofs.lemmas.Bool.{false≢true, or_left}
 use Rattle.notes.specs.Lists.{Begins, Grows, at}
 use Rattle.tx_events.specs.declared.event.By.{By}
+use Rattle.tx_events.specs.declared.event.Event.{Event}
+use Rattle.tx_events.specs.declared.multi.Member.{Member}
+use Rattle.tx_events.specs.declared.multi.MultiEvent.{MultiEvent}
+use Rattle.tx_events.specs.declared.multi.MultiEvent.TheVariants as multi_events
+use Rattle.tx_events.specs.declared.record.Counters.{Counters}
+use Rattle.tx_events.specs.declared.record.Rec.{Rec}
+use Rattle.tx_events.specs.declared.record.Rec.TheVariants as records
+use Rattle.tx_events.specs.Multis.{next_made}
 use Rattle.tx_events.specs.declared.refusal.Lock.{Lock}
 use Rattle.tx_events.specs.declared.refusal.Lock.TheVariants as locks
 use Rattle.tx_events.specs.declared.refusal.Refusal.TheVariants as refusals
-use Rattle.tx_events.proofs.Membership.{contains_has}
+use Rattle.tx_events.proofs.Membership.{Has, contains_has, has_contains, has_filter_map}
 use Rattle.tx_model.specs.declared.command.Command.{Command}
 use Rattle.tx_model.specs.declared.command.Command.TheVariants as commands
 use Rattle.tx_model.specs.declared.reply.Reply.{Reply}
@@ -18,10 +26,16 @@ use Rattle.tx_model.specs.Rounds.{lines_in}
 use Rattle.tx_model.specs.Replies.{RoundSpan}
 use Rattle.tx_model.specs.Stance.{Stance, top_level}
 use Rattle.tx_model.proofs.Growth.{known_less}
-use Rattle.life_law.specs.Commands.{has_command}
+use Rattle.life_law.specs.Answering.{IsLawfulAnswer, IsLawfulMultiReply, IsUnrecorded}
 use Rattle.life_law.specs.Facts.{Facts, has_failed_log}
 use Rattle.life_law.proofs.DidGrowth.{did_less}
-use Rattle.life_law.specs.Replies.{IsBank, IsLawfulReply, may_ask, may_lack_memory, may_need_log, may_append}
+use Rattle.life_law.specs.MultiPlaces.{Recorded, recorded_by}
+use Rattle.life_law.specs.MultiReplies.{MayReplyMulti}
+use Rattle.tx_core.specs.MultiEntries.{AreFewMultis, multi_history}
+use Rattle.tx_core.proofs.Growing.{slice_get_begins, take_begins}
+use Rattle.tx_core.proofs.Rising.{multis_grow}
+use Rattle.engine_parts.specs.MultiAnswers.{MayAnswerMulti, WasNotYet, recorded_in}
+use Rattle.life_law.specs.Replies.{IsBank, IsLawfulReply, may_append, may_ask, may_flush, may_lack_memory, may_need_log}
 use Rattle.tx_core.specs.declared.entry.Entry.{Entry}
 use Rattle.tx_core.specs.declared.entry.Kind.TheVariants as kinds
 use Rattle.tx_core.specs.declared.entry.Start.{Start}
@@ -39,63 +53,65 @@ use Rattle.engine_parts.specs.Stand.{IsDownAt}
 use Rattle.engine_parts.specs.Standing.{appends, asks_volume, flushes, needs_log, takes_memory}
 use Rattle.session_promise.specs.Checkpoints.{AreCheckpointsTold}
 use Rattle.session_promise.specs.Closing.{IsOver}
-use Rattle.session_promise.specs.Promise.{IsAskedFor, recs_of}
-use Rattle.session_promise.specs.Told.{ToldRound, all_lines}
+use Rattle.session_promise.specs.Promise.{IsToAsker, MayAnswerIn, recs_of}
+use Rattle.session_promise.specs.Told.{Span, ToldRound, all_lines}
 use Rattle.session_promise.proofs.HostFaults.{failed}
 
-lacks : (command : Command) (s : Stance) (stage : Stage) → IsTrue (has_command command) → IsTrue (takes_memory command s stage) → IsTrue (may_lack_memory command s (pending_in stage))
-lacks commands.Write s stage h t = t
-lacks commands.Commit s stages.Clear h t = t
-lacks commands.Commit s stage h t = absurd (false≢true t)
-lacks (commands.Snap name) s stage h t = refl
-lacks commands.Begin s stage h t = absurd (false≢true t)
-lacks commands.Save s stage h t = absurd (false≢true t)
-lacks commands.Release s stage h t = absurd (false≢true t)
-lacks commands.Undo s stage h t = absurd (false≢true t)
-lacks commands.Abort s stage h t = absurd (false≢true t)
-lacks commands.Horizon s stage h t = absurd (false≢true t)
-lacks (commands.DropSnap name) s stage h t = absurd (false≢true t)
-lacks (commands.See name x) s stage h t = absurd (false≢true t)
-lacks (commands.Status x) s stage h t = t
-lacks (commands.Did x) s stage h t = absurd (false≢true t)
-lacks (commands.Freeze oldest) s stage h t = refl
-lacks command s stage h t = absurd (false≢true h)
+lacks : (command : Command) (s : Stance) (stage : Stage) → IsTrue (takes_memory command s stage) → IsTrue (may_lack_memory command s (pending_in stage))
+lacks commands.Write s stage t = t
+lacks commands.Commit s stages.Clear t = t
+lacks commands.Commit s stage t = absurd (false≢true t)
+lacks (commands.Snap name) s stage t = refl
+lacks (commands.Status x) s stage t = t
+lacks (commands.Freeze oldest) s stage t = refl
+lacks (commands.Multi members) s stage t = refl
+lacks (commands.SeeMulti name multi) s stage t = refl
+lacks (commands.MultiFreeze multi) s stage t = refl
+lacks commands.Trim s stage t = refl
+lacks command s stage t = absurd (false≢true t)
 
-logs : (command : Command) (s : Stance) (stage : Stage) → IsTrue (has_command command) → IsTrue (flushes command s stage) → IsTrue (may_need_log command s (pending_in stage))
-logs commands.Commit s stages.Clear h t = or_left (is_some (top_level s.levels)) false t
-logs commands.Commit s (stages.Logged number) h t = refl
-logs commands.Commit s stage h t = absurd (false≢true t)
-logs commands.Trim s stage h t = absurd (false≢true h)
-logs command s stage h t = absurd (false≢true t)
+logs : (command : Command) (s : Stance) (stage : Stage) → IsTrue (flushes command s stage) → IsTrue (may_flush command s (pending_in stage))
+logs commands.Commit s stages.Clear t = or_left (is_some (top_level s.levels)) false t
+logs commands.Commit s (stages.Logged number) t = refl
+logs commands.Commit s stage t = absurd (false≢true t)
+logs commands.Trim s stage t = refl
+logs command s stage t = absurd (false≢true t)
 
-fills_log : (command : Command) (s : Stance) (stage : Stage) → IsTrue (has_command command) → IsTrue (appends command s stage) → IsTrue (may_append command s (pending_in stage))
-fills_log commands.Commit s stages.Clear h t = t
-fills_log commands.Commit s stage h t = absurd (false≢true t)
-fills_log (commands.Multi members) s stage h t = absurd (false≢true h)
-fills_log commands.Trim s stage h t = absurd (false≢true h)
-fills_log command s stage h t = absurd (false≢true t)
+fills_log : (command : Command) (s : Stance) (stage : Stage) → IsTrue (appends command s stage) → IsTrue (may_append command s (pending_in stage))
+fills_log commands.Commit s stages.Clear t = t
+fills_log commands.Commit s stage t = absurd (false≢true t)
+fills_log (commands.Multi members) s stage t = refl
+fills_log commands.Trim s stage t = refl
+fills_log command s stage t = absurd (false≢true t)
 
-needs : (command : Command) (s : Stance) (stage : Stage) → IsTrue (has_command command) → IsTrue (needs_log command s stage) → IsTrue (may_need_log command s (pending_in stage))
-needs (commands.Multi members) s stage h t = absurd (false≢true h)
-needs command s stage h t = logs command s stage h t
+needs : (command : Command) (s : Stance) (stage : Stage) → IsTrue (needs_log command s stage) → IsTrue (may_need_log command s (pending_in stage))
+needs (commands.Multi members) s stage t = refl
+needs command s stage t = logs command s stage t
 
-asks : (command : Command) (s : Stance) (stage : Stage) (lock : Lock) → IsTrue (has_command command) → IsTrue (asks_volume command s stage lock) → IsTrue (may_ask command s (pending_in stage) lock)
-asks commands.Write s stage (locks.Xact bank) h t = t
-asks commands.Write s stage (locks.Subtrans bank) h t = refl
-asks commands.Commit s stage (locks.Xact bank) h t = t
-asks commands.Commit s stages.Clear (locks.Subtrans bank) h t = t
-asks commands.Undo s stage (locks.Xact bank) h t = t
-asks commands.Abort s stage (locks.Xact bank) h t = t
-asks (commands.See name x) s stage (locks.Xact bank) h t = t
-asks (commands.See name x) s stage (locks.Subtrans bank) h t = t
-asks (commands.Status x) s stage (locks.Xact bank) h t = t
-asks (commands.Did x) s stage (locks.Xact bank) h t = t
-asks (commands.Did x) s stage (locks.Subtrans bank) h t = t
-asks (commands.Multi members) s stage lock h t = absurd (false≢true h)
-asks (commands.SeeMulti name multi) s stage lock h t = absurd (false≢true h)
-asks (commands.MultiFreeze multi) s stage lock h t = absurd (false≢true h)
-asks commands.Trim s stage lock h t = absurd (false≢true h)
-asks command s stage lock h t = absurd (false≢true t)
+asks : (command : Command) (s : Stance) (stage : Stage) (lock : Lock) → IsTrue (asks_volume command s stage lock) → IsTrue (may_ask command s (pending_in stage) lock)
+asks commands.Write s stage (locks.Xact bank) t = t
+asks commands.Write s stage (locks.Subtrans bank) t = refl
+asks commands.Commit s stage (locks.Xact bank) t = t
+asks commands.Commit s stages.Clear (locks.Subtrans bank) t = t
+asks commands.Undo s stage (locks.Xact bank) t = t
+asks commands.Abort s stage (locks.Xact bank) t = t
+asks (commands.See name x) s stage (locks.Xact bank) t = t
+asks (commands.See name x) s stage (locks.Subtrans bank) t = t
+asks (commands.Status x) s stage (locks.Xact bank) t = t
+asks (commands.Did x) s stage (locks.Xact bank) t = t
+asks (commands.Did x) s stage (locks.Subtrans bank) t = t
+asks (commands.Multi members) s stage (locks.Offsets bank) t = refl
+asks (commands.Multi members) s stage (locks.Members bank) t = refl
+asks (commands.SeeMulti name multi) s stage (locks.Xact bank) t = refl
+asks (commands.SeeMulti name multi) s stage (locks.Subtrans bank) t = refl
+asks (commands.SeeMulti name multi) s stage (locks.Offsets bank) t = refl
+asks (commands.SeeMulti name multi) s stage (locks.Members bank) t = refl
+asks (commands.MultiFreeze multi) s stage (locks.Offsets bank) t = refl
+asks commands.Trim s stage (locks.Xact bank) t = refl
+asks commands.Trim s stage (locks.Subtrans bank) t = refl
+asks commands.Trim s stage (locks.Offsets bank) t = refl
+asks commands.Trim s stage (locks.Members bank) t = refl
+asks command s stage lock t = absurd (false≢true t)
 
 bank_of : (start : Start) (lock : Lock) → IsPageLock start (number_of lock) → IsBank start.banks lock
 bank_of start locks.Log p = let f = p.from in absurd (omega (arith, f))
@@ -124,8 +140,38 @@ down_flushed start lists down k d =
     begins front q zero = (d.rest, q)
     begins front q (suc place) = (at lists (suc place), refl)
 
+-- ---- multixacts
+
+-- where more is told, no more is asked
+reply_less : (told told' : Type 0) (NotYet NotYet' : ℕ → Type 0) (base : Counters) (committed : List ℕ) (recorded : List Recorded) (h : List Event) (all : List MultiEvent) (span multis : RoundSpan) (by : By) (s : Stance)
+    → (told' → told) → ((multi : ℕ) → NotYet multi → NotYet' multi) → (command : Command) (reply : Reply) → MayReplyMulti told NotYet base committed recorded h all span multis by s command reply → MayReplyMulti told' NotYet' base committed recorded h all span multis by s command reply
+reply_less told told' NotYet NotYet' base committed recorded h all span multis by s up none (commands.SeeMulti name m) (replies.Verdicts verdicts) a = λ t. a (up t)
+reply_less told told' NotYet NotYet' base committed recorded h all span multis by s up none (commands.SeeMulti name m) (replies.Refused (refusals.NotYet multi)) a = λ t. none multi (a (up t))
+reply_less told told' NotYet NotYet' base committed recorded h all span multis by s up none (commands.MultiFreeze multi) (replies.Refused (refusals.NotYet next)) a = λ t. none next (a (up t))
+reply_less told told' NotYet NotYet' base committed recorded h all span multis by s up none command reply a = a
+
+-- a multixact that the life began with is one of a record
+recorded_is : (rec : Rec) (multi offset : ℕ) (members : List Member) → recorded_by rec ≡ Some (multi, offset, members) → rec ≡ records.Multi multi offset members
+recorded_is (records.Multi m o ms) multi offset members e = let left : Recorded = (m, o, ms) in let right : Recorded = (multi, offset, members) in let same : left ≡ right = cc in λ j. records.Multi (same j).0 (same j).1 (same j).2
+recorded_is rec multi offset members e = absurd cc
+
+pub recorded_has : (start : Start) (multi offset : ℕ) (members : List Member) → Contains (recorded_in start) (multi, offset, members) → Contains start.recorded (records.Multi multi offset members)
+recorded_has start multi offset members c =
+    let f = has_filter_map recorded_by start.recorded (multi, offset, members) (contains_has (recorded_in start) (multi, offset, members) c) in
+    has_contains start.recorded (records.Multi multi offset members) (subst (λ (r : Rec). Has start.recorded r) (recorded_is f.0 multi offset members f.2) f.1)
+
+not_yet : (start : Start) (begun lists : List (List Entry)) (by : By) (multi : ℕ) → WasNotYet start begun lists by multi → IsUnrecorded start.base (recorded_in start) (multi_history lists) by multi
+not_yet start begun lists by multi n =
+    let b = multis_grow n.seen lists n.upto in record {
+      pinned = n.pinned;
+      asked = n.asked;
+      stands = slice_get_begins (multi_history n.seen) (multi_history lists) n.pinned (multi_events.Hold by n.asked) b n.stands;
+      below = subst (λ (h : List MultiEvent). multi < next_made start.base.multi h) (sym (take_begins (multi_history n.seen) (multi_history lists) n.pinned (multi_events.Hold by n.asked) b n.stands)) n.below;
+      unrecorded = λ low offset members c. n.unrecorded low offset members (recorded_has start multi offset members c);
+    }
+
 -- what the report of a life that is over is judged by
-module _ (tells : Bool) (start : Start) (lists : List (List Entry)) (rounds : List ToldRound) (over : IsOver tells start lists rounds) (few : AreFewIds lists) (told : List Step) (c : AreCheckpointsTold start lists rounds told) (lines : flat_map lines_in told ≡ all_lines rounds) where
+module _ (tells : Bool) (start : Start) (lists : List (List Entry)) (rounds : List ToldRound) (over : IsOver tells start lists rounds) (few : AreFewIds lists) (few_multis : AreFewMultis lists) (told : List Step) (c : AreCheckpointsTold start lists rounds told) (lines : flat_map lines_in told ≡ all_lines rounds) where
   abbrev pub facts : Facts
   facts = record {
     tells = tells;
@@ -133,24 +179,43 @@ module _ (tells : Bool) (start : Start) (lists : List (List Entry)) (rounds : Li
     from = start.from - 1;
     base = start.base;
     committed = start.committed;
+    recorded = recorded_in start;
     events = history lists;
+    multis = multi_history lists;
     recs = start.logged ++ recs_of lists;
     flushed = flushed_to start (at lists log_lock);
     log_failed = has_failed_log told;
   }
 
-  pub lawful_reply : (span : RoundSpan) (by : By) (s : Stance) (stage : Stage) (command : Command) (reply : Reply) → IsAskedFor command reply → MayAnswer tells start lists span by s stage command reply → IsLawfulReply facts span by s (pending_in stage) command reply
-  lawful_reply span by s stage command (replies.Refused refusals.Memory) f a = lacks command s stage f.0 a
-  lawful_reply span by s stage command (replies.Refused refusals.Full) f a = fills_log command s stage f.0 a
-  lawful_reply span by s stage command (replies.Refused (refusals.DiskFault lock)) f a = (asks command s stage lock f.0 a.0, fault_at start lists lock by over.kept a.1)
-  lawful_reply span by s stage command (replies.Refused refusals.LogFault) f a = logs command s stage f.0 a.0
-  lawful_reply span by s stage command (replies.Refused (refusals.LogDown down)) f a = (needs command s stage f.0 a.0, down_flushed start lists down over.kept a.1, failed tells start lists rounds over told c lines down a.1)
+  lawful_reply : (span : RoundSpan) (by : By) (s : Stance) (stage : Stage) (command : Command) (reply : Reply) → IsToAsker command reply → MayAnswer tells start lists span by s stage command reply → IsLawfulReply facts span by s (pending_in stage) command reply
+  lawful_reply span by s stage command (replies.Refused refusals.Memory) f a = lacks command s stage a
+  lawful_reply span by s stage command (replies.Refused refusals.Full) f a = fills_log command s stage a
+  lawful_reply span by s stage command (replies.Refused (refusals.DiskFault lock)) f a = (asks command s stage lock a.0, fault_at start lists lock by over.kept a.1)
+  lawful_reply span by s stage command (replies.Refused refusals.LogFault) f a = logs command s stage a.0
+  lawful_reply span by s stage command (replies.Refused (refusals.LogDown down)) f a = (needs command s stage a.0, down_flushed start lists down over.kept a.1, failed tells start lists rounds over told c lines down a.1)
   lawful_reply span by s stage command (replies.Refused refusals.CommitPending) f a = tt
   lawful_reply span by s stage command (replies.Refused refusals.AbortPending) f a = tt
   lawful_reply span by s stage command (replies.Refused refusals.UndoPending) f a = tt
-  lawful_reply span by s stage command (replies.Seen visible) f a = (f.1, λ t. a t few)
+  lawful_reply span by s stage command (replies.Seen visible) f a = (f, λ t. a t few)
   lawful_reply span by s stage (commands.Status x) (replies.Known status) f a =
       known_less (IsTrue tells × AreFewIds lists) (IsTrue tells) start.base start.committed (history lists) by x status (λ t. (t, few)) a
   lawful_reply span by s stage (commands.Did x) (replies.Did answer) f a =
       did_less (IsTrue tells × AreFewIds lists) (IsTrue tells) start.base start.committed (history lists) (start.logged ++ recs_of lists) span by x.number answer (λ t. (t, few)) a
   lawful_reply span by s stage command reply f a = a
+
+  multi_reply : (begun : List (List Entry)) (span multis : RoundSpan) (by : By) (s : Stance) (stage : Stage) (command : Command) (reply : Reply) → MayAnswerMulti tells start begun lists span multis by s stage command reply → IsLawfulMultiReply facts span multis by s (pending_in stage) command reply
+  multi_reply begun span multis by s stage command (replies.Refused refusals.Memory) a = lacks command s stage a
+  multi_reply begun span multis by s stage command (replies.Refused refusals.Full) a = fills_log command s stage a
+  multi_reply begun span multis by s stage command (replies.Refused (refusals.DiskFault lock)) a = (asks command s stage lock a.0, fault_at start lists lock by over.kept a.1)
+  multi_reply begun span multis by s stage command (replies.Refused refusals.LogFault) a = logs command s stage a.0
+  multi_reply begun span multis by s stage command (replies.Refused (refusals.LogDown down)) a = (needs command s stage a.0, down_flushed start lists down over.kept a.1, failed tells start lists rounds over told c lines down a.1)
+  multi_reply begun span multis by s stage command reply a =
+      reply_less (IsTrue tells × AreFewIds lists × AreFewMultis lists) (IsTrue tells) (WasNotYet start begun lists by) (IsUnrecorded start.base (recorded_in start) (multi_history lists) by) start.base start.committed (recorded_in start)
+      (history lists) (multi_history lists) span multis by s (λ t. (t, few, few_multis)) (not_yet start begun lists by) command reply a
+
+  pub lawful_answer : (begun : List (List Entry)) (span : Span) (by : By) (s : Stance) (stage : Stage) (command : Command) (reply : Reply) → IsToAsker command reply → MayAnswerIn tells start begun lists span by s stage command reply → IsLawfulAnswer facts span.events span.multis by s (pending_in stage) command reply
+  lawful_answer begun span by s stage (commands.Multi pairs) reply f a = multi_reply begun span.events span.multis by s stage (commands.Multi pairs) reply a
+  lawful_answer begun span by s stage (commands.SeeMulti name m) reply f a = multi_reply begun span.events span.multis by s stage (commands.SeeMulti name m) reply a
+  lawful_answer begun span by s stage (commands.MultiFreeze multi) reply f a = multi_reply begun span.events span.multis by s stage (commands.MultiFreeze multi) reply a
+  lawful_answer begun span by s stage commands.Trim reply f a = multi_reply begun span.events span.multis by s stage commands.Trim reply a
+  lawful_answer begun span by s stage command reply f a = lawful_reply span.events by s stage command reply f a

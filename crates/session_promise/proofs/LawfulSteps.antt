@@ -1,12 +1,13 @@
 -- The promises of all sessions make lawful lines, round by round.
 use Rattle.std.proofs.Common.{Bool, IsTrue, List, None, Option, Some, [], ap, append-nil, append_assoc, arith, cond, drop, length, refl, subst, sym, take, true, zero, suc, ℕ, ◌+◌, ◌++◌, ◌-◌, ◌<◌, ◌≡◌, ◌∙◌, ◌∷◌}
-use Rattle.std.specs.List.{All, count_by, filter, flat_map, slice_get}
+use Rattle.std.specs.List.{All, count_by, filter, filter_map, flat_map, slice_get}
 use Rattle.std.proofs.Math.Seq.{take-append_seam}
 use Rattle.std.proofs.lemmas.Grind.{flat_map-append}
 use Rattle.std.proofs.lemmas.List.{map-append, take-append-drop}
 use Rattle.std.proofs.lemmas.List.Elements.{All-from_recursion, filter-append}
 use Rattle.std.proofs.lemmas.List.Sums.{length-filter}
 use Rattle.tx_events.specs.declared.event.Event.{Event}
+use Rattle.tx_events.specs.declared.multi.MultiEvent.{MultiEvent}
 use Rattle.tx_events.specs.declared.record.Rec.{Rec}
 use Rattle.tx_events.specs.declared.record.Rec.TheVariants as records
 use Rattle.tx_events.specs.declared.record.Counters.{Counters}
@@ -16,7 +17,7 @@ use Rattle.tx_events.specs.declared.refusal.Refusal.TheVariants as refusals
 use Rattle.tx_events.specs.Events.{events_of, given}
 use Rattle.tx_events.specs.Places.{EachPlace}
 use Rattle.tx_events.proofs.ListSteps.{eqb-refl, filter_all, filter_passes}
-use Rattle.tx_events.proofs.Membership.{all_at, all_from, place_has}
+use Rattle.tx_events.proofs.Membership.{all_at, all_from, contains_has, has_contains, has_right, place_has}
 use Rattle.tx_events.proofs.PlaceLemmas.{each_place_none, last_at, slice_get-grows}
 use Rattle.tx_model.specs.declared.command.Command.{Command}
 use Rattle.tx_model.specs.declared.command.Command.TheVariants as commands
@@ -36,19 +37,26 @@ use Rattle.life_law.specs.LawfulLife.{AreLawfulSteps, facts_of}
 use Rattle.life_law.specs.Lines.{IsLawfulLine, IsLawfulRound}
 use Rattle.life_law.specs.Pending.{is_recorded, pending, pending_after, pending_from}
 use Rattle.life_law.specs.Refused.{refused_by}
-use Rattle.life_law.specs.Replies.{IsLawfulReply}
+use Rattle.life_law.specs.Answering.{IsLawfulAnswer, IsLogged}
+use Rattle.life_law.specs.MultiLines.{HasMultiEvents}
+use Rattle.life_law.specs.MultiPlaces.{has_multi_line, multi_span, multis_of, recorded_by}
+use Rattle.notes.specs.Lists.{at}
+use Rattle.tx_core.specs.Locks.{log_lock}
+use Rattle.tx_core.specs.MultiEntries.{AreFewMultis, multi_history}
 use Rattle.tx_core.specs.declared.entry.Entry.{Entry}
 use Rattle.tx_core.specs.declared.entry.Start.{Start}
 use Rattle.tx_core.specs.Entries.{AreFewIds, history}
 use Rattle.engine_parts.specs.Stages.{pending_in}
 use Rattle.session_promise.specs.Checkpoints.{AreCheckpointsTold}
 use Rattle.session_promise.specs.Closing.{BeginsAt, IsOver, IsReportOf, PromisesMakeSteps}
-use Rattle.session_promise.specs.Promise.{IsToldWell, recs_of}
-use Rattle.session_promise.specs.Told.{Follow, Told, ToldRound, all_lines, lines_by, lines_of, steps_of, told_by, told_in, told_of}
+use Rattle.session_promise.specs.Promise.{IsMadeFor, IsToldWell, recs_of}
+use Rattle.session_promise.specs.Told.{Follow, Told, ToldRound, all_lines, in_events, in_multis, lines_by, lines_of, steps_of, told_by, told_in, told_of}
 use Rattle.session_promise.proofs.Between.{each_between, in_turn_between, lines_of_rounds, step_lines}
 use Rattle.session_promise.proofs.FewIds.{levels_bound_ids}
-use Rattle.session_promise.proofs.LawfulReplies.{facts, lawful_reply}
-use Rattle.session_promise.proofs.Standing.{all_told, follow_split, front_counts, lines_have, stands_first}
+use Rattle.session_promise.proofs.FewMultis.{lines_bound_multis}
+use Rattle.session_promise.proofs.LawfulReplies.{facts, lawful_answer}
+use Rattle.session_promise.proofs.Standing.{all_told, follow_split, front_counts, lines_have, multi_counts, stands_first}
+use Rattle.session_promise.proofs.RecordPlaces.{rec_has}
 use Rattle.session_promise.proofs.Telling.{lines_in_round, lines_of_both, lines_told}
 
 -- ---- lists
@@ -79,7 +87,7 @@ step_at n i [] step e = absurd cc
 step_at n zero (r ∷ rounds) step e = let same : steps.Round n r.lines ≡ step = cc in record { round = r; at = refl; lines = ap lines_in (sym same) }
 step_at n (suc i) (r ∷ rounds) step e = let s = step_at (n + 1) i rounds step e in record { round = s.round; at = s.at; lines = s.lines }
 
-take_lines : (n i : ℕ) (rounds : List ToldRound) → flat_map lines_in (take i (steps_of n rounds)) ≡ all_lines (take i rounds)
+pub take_lines : (n i : ℕ) (rounds : List ToldRound) → flat_map lines_in (take i (steps_of n rounds)) ≡ all_lines (take i rounds)
 take_lines n zero rounds = refl
 take_lines n (suc i) [] = refl
 take_lines n (suc i) (r ∷ rounds) = ap (λ ls. r.lines ++ ls) (take_lines (n + 1) i rounds)
@@ -109,12 +117,15 @@ from_logged number counters recs h (l ∷ lines) s old =
 
 -- ---- the lines
 
-module _ (tells : Bool) (start : Start) (lists : List (List Entry)) (rounds : List ToldRound) (number : ℕ) (begins : BeginsAt number start) (over : IsOver tells start lists rounds) (few : AreFewIds lists) (checked : List Step) (c : AreCheckpointsTold start lists rounds checked) (lines_are : flat_map lines_in checked ≡ all_lines rounds) where
+module _ (tells : Bool) (start : Start) (lists : List (List Entry)) (rounds : List ToldRound) (number : ℕ) (begins : BeginsAt number start) (over : IsOver tells start lists rounds) (few : AreFewIds lists) (few_multis : AreFewMultis lists) (checked : List Step) (c : AreCheckpointsTold start lists rounds checked) (lines_are : flat_map lines_in checked ≡ all_lines rounds) where
   abbrev h : List Event
   h = history lists
 
   abbrev f : Facts
-  f = facts tells start lists rounds over few checked c lines_are
+  f = facts tells start lists rounds over few few_multis checked c lines_are
+
+  abbrev all : List MultiEvent
+  all = multi_history lists
 
   logged_same : (before : List Line) (n : ℕ) → pending f.recs h before n ≡ pending (recs_of lists) h before n
   logged_same before n = ap (λ (rs : List Rec). pending (rs ++ recs_of lists) h before n) begins.logged ∙ from_logged number start.base (recs_of lists) h (filter (is_line_of n) before) nothing_yet None
@@ -186,25 +197,51 @@ module _ (tells : Bool) (start : Start) (lists : List (List Entry)) (rounds : Li
     pending_same = ap (pending_from (recs_of lists) h nothing_yet None) (filter_twice (is_line_of n) before) ∙ sym (logged_same before n)
 
     -- the round's place in the history
-    span_is : r.span ≡ span_of h (all_lines front) r.lines
+    cut_two : rounds ≡ (front ++ r ∷ []) ++ rest
+    cut_two = cut ∙ sym (append_assoc front (r ∷ []) rest)
+
+    these_lines : all_lines (front ++ r ∷ []) ≡ all_lines front ++ r.lines
+    these_lines = flat_map-append (λ (x : ToldRound). x.lines) front (r ∷ []) ∙ ap (λ ls. all_lines front ++ ls) (append-nil r.lines)
+
+    span_is : r.span.events ≡ span_of h (all_lines front) r.lines
     span_is =
-        let cut_two : rounds ≡ (front ++ r ∷ []) ++ rest = cut ∙ sym (append_assoc front (r ∷ []) rest) in
-        let s = follow_split 0 (length h) front (r ∷ rest) (subst (λ rs. Follow 0 rs (length h)) cut over.places) in
+        let s = follow_split in_events 0 (length h) front (r ∷ rest) (subst (λ rs. Follow in_events 0 rs (length h)) cut over.places) in
         let here = front_counts tells start lists rounds over front (r ∷ rest) s.0 cut s.1 s.2 in
-        let s2 = follow_split 0 (length h) (front ++ r ∷ []) rest (subst (λ rs. Follow 0 rs (length h)) cut_two over.places) in
-        let s3 = follow_split 0 s2.0 front (r ∷ []) s2.1 in
+        let s2 = follow_split in_events 0 (length h) (front ++ r ∷ []) rest (subst (λ rs. Follow in_events 0 rs (length h)) cut_two over.places) in
+        let s3 = follow_split in_events 0 s2.0 front (r ∷ []) s2.1 in
         let there = front_counts tells start lists rounds over (front ++ r ∷ []) rest s2.0 cut_two s2.1 s2.2 in
-        let lines_are : all_lines (front ++ r ∷ []) ≡ all_lines front ++ r.lines = flat_map-append (λ (x : ToldRound). x.lines) front (r ∷ []) ∙ ap (λ ls. all_lines front ++ ls) (append-nil r.lines) in
-        let from_is : r.span.from ≡ count_by (has_line (all_lines front)) h = s.2.0 ∙ sym here in
-        let to_is : r.span.to ≡ count_by (has_line (all_lines front ++ r.lines)) h = s3.2.2 ∙ (sym there ∙ ap (λ ls. count_by (has_line ls) h) lines_are) in
+        let from_is : r.span.events.from ≡ count_by (has_line (all_lines front)) h = s.2.0 ∙ sym here in
+        let to_is : r.span.events.to ≡ count_by (has_line (all_lines front ++ r.lines)) h = s3.2.2 ∙ (sym there ∙ ap (λ ls. count_by (has_line ls) h) these_lines) in
         λ j. record { from = from_is j; to = to_is j }
 
-    pub line_lawful : IsLawfulLine f (span_of h (all_lines front) r.lines) before l
+    multi_span_is : r.span.multis ≡ multi_span all (all_lines front) r.lines
+    multi_span_is =
+        let s = follow_split in_multis 0 (length all) front (r ∷ rest) (subst (λ rs. Follow in_multis 0 rs (length all)) cut over.multi_places) in
+        let here = multi_counts tells start lists rounds over front (r ∷ rest) s.0 cut s.1 s.2 in
+        let s2 = follow_split in_multis 0 (length all) (front ++ r ∷ []) rest (subst (λ rs. Follow in_multis 0 rs (length all)) cut_two over.multi_places) in
+        let s3 = follow_split in_multis 0 s2.0 front (r ∷ []) s2.1 in
+        let there = multi_counts tells start lists rounds over (front ++ r ∷ []) rest s2.0 cut_two s2.1 s2.2 in
+        let from_is : r.span.multis.from ≡ count_by (has_multi_line (all_lines front)) all = s.2.0 ∙ sym here in
+        let to_is : r.span.multis.to ≡ count_by (has_multi_line (all_lines front ++ r.lines)) all = s3.2.2 ∙ (sym there ∙ ap (λ ls. count_by (has_multi_line ls) all) these_lines) in
+        λ j. record { from = from_is j; to = to_is j }
+
+    logged : (reply : Reply) → IsMadeFor start lists n reply → IsLogged f reply
+    logged (replies.Multi multi offset warn) m =
+        let a = m.1.appended in
+        let rec : Rec = records.Multi multi offset m.0 in
+        (m.0, has_contains (start.logged ++ recs_of lists) rec (has_right start.logged (recs_of lists) rec (rec_has (at lists log_lock) a.0 rec (contains_has (at lists log_lock) _ a.2))))
+    logged reply m = tt
+
+    pub line_lawful : IsLawfulLine f (span_of h (all_lines front) r.lines) (multi_span all (all_lines front) r.lines) before l
     line_lawful = record {
       number = told.number ∙ ap (λ k. k + 1) (length-filter (is_line_of n) before);
       events = subst (λ s. HasEvents l.by s l.command l.reply (events_of l.by h)) stance_same told.events;
+      multi_events = subst (λ (x : RoundSpan). HasMultiEvents start.base h x all l.by l.command l.reply (multis_of l.by all)) span_is told.multis;
       standing = told.standing ∙ (ap (λ s. refused_by l.command s (pending_in told.stage)) stance_same ∙ ap (refused_by l.command (stance h before n)) (told.pending_is ∙ pending_same));
-      reply = subst (λ (x : RoundSpan × (Stance × Option Refusal)). IsLawfulReply f x.0 l.by x.1.0 x.1.1 l.command l.reply) (λ j. (span_is j, (stance_same j, (told.pending_is ∙ pending_same) j))) (lawful_reply tells start lists rounds over few checked c lines_are r.span l.by (stance h (lines_by n before) n) told.stage l.command l.reply told.fits told.answer);
+      members = told.members;
+      reply = subst (λ (x : (RoundSpan × RoundSpan) × (Stance × Option Refusal)). IsLawfulAnswer f x.0.0 x.0.1 l.by x.1.0 x.1.1 l.command l.reply) (λ j. ((span_is j, multi_span_is j), (stance_same j, (told.pending_is ∙ pending_same) j)))
+          (lawful_answer tells start lists rounds over few few_multis checked c lines_are told.begun r.span l.by (stance h (lines_by n before) n) told.stage l.command l.reply told.fits told.answer);
+      logged = logged l.reply told.made;
     }
 
   each_step : EachPlace (steps_of 1 rounds) (λ before step. IsLawfulRound f (flat_map lines_in before) (lines_in step))
@@ -222,13 +259,13 @@ module _ (tells : Bool) (start : Start) (lists : List (List Entry)) (rounds : Li
   in_turn : AreInTurn h (steps_of 1 rounds)
   in_turn n =
       let cut : rounds ≡ take n rounds ++ drop n rounds = sym (take-append-drop n rounds) in
-      let s = follow_split 0 (length h) (take n rounds) (drop n rounds) (subst (λ rs. Follow 0 rs (length h)) cut over.places) in
+      let s = follow_split in_events 0 (length h) (take n rounds) (drop n rounds) (subst (λ rs. Follow in_events 0 rs (length h)) cut over.places) in
       subst (StandFirst h) (sym (take_lines 1 n rounds)) (stands_first tells start lists rounds over (take n rounds) (drop n rounds) s.0 cut s.1 s.2)
 
 -- what is lawful of the rounds is so of all steps
 lawful_between : (f : Facts) (ss : List Step) → AreLawfulSteps f (filter is_round ss) → AreLawfulSteps f ss
 lawful_between f ss a = record {
-  each = each_between (IsLawfulRound f) ss (λ before. each_place_none (λ earlier. IsLawfulLine f (span_of f.events before []) (before ++ earlier))) a.each;
+  each = each_between (IsLawfulRound f) ss (λ before. each_place_none (λ earlier. IsLawfulLine f (span_of f.events before []) (multi_span f.multis before []) (before ++ earlier))) a.each;
   no_other = subst (λ ls. All (λ e. IsTrue (has_line ls e)) f.events) (lines_of_rounds ss) a.no_other;
 }
 
@@ -236,15 +273,33 @@ lawful_between f ss a = record {
 pub report_lines : (start : Start) (lists : List (List Entry)) (rounds : List ToldRound) (r : LifeReport) → IsReportOf start lists rounds r → flat_map lines_in r.steps ≡ all_lines rounds
 report_lines start lists rounds r is = sym (lines_of_rounds r.steps) ∙ (ap (flat_map lines_in) is.steps ∙ step_lines 1 rounds)
 
-pub promises_make_steps : PromisesMakeSteps
-promises_make_steps tells start lists rounds r begins over few checks is =
-    let ids = levels_bound_ids tells start lists rounds over few in
-    let lines : flat_map lines_in r.steps ≡ all_lines rounds = report_lines start lists rounds r is in
+-- what the report is judged by
+pub facts_are : (tells : Bool) (start : Start) (lists : List (List Entry)) (rounds : List ToldRound) (r : LifeReport) (begins : BeginsAt r.life.from start) (over : IsOver tells start lists rounds) (few : AreFewIds lists) (few_multis : AreFewMultis lists) (checks : AreCheckpointsTold start lists rounds r.steps) (is : IsReportOf start lists rounds r)
+    → facts tells start lists rounds over few few_multis r.steps checks (report_lines start lists rounds r is) ≡ facts_of tells start.banks r.life r.steps
+facts_are tells start lists rounds r begins over few few_multis checks is =
     let number : start.from - 1 ≡ r.life.from = let e = begins.from in omega arith in
-    let same : facts tells start lists rounds over ids r.steps checks lines ≡ facts_of tells start.banks r.life r.steps
-    = λ j. record { tells = tells; banks = start.banks; from = number j; base = sym is.base j; committed = sym is.committed j; events = sym is.events j; recs = sym is.recs j; flushed = sym is.flushed j; log_failed = has_failed_log r.steps } in (
+    λ j. record {
+      tells = tells;
+      banks = start.banks;
+      from = number j;
+      base = sym is.base j;
+      committed = sym is.committed j;
+      recorded = filter_map recorded_by (sym is.recorded j);
+      events = sym is.events j;
+      multis = sym is.multis j;
+      recs = sym is.recs j;
+      flushed = sym is.flushed j;
+      log_failed = has_failed_log r.steps;
+    }
+
+pub promises_make_steps : PromisesMakeSteps
+promises_make_steps tells start lists rounds r begins over few few_lines checks is =
+    let ids = levels_bound_ids tells start lists rounds over few in
+    let given = lines_bound_multis tells start lists rounds over few_lines in
+    let lines : flat_map lines_in r.steps ≡ all_lines rounds = report_lines start lists rounds r is in
+    let same = facts_are tells start lists rounds r begins over ids given checks is in (
       lawful_between (facts_of tells start.banks r.life r.steps) r.steps
-          (subst (λ (x : Facts × List Step). AreLawfulSteps x.0 x.1) (λ j. (same j, sym is.steps j)) (lawful tells start lists rounds r.life.from begins over ids r.steps checks lines)),
+          (subst (λ (x : Facts × List Step). AreLawfulSteps x.0 x.1) (λ j. (same j, sym is.steps j)) (lawful tells start lists rounds r.life.from begins over ids given r.steps checks lines)),
       in_turn_between r.life.events r.steps
-          (subst (λ (x : List Event × List Step). AreInTurn x.0 x.1) (λ j. (sym is.events j, sym is.steps j)) (in_turn tells start lists rounds r.life.from begins over ids r.steps checks lines)),
+          (subst (λ (x : List Event × List Step). AreInTurn x.0 x.1) (λ j. (sym is.events j, sym is.steps j)) (in_turn tells start lists rounds r.life.from begins over ids given r.steps checks lines)),
     )

@@ -59,7 +59,7 @@ down_grows start lists more down g d =
       flushed_is = d.flushed_is;
     }
 
-few_multis : (lists more : List (List Entry)) → Grows lists more → AreFewMultis more → AreFewMultis lists
+pub few_multis : (lists more : List (List Entry)) → Grows lists more → AreFewMultis more → AreFewMultis lists
 few_multis lists more g few =
     let b = multis_grow lists more g in
     let long : length (made (multi_history lists ++ b.0)) ≡ length (made (multi_history more)) = ap (λ (h : List MultiEvent). length (made h)) b.1 in

@@ -23,10 +23,12 @@ use Rattle.tx_core.specs.Entries.{history}
 use Rattle.tx_core.specs.Locks.{log_lock}
 use Rattle.tx_core.specs.StaysDown.{IsUp, UpOf, is_put_down}
 use Rattle.tx_core.proofs.Taking.{get_in_take}
-use Rattle.engine_parts.specs.Answers.{MayAnswer, MetLogFault}
+use Rattle.engine_parts.specs.Answers.{MetLogFault}
+use Rattle.tx_model.specs.Stance.{Stance}
 use Rattle.engine_parts.specs.Faults.{flush_fault_by}
 use Rattle.session_promise.specs.Closing.{IsOver}
-use Rattle.session_promise.specs.Promise.{IsToldWell}
+use Rattle.session_promise.specs.Promise.{IsToldWell, MayAnswerIn}
+use Rattle.session_promise.proofs.Devices.{log_fault_met}
 use Rattle.session_promise.specs.Told.{Told, ToldRound, all_lines, lines_by, lines_of, told_by}
 use Rattle.session_promise.proofs.Telling.{lines_told}
 
@@ -154,10 +156,10 @@ module _ (tells : Bool) (start : Start) (lists : List (List Entry)) (rounds : Li
   pub met : (l : Line) → Has all l → is_log_fault l.reply ≡ true → MetLogFault lists l.by
   met l h fault =
       let t = told_line l h in
-      let answer : MayAnswer tells start lists t.told.span t.told.line.by (stance (history lists) t.before l.by.session) t.well.stage t.told.line.command (replies.Refused refusals.LogFault)
-      = subst (λ (reply : Reply). MayAnswer tells start lists t.told.span t.told.line.by (stance (history lists) t.before l.by.session) t.well.stage t.told.line.command reply)
-      (ap (λ (x : Line). x.reply) t.line ∙ fault_is l.reply fault) t.well.answer in
-      subst (MetLogFault lists) (ap (λ (x : Line). x.by) t.line) answer.1
+      let how : Stance = stance (history lists) t.before l.by.session in
+      let answer : MayAnswerIn tells start t.well.begun lists t.told.span t.told.line.by how t.well.stage t.told.line.command (replies.Refused refusals.LogFault)
+      = subst (λ (reply : Reply). MayAnswerIn tells start t.well.begun lists t.told.span t.told.line.by how t.well.stage t.told.line.command reply) (ap (λ (x : Line). x.reply) t.line ∙ fault_is l.reply fault) t.well.answer in
+      subst (MetLogFault lists) (ap (λ (x : Line). x.by) t.line) (log_fault_met tells start t.well.begun lists t.told.span t.told.line.by how t.well.stage t.told.line.command answer)
 
   one_line : (l m : Line) → Has all l → Has all m → is_log_fault l.reply ≡ true → is_log_fault m.reply ≡ true → l.by ≡ m.by
   one_line l m here there said told =

@@ -1,4 +1,4 @@
--- Where each session touched no multixact none was touched.
+-- Whose the events of multixacts are.
 use Rattle.std.proofs.Common.{List, Some, [], ap, eq-eqb, eqb-true, false, inl, refl, subst, sym, true, Bool, ℕ, ⊎_elim, arith, length, ◌<◌, ◌==◌, ◌∙◌, ◌∷◌, ◌≡◌}
 use Rattle.std.specs.List.{filter, slice_get}
 use Rattle.notes.specs.Lists.{at, own}
@@ -21,6 +21,11 @@ use Rattle.tx_core.specs.ProgramOrder.{IsOfHost}
 use Rattle.tx_core.proofs.Asking.{if_some, upheld_has}
 use Rattle.tx_core.proofs.Opening.{sessions_known}
 
+-- an entry's event is of the entry's command
+pub multi_own : (start : Start) (lists : List (List Entry)) (lock : ℕ) (before : List Entry) (e : Entry) (event : MultiEvent) → NeedsMulti start lists lock before e → multi_of e ≡ Some event → multi_by event ≡ e.by
+multi_own start lists lock before e event need is =
+    (if_some (multi_of e) (λ (event : MultiEvent). (multi_by event ≡ e.by) × MultiMayCome start.base (InBase start.base) (multis_in before) event × ToldOf start event) event need is).0
+
 -- the entry of an event of a multixact, which is of the event's command
 pub entry_of : (start : Start) (lists : List (List Entry)) (e : MultiEvent) → EngineInvariant start lists → Has (multi_history lists) e → (f : Entry) × Has (at lists multi_lock) f × (multi_of f ≡ Some e) × (multi_by e ≡ f.by)
 entry_of start lists e k h =
@@ -40,23 +45,6 @@ none_multi start lists n k empty = filter_none_on (is_multi_of n) (multi_history
     is_not e h false q = q
 
 -- the host has none
-not_hosts : (kind : Kind) (e : MultiEvent) → IsOfHost kind → multi_in kind ≡ Some e → ⊥
+pub not_hosts : (kind : Kind) (e : MultiEvent) → IsOfHost kind → multi_in kind ≡ Some e → ⊥
 not_hosts (kinds.Multi event) e host is = host
 not_hosts kind e host is = cc
-
-pub none_at_all : (start : Start) (lists : List (List Entry)) → EngineInvariant start lists → ((n : ℕ) → n < start.sessions → own_multis n lists ≡ []) → multi_history lists ≡ []
-none_at_all start lists k none = by_list (multi_history lists) refl
-  where
-    no_event : (e : MultiEvent) → Has (multi_history lists) e → ⊥
-    no_event e h =
-        let f = entry_of start lists e k h in
-        ⊎_elim
-        (λ (low : f.0.by.session < start.sessions).
-        let mine : (multi_by e).session ≡ f.0.by.session = ap (λ (b : By). b.session) f.3 in
-        subst (λ (es : List MultiEvent). Has es e) (none f.0.by.session low) (filter_has (is_multi_of f.0.by.session) (multi_history lists) e h (eq-eqb (multi_by e).session f.0.by.session mine)))
-        (λ (his : IsHosts start f.0). not_hosts f.0.kind e his.1 f.2)
-        (sessions_known start lists k multi_lock f.0 (has_contains (at lists multi_lock) f.0 f.1))
-
-    by_list : (es : List MultiEvent) → multi_history lists ≡ es → multi_history lists ≡ []
-    by_list [] q = q
-    by_list (e ∷ es) q = absurd (no_event e (subst (λ (t : List MultiEvent). Has t e) (sym q) (inl refl)))

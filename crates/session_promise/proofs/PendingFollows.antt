@@ -10,18 +10,17 @@ use Rattle.tx_model.specs.declared.command.Command.{Command}
 use Rattle.tx_model.specs.declared.command.Command.TheVariants as commands
 use Rattle.tx_model.specs.declared.reply.Reply.{Reply}
 use Rattle.tx_model.specs.declared.reply.Reply.TheVariants as replies
-use Rattle.tx_model.specs.Replies.{RoundSpan}
 use Rattle.tx_model.specs.Stance.{Stance, after, top_level}
 use Rattle.life_law.specs.Pending.{is_recorded, pending_after}
 use Rattle.tx_core.specs.declared.entry.Entry.{Entry}
 use Rattle.tx_core.specs.declared.entry.Start.{Start}
 use Rattle.engine_parts.specs.declared.session.Stage.{Stage}
 use Rattle.engine_parts.specs.declared.session.Stage.TheVariants as stages
-use Rattle.engine_parts.specs.Answers.{MayAnswer}
 use Rattle.engine_parts.specs.Stages.{may_be_recorded, pending_in}
 use Rattle.engine_parts.specs.Standing.{IsLeftAt, IsLeftBy, IsLoggedFrom, LeavesStage, is_unflushed}
 use Rattle.life_law.specs.Refused.{is_by_standing}
-use Rattle.session_promise.specs.Promise.{IsToAsker}
+use Rattle.session_promise.specs.Promise.{IsToAsker, MayAnswerIn}
+use Rattle.session_promise.specs.Told.{Span}
 
 -- whether the log has a commit record of the session's top
 abbrev pub IsKnownOf : List Rec → Stance → Stage → Type 0
@@ -66,50 +65,50 @@ either_left true command refusal old new f l = l
 either_left false command refusal old new f l = f l
 
 -- by the reply and the stages
-pub by_reply : (tells : Bool) (start : Start) (lists : List (List Entry)) (span : RoundSpan) (by : By) (recs : List Rec) (s s' : Stance) (old new : Stage) (command : Command) (reply : Reply) (ids : List ℕ)
-    → MayAnswer tells start lists span by s old command reply → IsToAsker command reply → LeavesStage command reply old new → after s by.command command reply ids ≡ s' → IsKnownOf recs s' new → pending_after recs s (pending_in old) command reply ≡ pending_in new
-by_reply tells start lists span by recs s s' old new commands.Commit replies.Done ids a o l f k = sym (ap pending_in l)
-by_reply tells start lists span by recs s s' old new commands.Commit (replies.Refused refusals.LogFault) ids a o l f k = fault_follows old new l
-by_reply tells start lists span by recs s s' old new commands.Commit (replies.Refused (refusals.DiskFault (locks.Xact bank))) ids a o l f k = sym (ap pending_in l.2)
-by_reply tells start lists span by recs s s' old new commands.Commit (replies.Refused (refusals.LogDown down)) ids a o l f k = down_follows recs s old new a.0 (subst (λ z. IsKnownOf recs z new) (sym f) k) l
-by_reply tells start lists span by recs s s' old new commands.Commit (replies.Refused refusal) ids a o l f k = same_follows old new l
-by_reply tells start lists span by recs s s' old new commands.Commit (replies.Seen visible) ids a o l f k = absurd (false≢true o)
-by_reply tells start lists span by recs s s' old new commands.Commit reply ids a o l f k = absurd a
-by_reply tells start lists span by recs s s' old new commands.Abort replies.Done ids a o l f k = sym (ap pending_in l)
-by_reply tells start lists span by recs s s' old new commands.Abort (replies.Refused (refusals.DiskFault lock)) ids a o l f k = sym (ap pending_in l)
-by_reply tells start lists span by recs s s' old new commands.Abort (replies.Refused refusals.AlreadyOpen) ids a o l f k = same_follows old new l
-by_reply tells start lists span by recs s s' old new commands.Abort (replies.Refused refusals.NoTransaction) ids a o l f k = same_follows old new l
-by_reply tells start lists span by recs s s' old new commands.Abort (replies.Refused refusals.NoSavepoint) ids a o l f k = same_follows old new l
-by_reply tells start lists span by recs s s' old new commands.Abort (replies.Refused refusals.DepthLimit) ids a o l f k = same_follows old new l
-by_reply tells start lists span by recs s s' old new commands.Abort (replies.Refused refusals.CommitPending) ids a o l f k = same_follows old new l
-by_reply tells start lists span by recs s s' old new commands.Abort (replies.Refused refusals.AbortPending) ids a o l f k = same_follows old new l
-by_reply tells start lists span by recs s s' old new commands.Abort (replies.Refused refusals.UndoPending) ids a o l f k = same_follows old new l
-by_reply tells start lists span by recs s s' old new commands.Abort (replies.Refused refusals.NameTaken) ids a o l f k = same_follows old new l
-by_reply tells start lists span by recs s s' old new commands.Abort (replies.Refused refusals.SnapLimit) ids a o l f k = same_follows old new l
-by_reply tells start lists span by recs s s' old new commands.Abort (replies.Refused refusals.NoSnapshot) ids a o l f k = same_follows old new l
-by_reply tells start lists span by recs s s' old new commands.Abort (replies.Refused refusals.Memory) ids a o l f k = absurd (false≢true a)
-by_reply tells start lists span by recs s s' old new commands.Abort (replies.Refused refusals.Full) ids a o l f k = absurd (false≢true a)
-by_reply tells start lists span by recs s s' old new commands.Abort (replies.Refused refusals.LogFault) ids a o l f k = absurd (false≢true a.0)
-by_reply tells start lists span by recs s s' old new commands.Abort (replies.Refused (refusals.LogDown down)) ids a o l f k = absurd (false≢true a.0)
-by_reply tells start lists span by recs s s' old new commands.Abort (replies.Seen visible) ids a o l f k = absurd (false≢true o)
-by_reply tells start lists span by recs s s' old new commands.Abort reply ids a o l f k = absurd a
-by_reply tells start lists span by recs s s' old new commands.Undo replies.Done ids a o l f k = sym (ap pending_in l)
-by_reply tells start lists span by recs s s' old new commands.Undo (replies.Refused (refusals.DiskFault lock)) ids a o l f k = sym (ap pending_in l)
-by_reply tells start lists span by recs s s' old new commands.Undo (replies.Refused refusals.AlreadyOpen) ids a o l f k = same_follows old new l
-by_reply tells start lists span by recs s s' old new commands.Undo (replies.Refused refusals.NoTransaction) ids a o l f k = same_follows old new l
-by_reply tells start lists span by recs s s' old new commands.Undo (replies.Refused refusals.NoSavepoint) ids a o l f k = same_follows old new l
-by_reply tells start lists span by recs s s' old new commands.Undo (replies.Refused refusals.DepthLimit) ids a o l f k = same_follows old new l
-by_reply tells start lists span by recs s s' old new commands.Undo (replies.Refused refusals.CommitPending) ids a o l f k = same_follows old new l
-by_reply tells start lists span by recs s s' old new commands.Undo (replies.Refused refusals.AbortPending) ids a o l f k = same_follows old new l
-by_reply tells start lists span by recs s s' old new commands.Undo (replies.Refused refusals.UndoPending) ids a o l f k = same_follows old new l
-by_reply tells start lists span by recs s s' old new commands.Undo (replies.Refused refusals.NameTaken) ids a o l f k = same_follows old new l
-by_reply tells start lists span by recs s s' old new commands.Undo (replies.Refused refusals.SnapLimit) ids a o l f k = same_follows old new l
-by_reply tells start lists span by recs s s' old new commands.Undo (replies.Refused refusals.NoSnapshot) ids a o l f k = same_follows old new l
-by_reply tells start lists span by recs s s' old new commands.Undo (replies.Refused refusals.Memory) ids a o l f k = absurd (false≢true a)
-by_reply tells start lists span by recs s s' old new commands.Undo (replies.Refused refusals.Full) ids a o l f k = absurd (false≢true a)
-by_reply tells start lists span by recs s s' old new commands.Undo (replies.Refused refusals.LogFault) ids a o l f k = absurd (false≢true a.0)
-by_reply tells start lists span by recs s s' old new commands.Undo (replies.Refused (refusals.LogDown down)) ids a o l f k = absurd (false≢true a.0)
-by_reply tells start lists span by recs s s' old new commands.Undo (replies.Seen visible) ids a o l f k = absurd (false≢true o)
-by_reply tells start lists span by recs s s' old new commands.Undo reply ids a o l f k = absurd a
-by_reply tells start lists span by recs s s' old new command (replies.Refused refusal) ids a o l f k = same_follows old new (either_left (is_by_standing refusal) command refusal old new (λ j. j) l)
-by_reply tells start lists span by recs s s' old new command reply ids a o l f k = same_follows old new l
+pub by_reply : (tells : Bool) (start : Start) (begun lists : List (List Entry)) (span : Span) (by : By) (recs : List Rec) (s s' : Stance) (old new : Stage) (command : Command) (reply : Reply) (ids : List ℕ)
+    → MayAnswerIn tells start begun lists span by s old command reply → IsToAsker command reply → LeavesStage command reply old new → after s by.command command reply ids ≡ s' → IsKnownOf recs s' new → pending_after recs s (pending_in old) command reply ≡ pending_in new
+by_reply tells start begun lists span by recs s s' old new commands.Commit replies.Done ids a o l f k = sym (ap pending_in l)
+by_reply tells start begun lists span by recs s s' old new commands.Commit (replies.Refused refusals.LogFault) ids a o l f k = fault_follows old new l
+by_reply tells start begun lists span by recs s s' old new commands.Commit (replies.Refused (refusals.DiskFault (locks.Xact bank))) ids a o l f k = sym (ap pending_in l.2)
+by_reply tells start begun lists span by recs s s' old new commands.Commit (replies.Refused (refusals.LogDown down)) ids a o l f k = down_follows recs s old new a.0 (subst (λ z. IsKnownOf recs z new) (sym f) k) l
+by_reply tells start begun lists span by recs s s' old new commands.Commit (replies.Refused refusal) ids a o l f k = same_follows old new l
+by_reply tells start begun lists span by recs s s' old new commands.Commit (replies.Seen visible) ids a o l f k = absurd (false≢true o)
+by_reply tells start begun lists span by recs s s' old new commands.Commit reply ids a o l f k = absurd a
+by_reply tells start begun lists span by recs s s' old new commands.Abort replies.Done ids a o l f k = sym (ap pending_in l)
+by_reply tells start begun lists span by recs s s' old new commands.Abort (replies.Refused (refusals.DiskFault lock)) ids a o l f k = sym (ap pending_in l)
+by_reply tells start begun lists span by recs s s' old new commands.Abort (replies.Refused refusals.AlreadyOpen) ids a o l f k = same_follows old new l
+by_reply tells start begun lists span by recs s s' old new commands.Abort (replies.Refused refusals.NoTransaction) ids a o l f k = same_follows old new l
+by_reply tells start begun lists span by recs s s' old new commands.Abort (replies.Refused refusals.NoSavepoint) ids a o l f k = same_follows old new l
+by_reply tells start begun lists span by recs s s' old new commands.Abort (replies.Refused refusals.DepthLimit) ids a o l f k = same_follows old new l
+by_reply tells start begun lists span by recs s s' old new commands.Abort (replies.Refused refusals.CommitPending) ids a o l f k = same_follows old new l
+by_reply tells start begun lists span by recs s s' old new commands.Abort (replies.Refused refusals.AbortPending) ids a o l f k = same_follows old new l
+by_reply tells start begun lists span by recs s s' old new commands.Abort (replies.Refused refusals.UndoPending) ids a o l f k = same_follows old new l
+by_reply tells start begun lists span by recs s s' old new commands.Abort (replies.Refused refusals.NameTaken) ids a o l f k = same_follows old new l
+by_reply tells start begun lists span by recs s s' old new commands.Abort (replies.Refused refusals.SnapLimit) ids a o l f k = same_follows old new l
+by_reply tells start begun lists span by recs s s' old new commands.Abort (replies.Refused refusals.NoSnapshot) ids a o l f k = same_follows old new l
+by_reply tells start begun lists span by recs s s' old new commands.Abort (replies.Refused refusals.Memory) ids a o l f k = absurd (false≢true a)
+by_reply tells start begun lists span by recs s s' old new commands.Abort (replies.Refused refusals.Full) ids a o l f k = absurd (false≢true a)
+by_reply tells start begun lists span by recs s s' old new commands.Abort (replies.Refused refusals.LogFault) ids a o l f k = absurd (false≢true a.0)
+by_reply tells start begun lists span by recs s s' old new commands.Abort (replies.Refused (refusals.LogDown down)) ids a o l f k = absurd (false≢true a.0)
+by_reply tells start begun lists span by recs s s' old new commands.Abort (replies.Seen visible) ids a o l f k = absurd (false≢true o)
+by_reply tells start begun lists span by recs s s' old new commands.Abort reply ids a o l f k = absurd a
+by_reply tells start begun lists span by recs s s' old new commands.Undo replies.Done ids a o l f k = sym (ap pending_in l)
+by_reply tells start begun lists span by recs s s' old new commands.Undo (replies.Refused (refusals.DiskFault lock)) ids a o l f k = sym (ap pending_in l)
+by_reply tells start begun lists span by recs s s' old new commands.Undo (replies.Refused refusals.AlreadyOpen) ids a o l f k = same_follows old new l
+by_reply tells start begun lists span by recs s s' old new commands.Undo (replies.Refused refusals.NoTransaction) ids a o l f k = same_follows old new l
+by_reply tells start begun lists span by recs s s' old new commands.Undo (replies.Refused refusals.NoSavepoint) ids a o l f k = same_follows old new l
+by_reply tells start begun lists span by recs s s' old new commands.Undo (replies.Refused refusals.DepthLimit) ids a o l f k = same_follows old new l
+by_reply tells start begun lists span by recs s s' old new commands.Undo (replies.Refused refusals.CommitPending) ids a o l f k = same_follows old new l
+by_reply tells start begun lists span by recs s s' old new commands.Undo (replies.Refused refusals.AbortPending) ids a o l f k = same_follows old new l
+by_reply tells start begun lists span by recs s s' old new commands.Undo (replies.Refused refusals.UndoPending) ids a o l f k = same_follows old new l
+by_reply tells start begun lists span by recs s s' old new commands.Undo (replies.Refused refusals.NameTaken) ids a o l f k = same_follows old new l
+by_reply tells start begun lists span by recs s s' old new commands.Undo (replies.Refused refusals.SnapLimit) ids a o l f k = same_follows old new l
+by_reply tells start begun lists span by recs s s' old new commands.Undo (replies.Refused refusals.NoSnapshot) ids a o l f k = same_follows old new l
+by_reply tells start begun lists span by recs s s' old new commands.Undo (replies.Refused refusals.Memory) ids a o l f k = absurd (false≢true a)
+by_reply tells start begun lists span by recs s s' old new commands.Undo (replies.Refused refusals.Full) ids a o l f k = absurd (false≢true a)
+by_reply tells start begun lists span by recs s s' old new commands.Undo (replies.Refused refusals.LogFault) ids a o l f k = absurd (false≢true a.0)
+by_reply tells start begun lists span by recs s s' old new commands.Undo (replies.Refused (refusals.LogDown down)) ids a o l f k = absurd (false≢true a.0)
+by_reply tells start begun lists span by recs s s' old new commands.Undo (replies.Seen visible) ids a o l f k = absurd (false≢true o)
+by_reply tells start begun lists span by recs s s' old new commands.Undo reply ids a o l f k = absurd a
+by_reply tells start begun lists span by recs s s' old new command (replies.Refused refusal) ids a o l f k = same_follows old new (either_left (is_by_standing refusal) command refusal old new (λ j. j) l)
+by_reply tells start begun lists span by recs s s' old new command reply ids a o l f k = same_follows old new l

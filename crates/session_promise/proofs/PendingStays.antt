@@ -28,14 +28,14 @@ use Rattle.session_promise.proofs.Growing.{all_lines_of, all_places}
 use Rattle.session_promise.proofs.LawfulSteps.{filter_twice}
 use Rattle.session_promise.proofs.PendingGrowth.{AreSettled, IsNotDown, pending_grows}
 use Rattle.session_promise.proofs.Settling.{settled_of}
-use Rattle.session_promise.proofs.Standing.{same_is}
+use Rattle.session_promise.proofs.Sides.{same_is}
 use Rattle.session_promise.proofs.Telling.{lines_of_both, lines_told}
 
-place_behind : {X : Type 0} (xs ys : List X) (i : ℕ) (x : X) → slice_get ys i ≡ Some x → slice_get (xs ++ ys) (length xs + i) ≡ Some x
+pub place_behind : {X : Type 0} (xs ys : List X) (i : ℕ) (x : X) → slice_get ys i ≡ Some x → slice_get (xs ++ ys) (length xs + i) ≡ Some x
 place_behind {X} [] ys i x e = let n : i ≡ 0 + i = omega arith in subst (λ k. slice_get ys k ≡ Some x) n e
 place_behind {X} (y ∷ xs) ys i x e = let n : suc (length xs + i) ≡ length (y ∷ xs) + i = omega arith in subst (λ k. slice_get (y ∷ (xs ++ ys)) k ≡ Some x) n (place_behind xs ys i x e)
 
-front_of : {X : Type 0} (P : X → Type 0) (xs ys : List X) → AllByRecursion P (xs ++ ys) → AllByRecursion P xs
+pub front_of : {X : Type 0} (P : X → Type 0) (xs ys : List X) → AllByRecursion P (xs ++ ys) → AllByRecursion P xs
 front_of P [] ys a = tt
 front_of P (x ∷ xs) ys a = (a.0, front_of P xs ys a.1)
 

@@ -13,7 +13,10 @@ use Rattle.tx_core.specs.declared.entry.Entry.{Entry}
 use Rattle.tx_core.specs.declared.entry.Start.{Start}
 use Rattle.tx_core.specs.EngineInvariant.{EngineInvariant}
 use Rattle.tx_core.specs.Entries.{events_in, history, session_of}
-use Rattle.tx_core.specs.Locks.{proc_lock}
+use Rattle.tx_core.specs.Locks.{multi_lock, proc_lock}
+use Rattle.tx_core.specs.MultiEntries.{multi_history, multis_in}
+use Rattle.tx_core.proofs.Rising.{multis_grow}
+use Rattle.tx_model.specs.Replies.{RoundSpan}
 use Rattle.tx_core.proofs.Opening.{opens}
 use Rattle.tx_core.proofs.Lasting.{history_grows}
 use Rattle.engine_parts.specs.declared.session.Session.{Session}
@@ -22,7 +25,7 @@ use Rattle.engine_parts.specs.Sessions.{by_at}
 use Rattle.session_promise.specs.Promise.{Answered, Promise}
 use Rattle.session_promise.specs.Rounds.{ArePut, RoundPart, lines_of_parts, sessions_of}
 use Rattle.session_promise.specs.SoFar.{AnsweredLines, IsSoFar, PromiseThroughRound, SoFarGoesOn, TookPart, SoFarBegins, SoFarEnds, WentRound, round_of}
-use Rattle.session_promise.specs.Told.{Follow, Told, ToldRound, all_lines, between, lines_by, told_by, told_in, told_of}
+use Rattle.session_promise.specs.Told.{Follow, IsNoLater, Place, Told, ToldRound, all_lines, between, in_events, in_multis, lines_by, place_of, told_by, told_in, told_of}
 use Rattle.session_promise.specs.Closing.{MayCallIn}
 use Rattle.session_promise.proofs.Beginning.{promise_begins}
 use Rattle.session_promise.proofs.GoingOn.{promise_goes_on}
@@ -32,17 +35,30 @@ use Rattle.session_promise.proofs.Staying.{promise_stays}
 grown_length : (lists more : List (List Entry)) → Grows lists more → length (history lists) ≤ length (history more)
 grown_length lists more g = let b = history_grows lists more g in let q : length (history lists) + length b.0 ≡ length (history more) = sym (length-append (history lists) b.0) ∙ ap length b.1 in omega (arith, q)
 
+-- a place comes no earlier in longer lists
+later_place : (lists more : List (List Entry)) → Grows lists more → IsNoLater (place_of lists) (place_of more)
+later_place lists more g =
+    let b = multis_grow lists more g in
+    let q : length (multi_history lists) + length b.0 ≡ length (multi_history more) = sym (length-append (multi_history lists) b.0) ∙ ap length b.1 in
+    record { events = grown_length lists more g; multis = omega (arith, q) }
+
+no_later : (a b c : Place) → IsNoLater a b → IsNoLater b c → IsNoLater a c
+no_later a b c x y = let u = x.events in let v = y.events in let m = x.multis in let n = y.multis in record { events = omega (arith, u, v); multis = omega (arith, m, n) }
+
+place_same : (a b : Place) → a ≡ b → IsNoLater a b
+place_same a b q = let e : a.events ≡ b.events = ap (λ (z : Place). z.events) q in let m : a.multis ≡ b.multis = ap (λ (z : Place). z.multis) q in record { events = omega (arith, e); multis = omega (arith, m) }
+
 -- through the commands of a round
-record Through (tells : Bool) (start : Start) (w : Knowledge) (n : ℕ) (past : List Told) (from : ℕ) (lines : List Line) (s : Session) : Type 0 where
-  last : ℕ
-  within : last ≤ length (history w.seen)
+record Through (tells : Bool) (start : Start) (w : Knowledge) (n : ℕ) (past : List Told) (from : Place) (lines : List Line) (s : Session) : Type 0 where
+  last : Place
+  within : IsNoLater last (place_of w.seen)
   promise : Promise tells start w.seen n (past ++ told_in (between from last) lines) s
 
-through : (tells : Bool) (start : Start) (n : ℕ) (past : List Told) (from to : ℕ) (done lines : List Line) (v w : Knowledge) (s s' : Session) → from ≤ length (history v.seen) → to ≤ length (history v.seen) → AnsweredLines tells start v w n s s' lines → Promise tells start v.seen n (past ++ told_in (between from to) done) s
+through : (tells : Bool) (start : Start) (n : ℕ) (past : List Told) (from to : Place) (done lines : List Line) (v w : Knowledge) (s s' : Session) → IsNoLater from (place_of v.seen) → IsNoLater to (place_of v.seen) → AnsweredLines tells start v w n s s' lines → Promise tells start v.seen n (past ++ told_in (between from to) done) s
     → Through tells start w n past from (done ++ lines) s'
 through tells start n past from to done [] v w s s' low within ran p = record {
   last = to;
-  within = subst (λ (ls : List (List Entry)). to ≤ length (history ls)) (sym ran.0) within;
+  within = subst (λ (ls : List (List Entry)). IsNoLater to (place_of ls)) (sym ran.0) within;
   promise = subst (λ (x : (List (List Entry) × Session) × List Line). Promise tells start x.0.0 n (past ++ told_in (between from to) x.1) x.0.1) (λ j. ((sym ran.0 j, sym ran.1 j), sym (append-nil done) j)) p;
 }
 through tells start n past from to done (l ∷ lines) v w s s' low within ran p =
@@ -52,36 +68,36 @@ through tells start n past from to done (l ∷ lines) v w s s' low within ran p 
     let line : Line = record { by = by_at n (s.levels.commands + 1); command = l.command; reply = l.reply } in
     let same : line ≡ l = λ j. record { by = sym ran.2 j; command = l.command; reply = l.reply } in
     let next = promise_goes_on tells start v u n past from to done l.command l.reply s t a low p in
-    let longer = grown_length v.seen u.seen a.acted.grows in
-    let r = through tells start n past from (length (history u.seen)) (done ++ l ∷ []) lines u w t s' (omega (arith, low, longer)) (omega arith) ran.4
-    (subst (λ (x : Line). Promise tells start u.seen n (past ++ told_in (between from (length (history u.seen))) (done ++ x ∷ [])) t) same next) in
+    let longer = later_place v.seen u.seen a.acted.grows in
+    let r = through tells start n past from (place_of u.seen) (done ++ l ∷ []) lines u w t s' (no_later from (place_of v.seen) (place_of u.seen) low longer) (place_same (place_of u.seen) (place_of u.seen) refl) ran.4
+    (subst (λ (x : Line). Promise tells start u.seen n (past ++ told_in (between from (place_of u.seen)) (done ++ x ∷ [])) t) same next) in
     subst (λ ls. Through tells start w n past from ls s') (append_assoc done (l ∷ []) lines) r
 
 pub promise_through : PromiseThroughRound
 promise_through tells start before after n past old new lines took kept p =
-    let from : ℕ = length (history before) in
+    let from : Place = place_of before in
     let first : Promise tells start took.first.seen n (past ++ told_in (between from from) []) old = subst (λ (x : List (List Entry) × List Told). Promise tells start x.0 n x.1 old) (λ j. (sym took.told j, sym (append-nil past) j)) p in
-    let here : from ≡ length (history took.first.seen) = ap (λ (ls : List (List Entry)). length (history ls)) (sym took.told) in
-    let r = through tells start n past from from [] lines took.first took.last old new (omega (arith, here)) (omega (arith, here)) took.ran first in
-    let low = r.within in
-    let longer = grown_length took.last.seen after took.known.grows in
-    promise_stays tells start took.last.seen after n past from r.last (length (history after)) lines new kept took.known (omega (arith, low, longer)) (omega arith) r.promise
+    let here : from ≡ place_of took.first.seen = ap place_of (sym took.told) in
+    let r = through tells start n past from from [] lines took.first took.last old new (place_same from (place_of took.first.seen) here) (place_same from (place_of took.first.seen) here) took.ran first in
+    promise_stays tells start took.last.seen after n past from r.last (place_of after) lines new kept took.known
+    (no_later r.last (place_of took.last.seen) (place_of after) r.within (later_place took.last.seen after took.known.grows)) (place_same (place_of after) (place_of after) refl) r.promise
 
 -- a session that took no part
 pub through_idle : (tells : Bool) (start : Start) (before after : List (List Entry)) (n : ℕ) (past : List Told) (s : Session) → EngineInvariant start after → Knows session_of n before after → Promise tells start before n past s → Promise tells start after n past s
 through_idle tells start before after n past s kept knows p =
-    let none : past ++ told_in (between 0 0) [] ≡ past = append-nil past in
+    let zero_place : Place = record { events = 0; multis = 0 } in
+    let none : past ++ told_in (between zero_place zero_place) [] ≡ past = append-nil past in
     subst (λ (x : List Told). Promise tells start after n x s) none
-    (promise_stays tells start before after n past 0 0 0 [] s kept knows (omega arith) (omega arith) (subst (λ (x : List Told). Promise tells start before n x s) (sym none) p))
+    (promise_stays tells start before after n past zero_place zero_place zero_place [] s kept knows (record { events = omega arith; multis = omega arith }) (record { events = omega arith; multis = omega arith }) (subst (λ (x : List Told). Promise tells start before n x s) (sym none) p))
 
 -- ---- rounds
 
 told_push : (n : ℕ) (rounds : List ToldRound) (r : ToldRound) → told_by n (rounds ++ r ∷ []) ≡ told_by n rounds ++ told_in r.span (lines_by n r.lines)
 told_push n rounds r = flat_map-append (told_of n) rounds (r ∷ []) ∙ ap (λ (x : List Told). told_by n rounds ++ x) (append-nil (told_of n r))
 
-follow_push : (from : ℕ) (rounds : List ToldRound) (r : ToldRound) → Follow from rounds r.span.from → r.span.from ≤ r.span.to → Follow from (rounds ++ r ∷ []) r.span.to
-follow_push from [] r f l = (sym f, omega (arith, f, l), refl)
-follow_push from (x ∷ rounds) r f l = (f.0, f.1, follow_push x.span.to rounds r f.2 l)
+follow_push : (span : ToldRound → RoundSpan) (from : ℕ) (rounds : List ToldRound) (r : ToldRound) → Follow span from rounds (span r).from → (span r).from ≤ (span r).to → Follow span from (rounds ++ r ∷ []) (span r).to
+follow_push span from [] r f l = (sym f, omega (arith, f, l), refl)
+follow_push span from (x ∷ rounds) r f l = (f.0, f.1, follow_push span (span x).to rounds r f.2 l)
 
 -- the part of a session, or that it has none
 record PartOrNone (parts : List RoundPart) (n : ℕ) : Type 0 where
@@ -140,7 +156,8 @@ module _ (tells : Bool) (start : Start) (before after : List (List Entry)) (old 
   so_far_then = record {
     count = went.count ∙ so_far.count;
     each = each_then;
-    places = follow_push 0 rounds round so_far.places (grown_length before after went.grows);
+    places = follow_push in_events 0 rounds round so_far.places (later_place before after went.grows).events;
+    multi_places = follow_push in_multis 0 rounds round so_far.multi_places (later_place before after went.grows).multis;
     lines = subst (AllByRecursion (λ (l : Line). l.by.session < start.sessions)) (sym (flat_map-append (λ (r : ToldRound). r.lines) rounds (round ∷ []) ∙ ap (λ ls. all_lines rounds ++ ls) (append-nil (lines_of_parts parts))))
         (both_all (λ (l : Line). l.by.session < start.sessions) (all_lines rounds) (lines_of_parts parts) so_far.lines lines_known);
   }
@@ -154,8 +171,9 @@ so_far_begins tells start lists sessions empty count new = record {
   count = count;
   each = λ n s at_n.
       let fresh = new n s at_n in
-      promise_begins tells start lists n s (record { kept = opens start lists empty; empty = λ place. ap (own session_of n) (empty place); fresh = fresh.0; stage = fresh.1 });
+      promise_begins tells start lists n s (record { kept = opens start lists empty; empty = λ place. ap (own session_of n) (empty place); fresh = fresh.0; stage = fresh.1; making = fresh.2 });
   places = sym (ap (λ (es : List Entry). length (events_in es)) (empty proc_lock));
+  multi_places = sym (ap (λ (es : List Entry). length (multis_in es)) (empty multi_lock));
   lines = tt;
 }
 
@@ -165,6 +183,7 @@ so_far_ends tells start lists sessions rounds so_far kept calls = record {
   kept = kept;
   lines = so_far.lines;
   places = so_far.places;
+  multi_places = so_far.multi_places;
   each = λ n low. ended n low (there sessions n (let c = so_far.count in omega (arith, c, low)));
 }
   where

@@ -4,10 +4,9 @@ use Rattle.std.proofs.lemmas.List.{map-append}
 use Rattle.std.proofs.lemmas.List.Elements.{filter-append}
 use Rattle.tx_model.specs.declared.report.Line.{Line}
 use Rattle.tx_model.specs.Lines.{is_line_of}
-use Rattle.tx_model.specs.Replies.{RoundSpan}
-use Rattle.session_promise.specs.Told.{Told, ToldRound, all_lines, lines_by, lines_of, told_by, told_in, told_of}
+use Rattle.session_promise.specs.Told.{Span, Told, ToldRound, all_lines, lines_by, lines_of, told_by, told_in, told_of}
 
-pub lines_in_round : (span : RoundSpan) (lines : List Line) → lines_of (told_in span lines) ≡ lines
+pub lines_in_round : (span : Span) (lines : List Line) → lines_of (told_in span lines) ≡ lines
 lines_in_round span [] = refl
 lines_in_round span (l ∷ lines) = ap (λ ls. l ∷ ls) (lines_in_round span lines)
 

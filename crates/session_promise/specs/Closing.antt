@@ -1,7 +1,7 @@
 -- What the promises of all sessions make of a life that is over.
 use Rattle.engine_parts.specs.Sessions.{MayCall}
 use Rattle.engine_parts.specs.Holds.{Knowledge}
-use Rattle.std.specs.Prelude.{◌≡◌, ◌+◌, ℕ, ◌^◌, ◌<◌, Bool, IsTrue, List, [], ◌∷◌, ◌++◌, length}
+use Rattle.std.specs.Prelude.{◌≡◌, ◌+◌, ℕ, ◌^◌, ◌<◌, Bool, List, [], ◌∷◌, ◌++◌, length}
 use Rattle.std.specs.List.{AllByRecursion, count_by, filter}
 use Rattle.notes.specs.Lists.{at}
 use Rattle.tx_events.specs.declared.record.Rec.TheVariants as records
@@ -59,10 +59,6 @@ LinesBoundMultis =
     (tells : Bool) (start : Start) (lists : List (List Entry)) (rounds : List ToldRound)
     → IsOver tells start lists rounds → AreFewMultiLines rounds → AreFewMultis lists
 
--- what the page volumes tell they told at the life's begin
-abbrev pub ToldAtBegin : Bool → Start → Type 0
-ToldAtBegin tells start = IsTrue tells → IsTrue start.told
-
 -- the life began with the checkpoint of this number, which a new log has as its first record
 pub record BeginsAt (number : ℕ) (start : Start) : Type 0 where
   pub from : start.from ≡ number + 1
@@ -92,8 +88,8 @@ PromisesMakeSteps =
 abbrev pub PromisesMakeMultis : Type 0
 PromisesMakeMultis =
     (tells : Bool) (start : Start) (lists : List (List Entry)) (rounds : List ToldRound) (r : LifeReport)
-    → BeginsAt r.life.from start → ToldAtBegin tells start → IsOver tells start lists rounds → IsReportOf start lists rounds r
-    → AreLawfulMultis (facts_of tells start.banks r.life r.steps) r.steps
+    → BeginsAt r.life.from start → IsOver tells start lists rounds → AreFewMultiLines rounds
+    → IsReportOf start lists rounds r → AreLawfulMultis (facts_of tells start.banks r.life r.steps) r.steps
 
 -- The log is that of the ends, of the multixacts and of the checkpoints.
 abbrev pub PromisesMakeLog : Type 0
@@ -110,8 +106,7 @@ abbrev pub PromisesMakeLife : Type 0
 PromisesMakeLife =
     (tells : Bool) (start : Start) (lists : List (List Entry)) (rounds : List ToldRound)
     (asked : List Asked) (r : LifeReport)
-    → BeginsAt r.life.from start → ToldAtBegin tells start → IsOver tells start lists rounds → AreFewLevels rounds
-    → AreFewMultiLines rounds → AreSteps 1 asked r.steps → AreDumpsTold start lists rounds r.steps
+    → BeginsAt r.life.from start → IsOver tells start lists rounds → AreFewLevels rounds → AreFewMultiLines rounds → AreSteps 1 asked r.steps → AreDumpsTold start lists rounds r.steps
     → AreCheckpointsTold start lists rounds r.steps
     → IsReportOf start lists rounds r → r.life.from + length r.life.recs < 2 ^ 64 → r.life.end < 2 ^ 64
     → IsLawfulLife tells start.banks asked r

@@ -1,4 +1,5 @@
 pub mod Told
+pub mod MultiGrowth
 pub mod Promise
 pub mod Rounds
 pub mod Dumps

@@ -1,11 +1,12 @@
 -- What a session promises of its own lines, whatever other sessions do between its critical sections.
-use Rattle.std.specs.Prelude.{◌≡◌, ℕ, ◌+◌, ◌<◌, ◌≤◌, Bool, true, List, [], ◌∷◌, ◌++◌, Contains, IsTrue, None, Some, length, slice_get}
-use Rattle.std.specs.List.{count_by}
+use Rattle.std.specs.Prelude.{◌≡◌, ℕ, ◌+◌, ◌<◌, ◌≤◌, Bool, true, List, [], ◌∷◌, ◌++◌, Contains, IsTrue, None, Some, drop, length, slice_get}
+use Rattle.std.specs.List.{AllByRecursion, count_by}
 use Rattle.notes.specs.Lists.{Knows, at, own}
 use Rattle.tx_events.specs.declared.event.By.{By}
 use Rattle.tx_events.specs.declared.event.Event.{Event}
 use Rattle.tx_events.specs.declared.multi.Member.{Member}
 use Rattle.tx_events.specs.declared.multi.MultiEvent.{MultiEvent}
+use Rattle.tx_events.specs.declared.multi.MultiEvent.TheVariants as multis
 use Rattle.tx_events.specs.declared.record.Rec.{Rec}
 use Rattle.tx_events.specs.declared.record.Rec.TheVariants as records
 use Rattle.tx_events.specs.declared.refusal.Refusal.TheVariants as refusals
@@ -34,9 +35,9 @@ use Rattle.tx_core.specs.declared.entry.Kind.TheVariants as kinds
 use Rattle.tx_core.specs.declared.entry.LogCall.{LogCall}
 use Rattle.tx_core.specs.declared.entry.Start.{Start}
 use Rattle.tx_core.specs.EngineInvariant.{EngineInvariant}
-use Rattle.tx_core.specs.Entries.{flushed_to, history, recs_in, records_of, session_of}
+use Rattle.tx_core.specs.Entries.{Stands, history, recs_in, records_of, session_of}
 use Rattle.tx_core.specs.Locks.{log_lock}
-use Rattle.tx_core.specs.MultiEntries.{multi_history}
+use Rattle.tx_core.specs.MultiEntries.{AreFewMultis, multi_history}
 use Rattle.tx_core.specs.OwnMultis.{IsMultiDone, own_multis}
 use Rattle.session_levels.specs.Stands.{IsFresh}
 use Rattle.engine_parts.specs.declared.session.Session.{Session}
@@ -49,6 +50,7 @@ use Rattle.engine_parts.specs.Holds.{Knowledge}
 use Rattle.engine_parts.specs.Sessions.{MayCall, by_at, stance_of}
 use Rattle.engine_parts.specs.Stages.{pending_in}
 use Rattle.engine_parts.specs.Standing.{LeavesStage}
+use Rattle.session_promise.specs.MultiGrowth.{IsLaterThan}
 use Rattle.session_promise.specs.Told.{IsNoLater, Place, Span, Told, between, lines_of, place_of, told_in}
 
 -- the records that the life appended
@@ -82,14 +84,27 @@ abbrev pub IsMadeFor : Start → List (List Entry) → ℕ → Reply → Type 0
 IsMadeFor start lists n (replies.Multi multi offset warn) = (members : List Member) × IsMultiDone start lists n multi offset members
 IsMadeFor start lists n reply = Unit {0}
 
--- the command appended a truncation's record, and that is below the flushed number
+-- the command appended a truncation's record, and that is below the number of a flush
 pub record HasTrimmed (start : Start) (lists : List (List Entry)) (by : By) : Type 0 where
   pub place : ℕ
+  pub to : ℕ
   pub oldest : ℕ
   pub multi : ℕ
   pub offset : ℕ
   pub stands : slice_get (records_of lists) place ≡ Some (by, records.Truncate oldest multi offset)
-  pub flushed : start.from + place < flushed_to start (at lists log_lock)
+  pub past : start.from + place < to
+  pub flushed : Stands lists log_lock (kinds.Flush to)
+
+-- a multixact of the base was raised to by its record
+abbrev pub IsRecordedIn : Start → ℕ → ℕ → Type 0
+IsRecordedIn start multi offset = (members : List Member) × Contains start.recorded (records.Multi multi offset members)
+
+-- so by a command that was answered so, where the pages told, in a life of few multixacts
+abbrev pub IsRaisedAsTold : Bool → Start → List (List Entry) → By → Command → Reply → Type 0
+IsRaisedAsTold tells start lists by (commands.MultiFreeze multi) replies.Done =
+    IsTrue tells → AreFewMultis lists → multi < start.base.multi → (offset : ℕ)
+    → Contains (multi_history lists) (multis.Raise by multi offset) → IsRecordedIn start multi offset
+IsRaisedAsTold tells start lists by command reply = Unit {0}
 
 -- A line of the session n in these lists, given those of its lines before it: its number, its events of both histories,
 -- which stand in its round, that it is refused by how the session stood, or by the members that it names, exactly where
@@ -104,6 +119,8 @@ pub record IsToldWell (tells : Bool) (start : Start) (lists : List (List Entry))
       t.line.reply (multis_of t.line.by (multi_history lists))
   pub place : IsInRound by_of (history lists) t.span.events t.line.by
   pub multi_place : IsInRound multi_by (multi_history lists) t.span.multis t.line.by
+  pub behind : AllByRecursion (λ e. IsLaterThan t.line.by (by_of e)) (drop t.span.events.to (history lists))
+  pub multi_behind : AllByRecursion (λ e. IsLaterThan t.line.by (multi_by e)) (drop t.span.multis.to (multi_history lists))
   pub within : (t.span.events.from ≤ t.span.events.to) × (t.span.events.to ≤ length (history lists))
   pub multi_within : (t.span.multis.from ≤ t.span.multis.to) × (t.span.multis.to ≤ length (multi_history lists))
   pub stage : Stage
@@ -160,6 +177,8 @@ pub record Promise (tells : Bool) (start : Start) (lists : List (List Entry)) (n
   pub making : IsToldMaking (unfinished (multi_history lists) (lines_of told) n) s.making
   pub count : s.levels.commands ≡ length told
   pub ids : length (given_to n (history lists)) + lacking (stance_of s).levels ≤ count_by is_made_level (lines_of told)
+  pub raises : IsTrue tells → AreFewMultis lists → (by : By) (multi offset : ℕ) → by.session ≡ n
+      → Contains (multi_history lists) (multis.Raise by multi offset) → multi < start.base.multi → IsRecordedIn start multi offset
   pub gens : length (made (own_multis n lists)) ≤ count_by is_made_multi (lines_of told)
   pub faults : TellsFaults lists n (lines_of told)
   pub ends : AppendsOwn lists n
@@ -179,6 +198,7 @@ pub record Answered (tells : Bool) (start : Start) (v w : Knowledge) (n : ℕ) (
   pub made : IsMadeFor start w.seen n reply
   pub trimmed : command ≡ commands.Trim → reply ≡ replies.Done
       → HasTrimmed start w.seen (by_at n (s.levels.commands + 1))
+  pub raised : IsRaisedAsTold tells start w.seen (by_at n (s.levels.commands + 1)) command reply
   pub fits : IsToAsker command reply
   pub count : s'.levels.commands ≡ s.levels.commands + 1
 

@@ -1,9 +1,16 @@
 ghost use Rattle.session_promise.specs.Causes.{FaultsAreTold};
 ghost use Rattle.session_promise.specs.CheckpointLaws.{CheckpointGoesOn, CheckpointsBegin, CheckpointsStayThroughDump, CheckpointsStayThroughRound, DumpsStayThroughCheckpoint, SoFarThroughCheckpoint};
 ghost use Rattle.session_promise.specs.Closing.{LevelsBoundIds, LinesBoundMultis, PromisesMakeLife, PromisesMakeLog, PromisesMakeMultis, PromisesMakeSteps};
+ghost use Rattle.session_promise.specs.MultiGrowth.{MultiAnswersStay};
 ghost use Rattle.session_promise.specs.Promise.{PromiseBegins, PromiseGoesOn, PromiseStays};
 ghost use Rattle.session_promise.specs.Rounds.{PartsMakeRound};
 ghost use Rattle.session_promise.specs.SoFar.{PromiseThroughRound, SoFarBegins, SoFarEnds, SoFarGoesOn};
+
+/// What a command on multixacts may be answered it may be answered in longer lists and over wider spans too, where the
+/// events that are more are of other sessions or of later commands.
+pub fn multi_answers_stay()
+    ensures { MultiAnswersStay }
+{}
 
 /// A session that has done nothing promises of no line.
 pub fn promise_begins()

@@ -1,5 +1,5 @@
 -- What a round did makes the promises of all sessions go on.
-use Rattle.std.proofs.Common.{Bool, Contains, IsTrue, List, Some, [], ap, arith, eqb-true, false, get_or, length, map, refl, subst, suc, sym, true, zero, ℕ, ⊎_elim, ◌++◌, ◌<◌, ◌==◌, ◌≡◌, ◌≤◌, ◌∙◌, ◌∷◌}
+use Rattle.std.proofs.Common.{Bool, Contains, IsTrue, List, Some, [], ap, arith, eqb-true, false, get_or, length, map, None, refl, subst, suc, sym, true, zero, ℕ, ⊎_elim, ◌++◌, ◌<◌, ◌==◌, ◌≡◌, ◌≤◌, ◌∙◌, ◌∷◌}
 use Rattle.std.specs.List.{AllByRecursion, flat_map, slice_get}
 use Rattle.std.proofs.lemmas.List.Elements.{recursion_from_All}
 use Rattle.std.proofs.lemmas.Option.{get_or_from_slice_get, slice_get-get_or, slice_get_past, slice_get_within}
@@ -33,16 +33,18 @@ use Rattle.engine_parts.specs.declared.session.Session.{Session}
 use Rattle.engine_parts.specs.declared.session.Stage.TheVariants as stages
 use Rattle.engine_parts.specs.Answers.{Acted}
 use Rattle.engine_parts.specs.Calls.{next_command}
+use Rattle.engine_parts.specs.Makings.{KeepsMaking}
 use Rattle.engine_parts.specs.Sessions.{MayCall, by_at, stance_of}
 use Rattle.engine_host.specs.declared.host.Host.{Host}
 use Rattle.session_levels.specs.Stands.{IsFresh}
-use Rattle.session_promise.specs.Promise.{Answered, IsToAsker}
+use Rattle.session_promise.specs.Promise.{Answered, HasTrimmed, IsMadeFor, IsRaisedAsTold, IsToAsker}
 use Rattle.session_promise.specs.Rounds.{IsPartOf, RoundPart, lines_of_parts, sessions_of}
 use Rattle.session_promise.specs.SoFar as so_far
 use Rattle.session_promise.specs.SoFar.{AnsweredLines, round_of}
 use Rattle.session_promise.proofs.CheckpointsStay.{checkpoints_stay_round}
 use Rattle.session_promise.proofs.Parting.{parts_make_round}
 use Rattle.session_promise.proofs.Rounding.{so_far_begins, so_far_ends, so_far_goes_on}
+use Rattle.session_run.proofs.Telling.{made_told, members_told, raised_told}
 use Rattle.session_run.specs.Rounds.{TookPart, WentRound, is_among}
 use Rattle.session_run.specs.Turns.{RanLine, RanLines}
 use Rattle.session_run.specs.GoesOn.{AreHome, LifeBegins, LifeEnds, LifeGoesOn}
@@ -106,7 +108,14 @@ module _ {H L P : Type 0} {l : logs.Ghosts L} {p : disks.Ghosts P} (hall : Hall 
     may = subst (λ z. MayCall start (view new.pass) z new.session) (r.ran.count.1 ∙ number) r.ran.may;
     acted = subst (λ (b : By). Acted (p.tells) start b (stance_of old.session) (stance_of new.session) old.session.stage line.command line.reply (view old.pass).seen (view new.pass).seen) (λ j. by_at (number j) (next_command old)) r.ran.acted;
     stage = r.ran.stage;
-    fits = (r.has, to_asker line.command line.reply r.verdict);
+    making = subst (λ (z : ℕ). KeepsMaking line.command line.reply (has_more_multis z (view old.pass).seen (view new.pass).seen) old.session.making new.session.making) number r.ran.making;
+    members = members_told p.tells start (view old.pass).seen (view new.pass).seen (by_at old.number (next_command old)) (stance_of old.session) old.session.stage line.command line.reply r.ran.acted.allowed (λ pairs is. (r.made pairs is).0);
+    made = subst (λ (z : ℕ). IsMadeFor start (view new.pass).seen z line.reply) number
+        (made_told p.tells start (view old.pass).seen (view new.pass).seen (by_at old.number (next_command old)) (stance_of old.session) old.session.stage line.command line.reply old.number r.ran.acted.allowed (λ pairs is. (r.made pairs is).1));
+    trimmed = λ is done. subst (λ (b : By). HasTrimmed start (view new.pass).seen b) (λ j. by_at (number j) (next_command old)) (r.trimmed is done);
+    raised = subst (λ (b : By). IsRaisedAsTold p.tells start (view new.pass).seen b line.command line.reply) (λ j. by_at (number j) (next_command old))
+        (raised_told p.tells start (view new.pass).seen (by_at old.number (next_command old)) line.command line.reply r.raised);
+    fits = to_asker line.command line.reply r.verdict;
     count = r.ran.count.0;
   }
 
@@ -208,7 +217,7 @@ module _ {H L P : Type 0} {l : logs.Ghosts L} {p : disks.Ghosts P} where
     so_far = so_far_begins (p.tells) (start_of hall) (view host.pass).seen sessions unseen (sessions_count hall host sessions home) (λ n s e.
         let is : get_or sessions n s ≡ s = get_or_from_slice_get sessions n s s e in
         let k = new n s (slice_get_within sessions n s e) in
-        subst (λ (x : Session). IsFresh x.levels × (x.stage ≡ stages.Clear)) is (k.0, k.1));
+        subst (λ (x : Session). IsFresh x.levels × (x.stage ≡ stages.Clear) × (x.making ≡ None)) is (k.0, k.1, k.3));
   }
 
   pub life_goes_on : (hall : Hall H (Part L P l p) Entry Start) → LifeGoesOn hall

@@ -4,6 +4,7 @@ mod Letting
 mod Returning
 mod Rounding
 mod Joining
+mod Telling
 mod Going
 mod RoundCounts
 pub mod RoundSteps

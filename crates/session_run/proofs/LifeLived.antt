@@ -34,7 +34,7 @@ use Rattle.engine_life.specs.declared.closed.ClosedLife.{ClosedLife}
 use Rattle.engine_life.specs.Lives.{number_of}
 use Rattle.session_promise.specs.Closing as closing
 use Rattle.session_promise.specs.Told.{ToldRound, all_lines, steps_of}
-use Rattle.session_promise.proofs.FewIds.{levels_bound_ids}
+use Rattle.session_promise.proofs.FewIds.{levels_bound_ids, lines_bound_multis}
 use Rattle.session_promise.proofs.LawfulLives.{promises_make_life}
 use Rattle.session_promise.proofs.Between.{lines_of_rounds, step_lines}
 use Rattle.session_run.specs.OneLife.{life_of}
@@ -59,7 +59,7 @@ ids_few tells start lists n its ss rounds taken told same over = levels_bound_id
 -- and few multixacts
 pub multis_few : (tells : Bool) (start : Start) (lists : List (List Entry)) (n : ℕ) (its : List Item) (ss : List Step) (rounds : List ToldRound) → IsTakenPart n its → AreSteps 1 (asked_of its) ss → filter is_round ss ≡ steps_of 1 rounds
     → closing.IsOver tells start lists rounds → AreFewMultis lists
-multis_few tells start lists n its ss rounds taken told same over = commands_bound_multis tells start lists rounds over (few_multis its rounds (asked_rounds its ss rounds told same) taken.takers)
+multis_few tells start lists n its ss rounds taken told same over = lines_bound_multis tells start lists rounds over (few_multis its rounds (asked_rounds its ss rounds told same) taken.takers)
 
 -- the number of its first record
 pub number_told : {L P : Type 0} {l : logs.Ghosts L} (start : Start) (c : Cluster) (b : Beginning) (faults : List ℕ) (closed : ClosedLife L P l) (es : List Entry) → start ≡ life_from c b faults → IsLogOf start closed.log es → number_of closed ≡ b.number
@@ -92,13 +92,14 @@ module _ {H K L P : Type 0} {l : logs.Ghosts L} {p : disks.Ghosts P} (keep : kee
         base = sym base;
         committed = sym (ap (λ t. t.committed) begun);
         events = told;
+        recorded = sym (ap (λ t. t.recorded) begun);
         multis = made;
         recs = stands.recs_are;
         flushed = stands.flushed_is;
         steps = r.rounds_are;
       } in
       let lawful : (crash : Option How) → IsLawfulLife p.tells start.banks (asked_of its) (report_of life r.steps crash)
-      = λ crash. promises_make_life p.tells start (view host.pass).seen r.rounds (asked_of its) (report_of life r.steps crash) begins over (few_levels its r.rounds commands taken.takers) r.told r.dumps r.checkpoints (report crash) numbers end in (
+      = λ crash. promises_make_life p.tells start (view host.pass).seen r.rounds (asked_of its) (report_of life r.steps crash) begins over (few_levels its r.rounds commands taken.takers) (few_multis its r.rounds commands taken.takers) r.told r.dumps r.checkpoints (report crash) numbers end in (
         record {
           lawful = λ crash. subst (λ k. IsLawfulLife p.tells k (asked_of its) (report_of life r.steps crash)) (ap (λ t. t.banks) begun) (lawful crash);
           few = subst (λ (ls : List Line). length ls ≤ 2 ^ 24) (sym (lines_run r.steps r.rounds r.rounds_are)) few;

@@ -4,6 +4,7 @@ use Rattle.disk_core.specs.declared.log_disk.LogDisk as logs
 use Rattle.disk_core.specs.declared.page_disk.PageDisk as disks
 use Rattle.disk_core.specs.declared.media.Volumes.{Volumes}
 use Rattle.disk_core.specs.Media.{HasBanks}
+use Rattle.tx_events.proofs.Membership.{contains_has}
 use Rattle.recoverable.specs.Fit.{KeptLog}
 use Rattle.engine_host.specs.declared.cluster.Cluster.{Cluster}
 use Rattle.engine_host.specs.Opening.{nothing_before}
@@ -20,6 +21,7 @@ module _ {L P : Type 0} {l : logs.Ghosts L} {p : disks.Ghosts P} where
     counted = new.counted;
     begun = new.begun;
     right = λ told. new.right;
+    told = λ rec among. absurd (contains_has [] rec among);
   }
 
   pub next_is_opened : (kept : KeptLog) (banks sessions : ℕ) (volumes : Volumes L P) (life : OpenLife L P l p) → HasBanks banks volumes → (goes : GoesOnLife kept sessions volumes life)
@@ -29,4 +31,5 @@ module _ {L P : Type 0} {l : logs.Ghosts L} {p : disks.Ghosts P} where
     counted = goes.counted;
     begun = goes.begun;
     right = goes.right;
+    told = λ rec among told. told;
   }

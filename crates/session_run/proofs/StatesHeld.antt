@@ -16,9 +16,10 @@ use Rattle.tx_core.specs.EngineInvariant.{EngineInvariant}
 use Rattle.tx_core.specs.Entries.{AreFewIds, flushed_to, recs_in}
 use Rattle.tx_core.specs.Locks.{log_lock, xact_lock}
 use Rattle.recoverable.specs.Fit.{KeptLog, base_at}
-use Rattle.log_bases.specs.LifeBase.{committed_by, committed_in}
+use Rattle.log_bases.specs.LifeBase.{AreBelowNext, committed_by, committed_in}
 use Rattle.recoverable.specs.LogSteps.{log_behind}
-use Rattle.recoverable.specs.Whole.{StatesLeft, new_log}
+use Rattle.recoverable.specs.Laws.{life_base}
+use Rattle.recoverable.specs.Whole.{BeganRight, StatesLeft, new_log}
 use Rattle.recoverable.proofs.FitsXact.{fits_xact}
 use Rattle.recoverable.proofs.LogEnds.{log_ends}
 use Rattle.recoverable.proofs.NewBegins.{new_log_of}
@@ -34,7 +35,7 @@ use Rattle.session_run.specs.Records.{BankHolds, HoldsStates, IsCommittedOnDisk}
 abbrev log_of : Start → List (List Entry) → ℕ → KeptLog
 log_of start lists number = log_behind start lists (new_log start number)
 
-module _ (start : Start) (lists : List (List Entry)) (life : Life) (kept : EngineInvariant start lists) (few : AreFewIds lists) (from : start.from ≡ life.from + 1) (committed : start.committed ≡ life.committed)
+module _ (start : Start) (lists : List (List Entry)) (life : Life) (kept : EngineInvariant start lists) (below : AreBelowNext (life_base start)) (few : AreFewIds lists) (from : start.from ≡ life.from + 1) (committed : start.committed ≡ life.committed)
     (recs : life.recs ≡ records.Checkpoint life.from start.base ∷ recs_in (at lists log_lock)) (flushed : life.flushed ≡ flushed_to start (at lists log_lock)) where
   -- what a record on disk names
   abbrev IsNamed : ℕ → Type 0
@@ -58,7 +59,7 @@ module _ (start : Start) (lists : List (List Entry)) (life : Life) (kept : Engin
   pub holds_states : (bank : ℕ) (c : Pages) → bank < start.banks → StatesLeft start bank (at lists (xact_lock bank)) c → HoldsStates life start.banks bank c
   holds_states bank c inside left =
       let log : KeptLog = log_of start lists life.from in
-      let fits = fits_xact start lists left.shown log bank life.from c kept left.clean (log_ends start lists (new_log start life.from) kept (new_log_of start life.from from)) (inl (omega (arith, from))) few inside left.follows in
+      let fits = fits_xact start lists left.shown log bank life.from c kept left.clean (log_ends start lists (new_log start life.from) kept (new_log_of start life.from from below)) (inl (omega (arith, from))) few inside left.follows in
       record {
         each = λ x on code.
             let y = fits.no_other.place x on code in
@@ -73,9 +74,9 @@ module _ (start : Start) (lists : List (List Entry)) (life : Life) (kept : Engin
 module _ {L P : Type 0} {l : logs.Ghosts L} (p : disks.Ghosts P) where
   -- so each volume of pg_xact behind a life
   pub bank_holds : (start : Start) (lists : List (List Entry)) (c : Cluster) (b : Beginning) (faults : List ℕ) (closed : ClosedLife L P l) (volumes : List P)
-      → start ≡ life_from c b faults → EngineInvariant start lists → AreFewIds lists → IsLogOf start closed.log (at lists log_lock) → HaveFollowed p start lists volumes → ((v : P) → p.images v (p.pages v))
+      → start ≡ life_from c b faults → EngineInvariant start lists → BeganRight start → AreFewIds lists → IsLogOf start closed.log (at lists log_lock) → HaveFollowed p start lists volumes → ((v : P) → p.images v (p.pages v))
       → (bank : ℕ) → bank < c.banks → BankHolds p (life_of c b closed) c.banks bank volumes
-  bank_holds start lists c b faults closed volumes begun kept few stands followed reads bank low =
+  bank_holds start lists c b faults closed volumes begun kept right few stands followed reads bank low =
       let life : Life = life_of c b closed in
       let banks : start.banks ≡ c.banks = ap (λ (t : Start). t.banks) begun in
       let inside : bank < start.banks = omega (arith, low, banks) in
@@ -83,5 +84,5 @@ module _ {L P : Type 0} {l : logs.Ghosts L} (p : disks.Ghosts P) where
       = ap (λ (t : Start). t.logged) begun ∙ ap (λ (k : Counters). records.Checkpoint b.number k ∷ []) (sym (ap (λ (t : Start). t.base) begun)) in
       let v = followed bank inside in
       let each : (d : Pages) → p.images v.0 d → HoldsStates life c.banks bank d = λ d left. subst (λ n. HoldsStates life n bank d) banks
-      (holds_states start lists life kept few (ap (λ (t : Start). t.from) begun) (ap (λ (t : Start). t.committed) begun) (stands.recs_are ∙ ap (λ (t : List Rec). t ++ recs_in (at lists log_lock)) logged) stands.flushed_is bank d inside (v.2 d left)) in
+      (holds_states start lists life kept right.base.multis few (ap (λ (t : Start). t.from) begun) (ap (λ (t : Start). t.committed) begun) (stands.recs_are ∙ ap (λ (t : List Rec). t ++ recs_in (at lists log_lock)) logged) stands.flushed_is bank d inside (v.2 d left)) in
       record { volume = v.0; is = v.1; reads = each (p.pages v.0) (reads v.0); crashed = each }

@@ -22,6 +22,7 @@ use Rattle.session_run.specs.Causes.{HaveCauses}
 use Rattle.session_run.specs.Fits.{FitLife}
 use Rattle.session_run.specs.Parts.{HasLived, with_steps}
 use Rattle.session_run.specs.Records.{BankHolds, LogHolds}
+use Rattle.session_run.specs.Turns.{AreToldBy}
 
 module _ {L P : Type 0} {l : logs.Ghosts L} {p : disks.Ghosts P} where
   -- The life began so over these volumes, at counts of faults that aren't below theirs. Where the volumes tell what they
@@ -31,6 +32,7 @@ module _ {L P : Type 0} {l : logs.Ghosts L} {p : disks.Ghosts P} where
     pub counted : AreCounted l p volumes.log (banks_of volumes) faults
     pub begun : IsBegun c (life_from c b faults) life
     pub right : IsTrue p.tells → BeganRight (life_from c b faults)
+    pub told : AreToldBy p.tells (life_from c b faults)
 
   -- it is one of so many sessions
   pub record MayRunIn (sessions : ℕ) (life : OpenLife L P l p) : Type 0 where

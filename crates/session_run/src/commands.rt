@@ -1,12 +1,14 @@
 //! The commands of a session over the lock table.
 ghost use Rattle.std.specs.Prelude.{◌≡◌, Bool, IsTrue};
 ghost use Rattle.tx_model.specs.declared.reply.Reply.TheVariants as replies;
+ghost use Rattle.hall.specs.Calls.{start_of};
 ghost use Rattle.engine_parts.specs.Answers.{reply_of};
 ghost use Rattle.engine_parts.specs.Calls.{MayRun, Ran, next_command};
 ghost use Rattle.run_law.specs.Turns.{MayAsk};
 ghost use Rattle.life_law.specs.Replies.{is_told_verdict};
 ghost use Rattle.xact_writes.specs.Writes.{reply_to};
 ghost use Rattle.multi_makes.specs.Makes.{given_reply};
+ghost use Rattle.session_run.specs.Turns.{AreToldBy, IsMade, IsRaised, IsTrimmed};
 
 use disk_core::{LogDisk, PageDisk};
 use engine_parts::{Caller, EngineLaw, Passing};
@@ -87,11 +89,13 @@ fn given(answer: Result<MultiGiven, Refusal>) -> Reply
     ensures { result ≡ reply_of given_reply answer }
 {
     match answer {
-        Ok(MultiGiven {
-            multi,
-            offset,
-            warn,
-        }) => Reply::Multi {
+        Ok(
+            MultiGiven {
+                multi,
+                offset,
+                warn,
+            },
+        ) => Reply::Multi {
             multi,
             offset,
             warn,
@@ -122,8 +126,12 @@ pub fn run_command<R: Passing, L: LogDisk, P: PageDisk>(
 ) -> Reply
     requires ask { MayAsk command.now }
     requires may { MayRun hall.now banks caller.old }
+    requires told { AreToldBy P.tells (start_of hall.now) }
     ensures ran { Ran hall.now (next_command caller.old) command.now result caller.old caller.new }
     ensures verdict { (verdict : Bool) → result ≡ replies.Seen verdict → IsTrue (is_told_verdict command.now) }
+    ensures made { IsMade hall.now caller.old caller.new command.now result }
+    ensures trimmed { IsTrimmed hall.now caller.old caller.new command.now result }
+    ensures raised { IsRaised hall.now caller.old caller.new command.now result }
 {
     match command {
         Command::Begin => done(begin(hall, caller)),

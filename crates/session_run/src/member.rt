@@ -6,7 +6,7 @@ ghost use Rattle.engine_parts.specs.Calls.{MayRun};
 ghost use Rattle.script_rounds.specs.Plans.{HasPlaces};
 ghost use Rattle.run_law.specs.Turns as runnable;
 ghost use Rattle.run_law.specs.Turns.{MayAsk};
-ghost use Rattle.session_run.specs.Turns.{Begins, MayGo, RunsNext, RunsRound, commands_of};
+ghost use Rattle.session_run.specs.Turns.{AreToldBy, Begins, MayGo, RunsNext, RunsRound, commands_of};
 
 use crate::commands::run_command;
 use disk_core::{LogDisk, PageDisk};
@@ -42,6 +42,7 @@ fn run_turn<R: Passing, K: LineKeeper, L: LogDisk, P: PageDisk>(
     requires ask { MayAsk command.now }
     requires may { MayRun hall.now banks member.old.caller }
     requires few { commands_of member.old.caller + 1 < 2 ^ 48 }
+    requires told { AreToldBy P.tells (start_of hall.now) }
     ensures { RunsNext K.LineKeeper hall.now banks names.now command.now result member.old member.new }
 {
     let reply = run_command(rt, hall, &mut member.caller, banks, alloc, command);
@@ -64,6 +65,7 @@ fn run_places<R: Passing, K: LineKeeper, L: LogDisk, P: PageDisk>(
     requires begins { Begins K.LineKeeper hall.now banks (length places.now) member.old }
     requires items { All (runnable.MayRun (start_of hall.now).sessions) round.now }
     requires places { HasPlaces member.old.caller.number round.now round.now places.now }
+    requires told { AreToldBy P.tells (start_of hall.now) }
     ensures { RunsRound K.LineKeeper hall.now banks names.now round.now (IsOk result) member.old member.new }
 {
     for place in places {
@@ -89,6 +91,7 @@ pub fn run_member<R: Wait, K: LineKeeper, L: LogDisk, P: PageDisk, G: Gate>(
 )
     requires items { All (runnable.MayRun (start_of hall.now).sessions) round.now }
     requires may { MayGo K.LineKeeper hall.now banks round.now plan.now member.old }
+    requires told { AreToldBy P.tells (start_of hall.now) }
     ensures { RunsRound K.LineKeeper hall.now banks names.now round.now (member.new.lost ≡ false) member.old member.new }
 {
     let places = plan.places[member.caller.number as usize].items();

@@ -7,7 +7,7 @@ ghost use Rattle.run_law.specs.Turns as runnable;
 ghost use Rattle.run_law.specs.Turns.{turns_in};
 ghost use Rattle.script_rounds.specs.Plans.{IsPlanOf};
 ghost use Rattle.session_run.specs.Rounds.{AllRan, AreApart, AreBack, AreParked, AreSent, MayAdd, MayReturn, StayBehind, WentRound, callers_of, is_among, numbers_of, with_members};
-ghost use Rattle.session_run.specs.Turns.{MayGo};
+ghost use Rattle.session_run.specs.Turns.{AreToldBy, MayGo};
 
 use crate::member::{Member, run_member};
 use disk_core::{LogDisk, PageDisk};
@@ -99,6 +99,7 @@ fn run_beside<K: LineKeeper + Send, L: LogDisk + Send + Sync, P: PageDisk + Send
     requires threads { 0 < threads }
     requires items { All (runnable.MayRun (start_of hall.now).sessions) round.now }
     requires may { All (MayGo K.LineKeeper hall.now banks round.now plan.now) members.old }
+    requires told { AreToldBy P.tells (start_of hall.now) }
     ensures { AllRan K.LineKeeper hall.now banks names.now round.now members.old members.new }
 {
     thread::for_each_mut(
@@ -125,6 +126,7 @@ fn run_members<K: LineKeeper + Send, L: LogDisk + Send + Sync, P: PageDisk + Sen
     requires threads { 0 < threads }
     requires items { All (runnable.MayRun (start_of hall.now).sessions) round.now }
     requires may { All (MayGo K.LineKeeper hall.now banks round.now plan.now) members.old.items }
+    requires told { AreToldBy P.tells (start_of hall.now) }
     ensures { AllRan K.LineKeeper hall.now banks names.now round.now members.old.items members.new.items }
 {
     let all = members.as_mut_slice();
@@ -230,6 +232,7 @@ pub fn run_round<K: LineKeeper + Send + Drop, L: LogDisk + Send + Sync, P: PageD
     requires room { MayAdd (length round.now) sessions.old }
     requires items { All (runnable.MayRun (length sessions.old)) round.now }
     requires plan { IsPlanOf round.now round.now plan.now × (length plan.now.places.items ≡ length sessions.old) }
+    requires told { AreToldBy P.tells (start_of hall.now) }
     ensures host { IsHost hall.now host.new }
     ensures cluster { host.new.cluster ≡ host.old.cluster }
     ensures all { HoldsAllBut host.new [] }

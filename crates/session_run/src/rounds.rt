@@ -1,6 +1,7 @@
 //! Runs the rounds of a script over one lock table, and what it asks for between them, and keeps them as they are done.
 ghost use Rattle.std.specs.Prelude.{◌≡◌, ◌+◌, ◌^◌, ◌<◌, ◌≤◌, ◌∷◌, ℕ, List, [], IfOk, OnOk, length, true};
 ghost use Rattle.std.specs.List.{All};
+ghost use Rattle.hall.specs.Calls.{start_of};
 ghost use Rattle.engine_host.specs.Hosts.{HasSeenNothing, HoldsAllBut, IsHost, IsNewSession, IsParked};
 ghost use Rattle.tx_model.specs.Asked as asked;
 ghost use Rattle.tx_model.specs.Asked.{rounds_in};
@@ -9,6 +10,7 @@ ghost use Rattle.run_law.specs.Turns.{MayRun, MayShow, is_command, turns_in};
 ghost use Rattle.script_rounds.specs.Plans.{IsBlank};
 ghost use Rattle.session_run.specs.Rounds.{MayAdd};
 ghost use Rattle.session_run.specs.GoesOn.{AreHome, GoesOn};
+ghost use Rattle.session_run.specs.Turns.{AreToldBy};
 ghost use Rattle.session_run.specs.Parts.{AnswersOn, HasRun, RunsOn};
 
 use crate::laws::{life_begins, life_goes_on};
@@ -48,6 +50,7 @@ fn run_numbered<K: LineKeeper + Send + Drop, L: LogDisk + Send + Sync, P: PageDi
     requires items { All (MayRun (length sessions.old)) round.now }
     requires plan { IsBlank plan.old × (length plan.old.places.items ≡ length sessions.old) }
     requires few { rounds < 2 ^ 32 }
+    requires told { AreToldBy P.tells (start_of hall.now) }
     ensures home { AreHome hall.now host.new sessions.new }
     ensures cluster { host.new.cluster ≡ host.old.cluster }
     ensures count { length sessions.new ≡ length sessions.old }
@@ -88,6 +91,7 @@ fn run_next<K: LineKeeper + Send + Drop, L: LogDisk + Send + Sync, P: PageDisk +
     requires commands { All (λ item. is_command item ≡ true) round.now }
     requires plan { IsBlank plan.old × (length plan.old.places.items ≡ length sessions.old) }
     requires few { rounds < 2 ^ 32 }
+    requires told { AreToldBy P.tells (start_of hall.now) }
     ensures home { AreHome hall.now host.new sessions.new }
     ensures cluster { host.new.cluster ≡ host.old.cluster }
     ensures count { length sessions.new ≡ length sessions.old }
@@ -198,6 +202,7 @@ fn run_each<K: LineKeeper + Send + Drop, L: LogDisk + Send + Sync, P: PageDisk +
     requires unseen { HasSeenNothing host.old }
     requires items { All (MayRun (length sessions.old)) script }
     requires few { length script ≤ 2 ^ 24 }
+    requires told { AreToldBy P.tells (start_of hall.now) }
     ensures home { AreHome hall.now host.new sessions.new }
     ensures cluster { host.new.cluster ≡ host.old.cluster }
     ensures ran { OnOk result (HasRun K.LineKeeper hall.now host.new sessions.new names.now (asked_of script.entry)
@@ -239,6 +244,7 @@ pub fn run_rounds<K: LineKeeper + Send + Drop, L: LogDisk + Send + Sync, P: Page
     requires parked { (n : ℕ) (s : Session) → n < host.old.cluster.sessions → IsNewSession s → IsParked hall.now host.old n s }
     requires items { All (MayRun host.old.cluster.sessions) part }
     requires few { length part ≤ 2 ^ 24 }
+    requires told { AreToldBy P.tells (start_of hall.now) }
     ensures host { IsHost hall.now host.new }
     ensures all { HoldsAllBut host.new [] }
     ensures ran { OnOk result ((sessions : List Session) × HasRun K.LineKeeper hall.now host.new sessions names.now

@@ -124,11 +124,11 @@ fn order_service(alloc: Global) -> Result<String, Fail> {
         let line = format!(in alloc; "r see s {id}\n")?;
         script.push_str(line.as_str())?;
     }
-    script.push_str("r drop s\n")?;
+    script.push_str("r multi 3:keysh 4:sh\nr drop s\n")?;
     Ok(script)
 }
 
-/// Counts how often each of 13 sessions comes with each of its first 26 commands.
+/// Counts how often each of 13 sessions comes with each of its first 27 commands.
 #[derive(Drop)]
 struct Recorder {
     came: Vec<Vec<AtomicU64>>,
@@ -141,7 +141,7 @@ impl Recorder {
         let mut came = Vec::new(alloc);
         for _ in 0..13 {
             let mut commands = Vec::new(alloc);
-            for _ in 0..27 {
+            for _ in 0..28 {
                 commands.push(AtomicU64::new(0))?;
             }
             came.push(commands)?;
@@ -188,7 +188,7 @@ fn gate_sees_every_section(rt: HostRuntime) -> Result<(), Fail> {
     assert!(rt; report.contains("r 1 snap s -> ok xmin 27 xmax 27 xip - sub - overflow no\n"));
     assert_eq!(rt; report.matches(" -> visible\n").count(), 18);
     assert_eq!(rt; report.matches(" -> hidden\n").count(), 6);
-    assert!(rt; report.contains("r 26 drop s -> ok\n"));
+    assert!(rt; report.contains("r 26 multi 3:keysh 4:sh -> ok 1 1\nr 27 drop s -> ok\n"));
     assert!(rt; is_lawful(rt.alloc(), report.as_str())?);
     assert!(rt; !gate.is_wrong.load(Ordering::SeqCst));
     for session in 0..12 {
@@ -199,7 +199,7 @@ fn gate_sees_every_section(rt: HostRuntime) -> Result<(), Fail> {
             assert!(rt; gate.has(session, 5), "{session} undo");
         }
     }
-    for command in 1..27 {
+    for command in 1..28 {
         assert!(rt; gate.has(12, command), "r {command}");
     }
     Ok(())

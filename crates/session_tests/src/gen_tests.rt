@@ -50,24 +50,16 @@ fn run_beside_a_source(
     Ok((status, written, left))
 }
 
-/// A text behind one mark.
-fn front_of<'a>(text: &mut &'a str) -> Result<&'a str, Fail> {
-    let (front, behind) = text.split_once(":").ok_or("a row is cut")?;
-    *text = behind;
-    Ok(front)
-}
-
 #[test]
 fn words_and_what_they_write(rt: HostRuntime) -> Result<(), Fail> {
     for row in ROWS.lines() {
-        let mut rest = row;
-        let _name = front_of(&mut rest)?;
-        let words = front_of(&mut rest)?;
-        let status = front_of(&mut rest)?;
-        let wanted = format!(in rt.alloc(); "{status} {rest}\n 8")?;
+        let (_name, row) = row.split_once(":").ok_or("a row is cut")?;
+        let (words, wanted) = row.split_once(":").ok_or("a row is cut")?;
         let (status, written, left) = run_beside_a_source(&rt, words)?;
-        let found = format!(in rt.alloc(); "{status} {written} {left}")?;
+        let found = format!(in rt.alloc(); "{status}:{written}")?;
+        let wanted = format!(in rt.alloc(); "{wanted}\n")?;
         assert_eq!(rt; found.as_str(), wanted.as_str(), "{row}");
+        assert_eq!(rt; left, 8, "{row}");
     }
     Ok(())
 }

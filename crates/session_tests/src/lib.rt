@@ -22,6 +22,8 @@ mod horizon_tests;
 #[cfg(test)]
 mod lives_tests;
 #[cfg(test)]
+mod multi_tests;
+#[cfg(test)]
 mod round_tests;
 #[cfg(test)]
 mod run_tests;

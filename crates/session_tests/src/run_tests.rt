@@ -138,21 +138,6 @@ a begin
 a frob
 --- 1 100 0
 script 2 command
-=== first_line_that_the_run_lacks_is_refused
-# It stands in the grammar, and the run doesn't have it.
-.banks 2
-
-a begin
-a trim
-.checkpoint
---- 1 100 0
-script 5 command
-=== a_dump_that_the_run_lacks
-# Pages of multixacts aren't shown yet.
-a begin
-.dump offsets 0 0 8
---- 1 100 0
-script 3 command
 === a_failing_read_is_a_read_fault
 a begin
 --- 3 100 1

@@ -80,17 +80,43 @@ pub fn is_lawful(alloc: Global, report: &str) -> Result<bool, Fail> {
     Ok(check_tool(alloc, &mut source, &mut sink) == 0 && sink.held() == b"lawful\n".as_slice())
 }
 
-/// The script of a row, in which `N times LINE` stands for a line so often, behind these lines.
+/// The script of a row behind these lines, with a line `N times LINE` written out.
 fn written_out(alloc: Global, front: &str, script: &str) -> Result<String, Fail> {
     let mut text = String::from_str(alloc, front)?;
-    for line in script.lines() {
-        let (count, line) = line.split_once(" times ").unwrap_or(("1", line));
-        for _ in 0..count.parse::<u32>().ok().ok_or("no number of times")? {
+    for line in script.split_inclusive("\n") {
+        let Some((count, line)) = line.split_once(" times ") else {
             text.push_str(line)?;
-            text.push_str("\n")?;
-        }
+            continue;
+        };
+        let count = count.parse::<usize>().ok().ok_or("no number of times")?;
+        text.push_str(line.repeat(alloc, count)?.as_str())?;
     }
     Ok(text)
+}
+
+/// Whether these lines stand in a text, one behind another.
+fn has_lines(text: &str, lines: &str) -> bool {
+    match text.split_once(lines) {
+        Some((front, _)) => front.ends_with("\n"),
+        None => false,
+    }
+}
+
+/// Whether the report is what the row's texts say, or has it.
+fn holds(report: &str, texts: &str) -> bool {
+    for part in texts.split("--- ") {
+        let Some((kind, text)) = part.split_once("\n") else {
+            return false;
+        };
+        let is_so = match kind {
+            "report" => report == text,
+            _ => has_lines(report, text),
+        };
+        if !is_so {
+            return false;
+        }
+    }
+    true
 }
 
 /// A row's report, with these header lines before its script, is or has what the row says of it, and is lawful to the
@@ -104,16 +130,8 @@ fn check_row(
     let (name, script) = front.split_once("\n").ok_or("a row without a name")?;
     let script = written_out(rt.alloc(), banks, script)?;
     let report = report_past(rt, script.as_str(), RoundThreads::AtMost(4), &OpenGate)?;
-    for part in texts.split("--- ") {
-        let (kind, text) = part.split_once("\n").ok_or("a row without a text")?;
-        let lines = format!(in rt.alloc(); "\n{text}")?;
-        let holds = match kind {
-            "report" => report.as_str() == text,
-            _ => report.contains(lines.as_str()),
-        };
-        assert!(rt; holds, "{name}: {report}");
-    }
-    assert!(rt; is_lawful(rt.alloc(), report.as_str())?, "{name}: {report}");
+    let is_well = holds(report.as_str(), texts) && is_lawful(rt.alloc(), report.as_str())?;
+    assert!(rt; is_well, "{name}: {report}");
     Ok(())
 }
 

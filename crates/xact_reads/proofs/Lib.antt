@@ -9,3 +9,15 @@ pub mod Standing
 pub mod Storing
 pub mod Telling
 pub mod Ascending
+pub mod Following
+pub mod Standings
+pub mod Spanning
+pub mod Judging
+pub mod Gathering
+pub mod Pinning
+pub mod MultiReplying
+pub mod Banking
+pub mod Ending
+pub mod Once
+pub mod Verdicts
+pub mod MultiRunning

@@ -2,3 +2,4 @@ pub mod Ancestors
 pub mod Glances
 pub mod Readings
 pub mod Stores
+pub mod Multis

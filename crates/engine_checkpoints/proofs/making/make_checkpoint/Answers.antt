@@ -1,12 +1,11 @@
-use Rattle.std.proofs.Common.{◌<◌, ◌+◌, ◌*◌, ◌∙◌, ap, arith, length, subst}
+use Rattle.std.proofs.Common.{◌<◌, ◌+◌, ◌*◌, arith, length, subst}
 use Rattle.hall.specs.Calls.{start_of, view}
 use Rattle.tx_core.specs.Locks.{log_lock}
-use Rattle.tx_core.specs.MultiEntries.{multis_in}
 use Rattle.host_sections.specs.HostEntries.{flush_by, next_number}
 use Rattle.engine_checkpoints.specs.Added.{AddsSyncs}
 use Rattle.engine_checkpoints.proofs.Adding.{adds_one}
-use Rattle.engine_checkpoints.proofs.Forgetting.{all_synced, none_waits}
-use Rattle.engine_checkpoints.proofs.Outcomes.{done_told, done_whole, flush_told, flushed_late, multis_late, sync_told, up_late, was_up, write_told}
+use Rattle.engine_checkpoints.proofs.Forgetting.{all_made, all_synced, made_behind, none_waits}
+use Rattle.engine_checkpoints.proofs.Outcomes.{done_told, done_whole, flush_told, flushed_late, sync_told, up_late, was_up, write_told}
 use Rattle.engine_checkpoints.proofs.making.make_checkpoint.Goals as goal
 
 pub write_checkpoint-requires-clause-up : goal.write_checkpoint-requires-clause-up
@@ -52,7 +51,7 @@ write_checkpoint-requires-clause-synced g c =
     let f = adds_one log_lock (flush_by by (next_number start old)) old mid inside c.in-Ok.ensures.adds in
     let late = (view c.sync_all.new.pass).seen in
     let s = subst (λ b. AddsSyncs by 3 (3 + 4 * b) mid late) c.requires.banks c.in-Ok-sync_all.ensures.adds in
-    all_synced start by mid late kept (none_waits start by old mid (next_number start old) f c.requires.none) s
+    all_synced start by mid late kept (none_waits start by old mid (next_number start old) f c.requires.none) (all_made start by old mid (next_number start old) his kept f c.requires.made) s
 
 pub returns-in-Ok-write_checkpoint-clause-went : goal.returns-in-Ok-write_checkpoint-clause-went
 returns-in-Ok-write_checkpoint-clause-went g c =
@@ -245,8 +244,8 @@ returns-in-Err-clause-untouched g c =
     (flush_told start by old his inside (Unit {0}) mid c.in-Err.refusal c.refusal_of-in-Err.result c.flush_records.ensures.kept c.in-Err.ensures.adds c.refusal_of-in-Err.ensures).untouched
 
 -- none of the steps before it touches a multixact
-pub write_checkpoint-requires-clause-quiet : goal.write_checkpoint-requires-clause-quiet
-write_checkpoint-requires-clause-quiet g c =
+pub write_checkpoint-requires-clause-made : goal.write_checkpoint-requires-clause-made
+write_checkpoint-requires-clause-made g c =
     let start = start_of c.args.hall.now in
     let by = c.args.by in
     let his = c.requires.turn.known in
@@ -258,4 +257,4 @@ write_checkpoint-requires-clause-quiet g c =
     let f = adds_one log_lock (flush_by by (next_number start old)) old mid inside c.in-Ok.ensures.adds in
     let late = (view c.sync_all.new.pass).seen in
     let s = subst (λ b. AddsSyncs by 3 (3 + 4 * b) mid late) c.requires.banks c.in-Ok-sync_all.ensures.adds in
-    ap multis_in (multis_late start by old his inside mid kept f late s) ∙ c.requires.quiet
+    made_behind start by mid late his c.sync_all.ensures.kept s (all_made start by old mid (next_number start old) his kept f c.requires.made)

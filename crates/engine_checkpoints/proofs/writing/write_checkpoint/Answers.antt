@@ -7,6 +7,7 @@ use Rattle.life_law.specs.LifeLog.{counters_behind}
 use Rattle.tx_core.specs.declared.entry.Entry.{Entry}
 use Rattle.tx_core.specs.EngineInvariant.{EngineInvariant}
 use Rattle.tx_core.specs.Entries.{history}
+use Rattle.tx_core.specs.MultiEntries.{multi_history}
 use Rattle.tx_core.specs.Laws.{StaysBase}
 use Rattle.tx_core.specs.Locks.{log_lock}
 use Rattle.tx_core.specs.RecordsFollow.{CheckpointOf}
@@ -14,7 +15,7 @@ use Rattle.tx_core.specs.SyncsBeforeForgets.{MayForget}
 use Rattle.wal_records.specs.Spelling.{AreCounters}
 use Rattle.engine_parts.specs.Stand.{EndsInCheckpoint}
 use Rattle.host_sections.specs.HostEntries.{AddsCheckpoint, HaveForms, next_number}
-use Rattle.engine_checkpoints.proofs.Counting.{now_follows, now_lawful, now_stays, read_behind}
+use Rattle.engine_checkpoints.proofs.Counting.{now_follows, now_lawful, now_stays}
 use Rattle.engine_checkpoints.proofs.Forgetting.{may_forget}
 use Rattle.engine_checkpoints.proofs.Wrote.{append_refused, ends, flush_refused, forgot, marked, put_down}
 use Rattle.engine_checkpoints.proofs.writing.write_checkpoint.Goals as goal
@@ -24,7 +25,7 @@ append_checkpoint-requires-clause-lawful g c =
     let start = start_of c.args.hall.now in
     let r = c.read_counters-counters.ensures in
     let kept = subst (EngineInvariant start) r.stays.seen r.kept in
-    subst AreCounters (sym (read_behind (start_of c.args.hall.now) (view c.args.pass.now).seen c.read_counters-counters.result c.read_counters-counters.ensures.counters c.requires.quiet)) (now_lawful start (view c.args.pass.now).seen kept c.requires.lawful (subst HaveForms (read_behind (start_of c.args.hall.now) (view c.args.pass.now).seen c.read_counters-counters.result c.read_counters-counters.ensures.counters c.requires.quiet) r.forms))
+    subst AreCounters (sym c.read_counters-counters.ensures.counters) (now_lawful start (view c.args.pass.now).seen kept c.requires.lawful (subst HaveForms c.read_counters-counters.ensures.counters r.forms))
 
 pub append_checkpoint-requires-clause-base : goal.append_checkpoint-requires-clause-base
 append_checkpoint-requires-clause-base g c =
@@ -33,8 +34,8 @@ append_checkpoint-requires-clause-base g c =
     let r = c.read_counters-counters.ensures in
     let kept = subst (EngineInvariant start) r.stays.seen r.kept in
     let n = next_number start old in
-    let here : StaysBase start old (records.Checkpoint n (counters_behind start.base (history old))) = now_stays start old kept c.requires.lawful c.requires.quiet n (subst HaveForms (read_behind (start_of c.args.hall.now) (view c.args.pass.now).seen c.read_counters-counters.result c.read_counters-counters.ensures.counters c.requires.quiet) r.forms) in
-    subst (λ (z : List (List Entry) × Counters). StaysBase start z.0 (records.Checkpoint (next_number start z.0) z.1)) (λ j. (sym r.stays.seen j, sym (read_behind (start_of c.args.hall.now) (view c.args.pass.now).seen c.read_counters-counters.result c.read_counters-counters.ensures.counters c.requires.quiet) j)) here
+    let here : StaysBase start old (records.Checkpoint n (counters_behind start.base (history old) (multi_history old))) = now_stays start old kept c.requires.lawful n (subst HaveForms c.read_counters-counters.ensures.counters r.forms) in
+    subst (λ (z : List (List Entry) × Counters). StaysBase start z.0 (records.Checkpoint (next_number start z.0) z.1)) (λ j. (sym r.stays.seen j, sym c.read_counters-counters.ensures.counters j)) here
 
 pub append_checkpoint-requires-clause-follows : goal.append_checkpoint-requires-clause-follows
 append_checkpoint-requires-clause-follows g c =
@@ -42,8 +43,8 @@ append_checkpoint-requires-clause-follows g c =
     let old = (view c.args.pass.now).seen in
     let r = c.read_counters-counters.ensures in
     let kept = subst (EngineInvariant start) r.stays.seen r.kept in
-    subst (λ (z : List (List Entry) × Counters). CheckpointOf start z.0 (at z.0 log_lock) (next_number start z.0) z.1) (λ j. (sym r.stays.seen j, sym (read_behind (start_of c.args.hall.now) (view c.args.pass.now).seen c.read_counters-counters.result c.read_counters-counters.ensures.counters c.requires.quiet) j))
-    (now_follows start old kept c.requires.lawful c.requires.quiet)
+    subst (λ (z : List (List Entry) × Counters). CheckpointOf start z.0 (at z.0 log_lock) (next_number start z.0) z.1) (λ j. (sym r.stays.seen j, sym c.read_counters-counters.ensures.counters j))
+    (now_follows start old kept c.requires.lawful)
 
 pub forget_log-requires-clause-ends : goal.forget_log-requires-clause-ends
 forget_log-requires-clause-ends g c =
@@ -56,7 +57,7 @@ forget_log-requires-clause-ends g c =
     let counters = c.read_counters-counters.result in
     let mid = (view c.append_checkpoint.new.pass).seen in
     let appended : AddsCheckpoint start by counters old mid (Ok c.in-Ok.number) = subst (λ (z : List (List Entry)). AddsCheckpoint start by counters z mid (Ok c.in-Ok.number)) r.stays.seen c.in-Ok.ensures.adds in
-    let mark = marked start by old inside counters c.in-Ok.number mid (read_behind (start_of c.args.hall.now) (view c.args.pass.now).seen c.read_counters-counters.result c.read_counters-counters.ensures.counters c.requires.quiet) appended in
+    let mark = marked start by old inside counters c.in-Ok.number mid c.read_counters-counters.ensures.counters appended in
     let late = (view c.flush_records.new.pass).seen in
     let flushed = put_down start by old inside mid mark late (tt {0}) c.in-Ok-flush_records.ensures.adds in
     subst (EndsInCheckpoint start (at late log_lock)) (sym appended.0) (ends start by old inside late flushed c.flush_records.ensures.kept c.requires.flushed)
@@ -72,10 +73,10 @@ forget_log-requires-clause-may g c =
     let counters = c.read_counters-counters.result in
     let mid = (view c.append_checkpoint.new.pass).seen in
     let appended : AddsCheckpoint start by counters old mid (Ok c.in-Ok.number) = subst (λ (z : List (List Entry)). AddsCheckpoint start by counters z mid (Ok c.in-Ok.number)) r.stays.seen c.in-Ok.ensures.adds in
-    let mark = marked start by old inside counters c.in-Ok.number mid (read_behind (start_of c.args.hall.now) (view c.args.pass.now).seen c.read_counters-counters.result c.read_counters-counters.ensures.counters c.requires.quiet) appended in
+    let mark = marked start by old inside counters c.in-Ok.number mid c.read_counters-counters.ensures.counters appended in
     let late = (view c.flush_records.new.pass).seen in
     let flushed = put_down start by old inside mid mark late (tt {0}) c.in-Ok-flush_records.ensures.adds in
-    subst (MayForget start late (at late log_lock)) (sym appended.0) (may_forget start by old late c.flush_records.ensures.kept flushed c.requires.synced c.requires.quiet)
+    subst (MayForget start late (at late log_lock)) (sym appended.0) (may_forget start by old late c.flush_records.ensures.kept flushed c.requires.synced c.requires.made)
 
 pub returns-in-Ok-flush_records-clause-adds : goal.returns-in-Ok-flush_records-clause-adds
 returns-in-Ok-flush_records-clause-adds g c =
@@ -88,7 +89,7 @@ returns-in-Ok-flush_records-clause-adds g c =
     let counters = c.read_counters-counters.result in
     let mid = (view c.append_checkpoint.new.pass).seen in
     let appended : AddsCheckpoint start by counters old mid (Ok c.in-Ok.number) = subst (λ (z : List (List Entry)). AddsCheckpoint start by counters z mid (Ok c.in-Ok.number)) r.stays.seen c.in-Ok.ensures.adds in
-    let mark = marked start by old inside counters c.in-Ok.number mid (read_behind (start_of c.args.hall.now) (view c.args.pass.now).seen c.read_counters-counters.result c.read_counters-counters.ensures.counters c.requires.quiet) appended in
+    let mark = marked start by old inside counters c.in-Ok.number mid c.read_counters-counters.ensures.counters appended in
     let late = (view c.flush_records.new.pass).seen in
     let flushed = put_down start by old inside mid mark late (tt {0}) c.in-Ok-flush_records.ensures.adds in
     forgot start by old inside late flushed c.in-Ok.number (view c.forget_log.new.pass).seen c.forget_log.result appended.0 c.requires.up c.forget_log.ensures.adds
@@ -105,7 +106,7 @@ returns-in-Err-flush_records-clause-adds g c =
     let counters = c.read_counters-counters.result in
     let mid = (view c.append_checkpoint.new.pass).seen in
     let appended : AddsCheckpoint start by counters old mid (Ok c.in-Ok.number) = subst (λ (z : List (List Entry)). AddsCheckpoint start by counters z mid (Ok c.in-Ok.number)) r.stays.seen c.in-Ok.ensures.adds in
-    let mark = marked start by old inside counters c.in-Ok.number mid (read_behind (start_of c.args.hall.now) (view c.args.pass.now).seen c.read_counters-counters.result c.read_counters-counters.ensures.counters c.requires.quiet) appended in
+    let mark = marked start by old inside counters c.in-Ok.number mid c.read_counters-counters.ensures.counters appended in
     flush_refused start by old inside mid mark (Unit {0}) (view c.flush_records.new.pass).seen c.in-Err-flush_records.refusal c.requires.up c.in-Err-flush_records.ensures.adds
 
 -- nothing was appended

@@ -63,7 +63,7 @@ returns-clause-bytes g c told =
     let count = length c.args.into.now in
     let page : List ℕ = pages_of store c.args.page in
     ok_by _ c.read-found.result (λ x is.
-    shows_offsets start seen store bank c.args.page c.args.from count c.read-found.new.into (based c.args.hall.now c.args.host.now c.requires.home) (subst (EngineInvariant start) i.seen i.kept) (subst (λ l. IsOffsetsOf (start_of c.args.hall.now) c.bank_of-bank.result l (at (view c.args.host.now.pass).seen (offsets_lock c.bank_of-bank.result))) (sym c.deref_mut-store.ensures.value) c.take_offsets-held.ensures.stands) here (read_uncut c.args.page store now c.read-found.result x r.bank is) told
+    shows_offsets start seen store bank c.args.page c.args.from count c.read-found.new.into (based c.args.hall.now c.args.host.now c.requires.home) (subst (EngineInvariant start) i.seen i.kept) (subst (λ l. IsOffsetsOf (start_of c.args.hall.now) c.bank_of-bank.result l (at (view c.args.host.now.pass).seen (offsets_lock c.bank_of-bank.result))) (sym c.deref_mut-store.ensures.value) c.take_offsets-held.ensures.stands) here told
     (record { whole = of_ok (IsPage page) c.read-found.result x is (r.page told); piece = of_ok (c.read-found.new.into ≡ take count (drop c.args.from page)) c.read-found.result x is (r.bytes told) }))
 
 pub returns-clause-uncut : goal.returns-clause-uncut

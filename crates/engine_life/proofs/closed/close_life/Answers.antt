@@ -96,7 +96,7 @@ returns-clause-multi_pages g c told few =
     let banks = c.args.life.host.cluster.banks in
     let host = c.requires.host in
     let base : IsBase start.base = subst IsBase (sym host.base) host.cluster.base in
-    let only = λ (v : g.row.P.Denot) (x : Pages) now. g.met.P.PageDisk.only_now v x told now in
+    let only : (v : g.row.P.Denot) (x : Pages) → p.left_at v (p.moment v) x → p.images v x = λ v x now. g.met.P.PageDisk.only_now v x told now in
     let many = λ (k : Store). as_many start seen locks closed.stand k banks (volumes_in k taken.result.volumes).items host.banks closed.count (taken.ensures.volumes k) in
     record {
       offsets_are = all_follow p start.banks (λ bank x. OffsetsLeft start bank (list_at seen (offsets_lock bank)) x) taken.result.volumes.offsets.items (many of_offsets)

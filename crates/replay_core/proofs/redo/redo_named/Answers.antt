@@ -1,4 +1,4 @@
-use Rattle.std.proofs.Common.{◌≡◌, ◌≤◌, ◌∷◌, [], arith, refl, subst, sym, true}
+use Rattle.std.proofs.Common.{ap, ◌/◌, ◌%◌, ◌∙◌, ◌≡◌, ◌≤◌, ◌∷◌, [], arith, refl, subst, sym, true}
 use Rattle.tx_events.specs.PageOrder.{Ids, is_cut}
 use Rattle.store_pages.specs.Layouts.{xact_page_of}
 use Rattle.replay_core.specs.Redo.{IsNamed, IsOne}
@@ -16,6 +16,8 @@ redo_id-requires g c = record {
 pub returns : goal.returns
 returns g c =
     let from : c.args.oldest ≤ c.args.id = grind (arith, c.lt.ensures, c.if-lt.false) in
+    let page : c.xact_page.result ≡ xact_page_of c.args.id = c.xact_page.ensures.page ∙ ap (λ n. n / 32768) c.low.ensures in
+    let on : xact_page_of c.args.id % c.args.share.now.banks ≡ c.args.share.now.bank = ap (λ n. n % c.args.share.now.banks) (sym page) ∙ c.has_page.ensures.0 (grind (arith, c.if-not-has_page.false)) in
     same_named (IsOne c.args.id) (IsNamed c.args.share.now c.args.oldest (c.args.id ∷ [])) c.args.bank.now c.redo_id.new.bank c.redo_id.result
-    (one_named c.args.share.now c.args.oldest c.args.id from (c.has.ensures.0 (grind (arith, c.if-not-has.false))))
+    (one_named c.args.share.now c.args.oldest c.args.id from on)
     (λ y h. sym (named_one c.args.share.now c.args.oldest c.args.id y h)) c.redo_id.ensures

@@ -6,6 +6,7 @@ use Rattle.run_law.specs.Turns.{MayRun}
 use Rattle.tx_core.specs.declared.entry.Start.{Start}
 use Rattle.recoverable.specs.Whole.{BeganRight}
 use Rattle.engine_life.specs.Lives.{volumes_left}
+use Rattle.session_run.specs.Turns.{AreToldBy}
 use Rattle.session_run.proofs.CausesTold.{causes_told}
 use Rattle.session_run.proofs.LifeFits.{life_fits}
 use Rattle.session_run.proofs.LifeLived.{ids_few, life_lived, lines_run, multis_few, number_told}
@@ -22,6 +23,11 @@ pub run_rounds-ran-requires-clause-items : goal.run_rounds-ran-requires-clause-i
 run_rounds-ran-requires-clause-items g c κs within =
     let m = c.requires.may in
     subst (λ n. All (MayRun n) c.args.part) (sym m.sessions_are ∙ sym (ap (λ k. k.sessions) m.opened.begun.cluster)) c.requires.taken.items
+
+pub run_rounds-ran-requires-clause-told : goal.run_rounds-ran-requires-clause-told
+run_rounds-ran-requires-clause-told g c κs within =
+    let m = c.requires.may in
+    subst (AreToldBy g.P.PageDisk.tells) (sym m.opened.begun.start_is) m.opened.told
 
 pub returns : goal.returns
 returns g c =
@@ -44,7 +50,7 @@ returns g c =
             number = number_told (start_of life.hall) k b faults left _ opened.begun.start_is closed.log;
             left = record {
               log = λ tells. lived.1 tells (c.reads_an_image.ensures tells);
-              states = λ told. bank_holds g.P.PageDisk (start_of life.hall) (view host.pass).seen k b faults left (volumes_left left).xact.items opened.begun.start_is closed.kept few closed.log (closed.states told few) (c.pages_read_an_image.ensures told);
+              states = λ told. bank_holds g.P.PageDisk (start_of life.hall) (view host.pass).seen k b faults left (volumes_left left).xact.items opened.begun.start_is closed.kept (subst BeganRight (sym opened.begun.start_is) (opened.right told)) few closed.log (closed.states told few) (c.pages_read_an_image.ensures told);
               same = record {
                 xact = closed.banks.xact ∙ (ap (λ (t : Start). t.banks) opened.begun.start_is ∙ sym opened.banks.xact);
                 subtrans = closed.banks.subtrans ∙ (ap (λ (t : Start). t.banks) opened.begun.start_is ∙ sym opened.banks.subtrans);

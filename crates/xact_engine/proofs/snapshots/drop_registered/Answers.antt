@@ -14,7 +14,10 @@ use Rattle.engine_parts.proofs.Leaving.{call_left}
 use Rattle.engine_parts.proofs.Tabling.{proc_adds}
 use Rattle.xact_engine.proofs.Snapping.{acted_dropped, drop_entry, live_here}
 use Rattle.engine_parts.proofs.Beholding.{not_standing}
+use Rattle.tx_model.specs.declared.command.Command.TheVariants as commands
+use Rattle.tx_model.specs.declared.reply.Reply.TheVariants as replies
 use Rattle.engine_parts.proofs.KeptMaking.{kept_making}
+use Rattle.engine_parts.specs.Makings.{has_more_multis}
 use Rattle.xact_engine.proofs.snapshots.drop_registered.Goals as goal
 
 pub drop_snapshot-requires-clause-registered : goal.drop_snapshot-requires-clause-registered
@@ -49,6 +52,6 @@ returns g c =
       stage = r.stage ∙ ap (λ z. z.stage) e.same.0;
       held = tt;
       still = λ q is. not_standing None q refl is;
-      making = kept_making (commands.DropSnap c.args.name.now) replies.Done _ s.making c.unregister.new.caller.session.making refl (r.making ∙ ap (λ z. z.making) e.same.0);
+      making = kept_making (commands.DropSnap c.args.name.now) replies.Done (has_more_multis c.args.caller.now.number (view c.args.caller.now.pass).seen (view c.unregister.new.caller.pass).seen) s.making c.unregister.new.caller.session.making refl (r.making ∙ ap (λ z. z.making) e.same.0);
       count = (r.count.0 ∙ ap (λ z. z.levels.commands) e.same.0, r.count.1 ∙ e.same.1);
     }

@@ -24,6 +24,7 @@ use Rattle.proc_table.specs.Table.{Table}
 use Rattle.xact_engine.proofs.Snapping.{acted_snapped, call_reserved, free_here, not_refused, snap_entry}
 use Rattle.engine_parts.proofs.Beholding.{not_standing}
 use Rattle.engine_parts.proofs.KeptMaking.{kept_making}
+use Rattle.engine_parts.specs.Makings.{has_more_multis}
 use Rattle.xact_engine.proofs.snapshots.take.Goals as goal
 
 pub take_of-requires-clause-free : goal.take_of-requires-clause-free
@@ -54,7 +55,7 @@ returns-in_default g c =
       stage = refl;
       held = tt;
       still = λ r is. refl;
-      making = kept_making (commands.Snap c.args.name.now) (replies.Refused refusals.Memory) _ s.making s.making refl refl;
+      making = kept_making (commands.Snap c.args.name.now) (replies.Refused refusals.Memory) (has_more_multis c.args.caller.now.number (view c.args.caller.now.pass).seen (view c.args.caller.now.pass).seen) s.making s.making refl refl;
       count = (refl, refl);
     }
 
@@ -77,7 +78,7 @@ returns-in-Ok-take_of g c =
       stage = r.stage ∙ ap (λ z. z.stage) e.same.0;
       held = tt;
       still = λ q is. not_standing None q refl is;
-      making = kept_making (commands.Snap c.args.name.now) (replies.Snapped c.in-Ok-take_of.lists) _ s.making c.register.new.caller.session.making refl (r.making ∙ ap (λ z. z.making) e.same.0);
+      making = kept_making (commands.Snap c.args.name.now) (replies.Snapped c.in-Ok-take_of.lists) (has_more_multis c.args.caller.now.number (view c.args.caller.now.pass).seen (view c.register.new.caller.pass).seen) s.making c.register.new.caller.session.making refl (r.making ∙ ap (λ z. z.making) e.same.0);
       count = (r.count.0 ∙ ap (λ z. z.levels.commands) e.same.0, r.count.1 ∙ e.same.1);
     }
 
@@ -96,7 +97,7 @@ returns-in-Err g c =
       stage = ap (λ z. z.stage) r.same.0 ∙ ap (λ z. z.stage) e.same.0;
       held = tt;
       still = λ q is. not_standing None q refl is;
-      making = kept_making (commands.Snap c.args.name.now) (replies.Refused refusals.Memory) _ s.making c.leave_looked.new.caller.session.making refl (ap (λ z. z.making) r.same.0 ∙ ap (λ z. z.making) e.same.0);
+      making = kept_making (commands.Snap c.args.name.now) (replies.Refused refusals.Memory) (has_more_multis c.args.caller.now.number (view c.args.caller.now.pass).seen (view c.leave_looked.new.caller.pass).seen) s.making c.leave_looked.new.caller.session.making refl (ap (λ z. z.making) r.same.0 ∙ ap (λ z. z.making) e.same.0);
       count = (ap (λ z. z.levels.commands) r.same.0 ∙ ap (λ z. z.levels.commands) e.same.0, r.same.1 ∙ e.same.1);
     }
 

@@ -1,0 +1,11 @@
+pub mod Going
+pub mod Faulting
+pub mod Slicing
+pub mod Setting
+pub mod Reading
+pub mod Places
+pub mod Told
+pub mod Acts
+pub mod Making
+pub mod Announcing
+pub mod Outcomes

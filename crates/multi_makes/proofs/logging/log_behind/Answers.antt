@@ -1,0 +1,56 @@
+use Rattle.std.proofs.Common.{◌≡◌}
+use Rattle.hall.specs.Calls.{view, start_of}
+use Rattle.engine_parts.specs.Adding.{IsOfMulti, IsTruncation, MayAdd}
+use Rattle.engine_parts.specs.Sessions.{by_at}
+use Rattle.engine_parts.proofs.Adding.{adds_wider}
+use Rattle.engine_parts.proofs.Sectioning.{same_command}
+use Rattle.multi_makes.proofs.Announcing.{append_adds, record_wider, truncation_wider}
+use Rattle.multi_makes.proofs.Going.{both_add, on_then}
+use Rattle.multi_makes.proofs.logging.log_behind.Goals as goal
+
+pub returns-in-Ok-At-clause-went : goal.returns-in-Ok-At-clause-went
+returns-in-Ok-At-clause-went g c =
+    let old = c.args.caller.now in
+    let t = c.log_truncation.new.caller in
+    let w = c.append_multi.new.caller in
+    let e = c.log_truncation.ensures in
+    on_then old.number t.number (view old.pass).seen (view t.pass).seen (view w.pass).seen e.same.1 e.went c.append_multi.ensures.went
+
+pub returns-in-Ok-At-clause-adds : goal.returns-in-Ok-At-clause-adds
+returns-in-Ok-At-clause-adds g c =
+    let old = c.args.caller.now in
+    let t = c.log_truncation.new.caller in
+    let w = c.append_multi.new.caller in
+    let e = c.log_truncation.ensures in
+    let rec = c.args.rec.now in
+    let by = by_at old.number old.session.levels.commands in
+    let by' = by_at t.number t.session.levels.commands in
+    both_add by by' (MayAdd IsTruncation ⊥ (λ r. ⊥)) (MayAdd (λ z. z ≡ rec) ⊥ (λ r. ⊥)) (MayAdd IsOfMulti ⊥ (λ r. ⊥)) (view old.pass).seen (view t.pass).seen (view w.pass).seen (same_command old.number t.number old.session t.session e.same.1 e.same.0)
+    truncation_wider (record_wider old.session.making rec c.requires.record) e.adds
+    (append_adds (start_of c.args.hall.now) (view t.pass) (view w.pass) by' t.session rec c.append_multi.result e.may.ready.at c.append_multi.ensures.section)
+
+pub returns-in-Err-append_multi-clause-went : goal.returns-in-Err-append_multi-clause-went
+returns-in-Err-append_multi-clause-went g c =
+    let old = c.args.caller.now in
+    let t = c.log_truncation.new.caller in
+    let w = c.append_multi.new.caller in
+    let e = c.log_truncation.ensures in
+    on_then old.number t.number (view old.pass).seen (view t.pass).seen (view w.pass).seen e.same.1 e.went c.append_multi.ensures.went
+
+pub returns-in-Err-append_multi-clause-adds : goal.returns-in-Err-append_multi-clause-adds
+returns-in-Err-append_multi-clause-adds g c =
+    let old = c.args.caller.now in
+    let t = c.log_truncation.new.caller in
+    let w = c.append_multi.new.caller in
+    let e = c.log_truncation.ensures in
+    let rec = c.args.rec.now in
+    let by = by_at old.number old.session.levels.commands in
+    let by' = by_at t.number t.session.levels.commands in
+    both_add by by' (MayAdd IsTruncation ⊥ (λ r. ⊥)) (MayAdd (λ z. z ≡ rec) ⊥ (λ r. ⊥)) (MayAdd IsOfMulti ⊥ (λ r. ⊥)) (view old.pass).seen (view t.pass).seen (view w.pass).seen (same_command old.number t.number old.session t.session e.same.1 e.same.0)
+    truncation_wider (record_wider old.session.making rec c.requires.record) e.adds
+    (append_adds (start_of c.args.hall.now) (view t.pass) (view w.pass) by' t.session rec c.append_multi.result e.may.ready.at c.append_multi.ensures.section)
+
+pub returns-in-Err-clause-adds : goal.returns-in-Err-clause-adds
+returns-in-Err-clause-adds g c =
+    let old = c.args.caller.now in
+    adds_wider (by_at old.number old.session.levels.commands) (MayAdd IsTruncation ⊥ (λ r. ⊥)) (MayAdd IsOfMulti ⊥ (λ r. ⊥)) (view old.pass).seen (view c.log_truncation.new.caller.pass).seen truncation_wider c.in-Err.ensures.adds

@@ -1,0 +1,48 @@
+use Rattle.std.proofs.Common.{◌≡◌}
+use Rattle.hall.specs.Calls.{view, start_of}
+use Rattle.engine_parts.specs.Adding.{IsOfMulti, MayAdd}
+use Rattle.engine_parts.specs.Sessions.{by_at}
+use Rattle.engine_parts.proofs.Adding.{adds_wider}
+use Rattle.engine_parts.proofs.Sectioning.{same_command}
+use Rattle.multi_makes.proofs.Announcing.{append_adds, record_wider, unlogged_same}
+use Rattle.multi_makes.proofs.Going.{both_add, on_then}
+use Rattle.multi_makes.proofs.logging.log_multi.Goals as goal
+
+pub returns-in-Ok-At-clause-adds : goal.returns-in-Ok-At-clause-adds
+returns-in-Ok-At-clause-adds g c =
+    let old = c.args.caller.now in
+    let t = c.append_multi.new.caller in
+    let rec = c.args.rec.now in
+    let by = by_at old.number old.session.levels.commands in
+    adds_wider by (MayAdd (λ z. z ≡ rec) ⊥ (λ r. ⊥)) (MayAdd IsOfMulti ⊥ (λ r. ⊥)) (view old.pass).seen (view t.pass).seen (record_wider old.session.making rec c.requires.record)
+    (append_adds (start_of c.args.hall.now) (view old.pass) (view t.pass) by old.session rec c.append_multi.result c.requires.may.ready.at c.append_multi.ensures.section)
+
+pub returns-in-Err-clause-adds : goal.returns-in-Err-clause-adds
+returns-in-Err-clause-adds g c =
+    let old = c.args.caller.now in
+    let t = c.append_multi.new.caller in
+    let rec = c.args.rec.now in
+    let by = by_at old.number old.session.levels.commands in
+    adds_wider by (MayAdd (λ z. z ≡ rec) ⊥ (λ r. ⊥)) (MayAdd IsOfMulti ⊥ (λ r. ⊥)) (view old.pass).seen (view t.pass).seen (record_wider old.session.making rec c.requires.record)
+    (append_adds (start_of c.args.hall.now) (view old.pass) (view t.pass) by old.session rec c.append_multi.result c.requires.may.ready.at c.append_multi.ensures.section)
+
+pub returns-in-Ok-NoBase-clause-went : goal.returns-in-Ok-NoBase-clause-went
+returns-in-Ok-NoBase-clause-went g c =
+    let old = c.args.caller.now in
+    let t = c.append_multi.new.caller in
+    let w = c.log_behind.new.caller in
+    on_then old.number t.number (view old.pass).seen (view t.pass).seen (view w.pass).seen c.append_multi.ensures.number c.append_multi.ensures.went c.log_behind.ensures.went
+
+pub returns-in-Ok-NoBase-clause-adds : goal.returns-in-Ok-NoBase-clause-adds
+returns-in-Ok-NoBase-clause-adds g c =
+    let start = start_of c.args.hall.now in
+    let old = c.args.caller.now in
+    let t = c.append_multi.new.caller in
+    let w = c.log_behind.new.caller in
+    let rec = c.args.rec.now in
+    let by = by_at old.number old.session.levels.commands in
+    let same = unlogged_same start (view t.pass).seen rec old.session t.session c.in-Ok-NoBase.field-0 c.in-Ok-NoBase.field-0-is c.in-Ok-NoBase.ensures.takes in
+    both_add by (by_at t.number t.session.levels.commands) (MayAdd (λ z. z ≡ rec) ⊥ (λ r. ⊥)) (MayAdd IsOfMulti ⊥ (λ r. ⊥)) (MayAdd IsOfMulti ⊥ (λ r. ⊥)) (view old.pass).seen (view t.pass).seen (view w.pass).seen
+    (same_command old.number t.number old.session t.session c.append_multi.ensures.number same) (record_wider old.session.making rec c.requires.record) (λ lock kind m. m)
+    (append_adds start (view old.pass) (view t.pass) by old.session rec c.append_multi.result c.requires.may.ready.at c.append_multi.ensures.section)
+    c.log_behind.ensures.adds

@@ -1,0 +1,4 @@
+mod Stepping
+mod Writing
+mod Naming
+mod Restoring

@@ -1,0 +1,85 @@
+use Rattle.std.proofs.Common.{List, [], ap, arith, length, subst, sym, take, take_all, ◌+◌, ◌∙◌, ◌≡◌, ◌≤◌, ℕ}
+use Rattle.std.specs.List.{filter_map}
+use Rattle.hall.specs.Calls.{view, start_of}
+use Rattle.multi_members.specs.declared.slot.Slot.{Slot}
+use Rattle.tx_model.specs.declared.reply.MemberVerdict.{MemberVerdict}
+use Rattle.engine_parts.specs.Adding.{IsPlain, MayMeet}
+use Rattle.engine_parts.proofs.Adding.{plain_meets}
+use Rattle.engine_parts.proofs.Answering.{few_before}
+use Rattle.engine_parts.proofs.Unmoved.{look_adds}
+use Rattle.engine_parts.specs.declared.session.Session.{Session}
+use Rattle.xact_reads.specs.Glances.{IsNamed}
+use Rattle.xact_reads.specs.Multis.{AreJudged, pair_in}
+use Rattle.xact_reads.proofs.Going.{read_adds, went_both}
+use Rattle.xact_reads.proofs.Judging.{all_later, carried_later, carried_now}
+use Rattle.xact_reads.proofs.Replying.{named_at, oldest_from}
+use Rattle.xact_reads.proofs.Verdicts.{judged_slot, next_place}
+use Rattle.xact_reads.proofs.judges.judge_all.Goals as goal
+
+pub loop-place-init : goal.loop-place-init
+loop-place-init g c =
+    let start = start_of c.args.hall.now in
+    let old = c.args.caller.now in
+    let u = c.read_oldest-oldest.new.caller in
+    let e = c.read_oldest-oldest.ensures in
+    record {
+      own = e.own;
+      ready = e.ready;
+      went = e.went;
+      same = e.same;
+      oldest = carried_now start (view u.pass).seen c.read_oldest-oldest.result e.oldest;
+      from = (let low = oldest_from start (view u.pass).seen e.ready.at.kept in let is = e.oldest in omega (arith, low, is));
+      within = omega arith;
+      room = (let none : length c.args.into.now.items ≡ 0 = ap (λ (xs : List MemberVerdict). length xs) c.requires.none in let room = c.requires.room in omega (arith, none, room));
+      said = λ told few k named. subst (λ (xs : List MemberVerdict). AreJudged start (view u.pass).seen k [] xs) (sym c.requires.none) tt;
+      adds = look_adds start (view old.pass) (view u.pass) old.number old.session IsPlain c.requires.ready.at tt e.section;
+    }
+
+pub returns-in-Err-clause-went : goal.returns-in-Err-clause-went
+returns-in-Err-clause-went g c =
+    let u = c.loop-place.caller in
+    let i = c.loop-place.invariant in
+    went_both c.args.caller.now.number u.number (view c.args.caller.now.pass).seen (view u.pass).seen (view c.judge_slot.new.caller.pass).seen i.same.1 i.went c.in-Err.ensures.went
+
+pub returns-in-Err-clause-adds : goal.returns-in-Err-clause-adds
+returns-in-Err-clause-adds g c =
+    let old = c.args.caller.now in
+    let u = c.loop-place.caller in
+    let i = c.loop-place.invariant in
+    read_adds old.number u.number old.session u.session (MayMeet c.in-Err.refusal) (view old.pass).seen (view u.pass).seen (view c.judge_slot.new.caller.pass).seen i.same.1 i.same.0 (plain_meets c.in-Err.refusal) i.adds c.in-Err.ensures.adds
+
+pub loop-place-preserved : goal.loop-place-preserved
+loop-place-preserved g c =
+    let start = start_of c.args.hall.now in
+    let old = c.args.caller.now in
+    let u = c.loop-place.caller in
+    let w = c.judge_slot.new.caller in
+    let i = c.loop-place.invariant in
+    let e = c.in-Ok.ensures in
+    let inside = c.loop-place-test.true in
+    record {
+      own = e.own;
+      ready = e.ready;
+      went = went_both old.number u.number (view old.pass).seen (view u.pass).seen (view w.pass).seen i.same.1 i.went e.went;
+      same = (e.same.0 ∙ i.same.0, e.same.1 ∙ i.same.1);
+      oldest = carried_later start (view u.pass).seen (view w.pass).seen _ e.went.on.grows i.oldest;
+      from = i.from;
+      within = omega arith;
+      room = (let long = e.long in let room = i.room in let cap = e.room in omega (arith, long, room, cap));
+      said = λ told few k named.
+          let few_then = few_before (view u.pass).seen (view w.pass).seen e.went.on.grows few in
+          let here = named_at start (view u.pass) u.number u.session c.args.name.now k i.ready.at (subst (λ (s : Session). IsNamed s.levels c.args.name.now k) (sym i.same.0) named) in
+          let before = all_later start (view u.pass).seen (view w.pass).seen e.went.on.grows u.number k here.0 (filter_map pair_in (take c.loop-place.place c.args.slots.now)) c.loop-place.into.items (i.said told few_then k named) in
+          let one = e.said told few k (subst (λ (s : Session). IsNamed s.levels c.args.name.now k) (sym i.same.0) named) in
+          subst (λ (t : List Slot). AreJudged start (view w.pass).seen k (filter_map pair_in t) c.judge_slot.new.into.items) (sym (next_place c.args.slots.now c.loop-place.place _ inside))
+          (judged_slot start (view w.pass).seen k (take c.loop-place.place c.args.slots.now) _ c.loop-place.into.items c.judge_slot.new.into.items before one);
+      adds = read_adds old.number u.number old.session u.session IsPlain (view old.pass).seen (view u.pass).seen (view w.pass).seen i.same.1 i.same.0 (λ lock kind m. m) i.adds e.adds;
+    }
+
+pub returns-clause-said : goal.returns-clause-said
+returns-clause-said g c told few k named =
+    let start = start_of c.args.hall.now in
+    let i = c.loop-place.invariant in
+    let past = c.loop-place-test.false in
+    let within = i.within in
+    subst (λ (t : List Slot). AreJudged start (view c.loop-place.caller.pass).seen k (filter_map pair_in t) c.loop-place.into.items) (take_all c.loop-place.place c.args.slots.now (omega (arith, past, within))) (i.said told few k named)

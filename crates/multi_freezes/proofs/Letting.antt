@@ -1,5 +1,5 @@
 -- What was cut and found stays while the other banks are cut.
-use Rattle.std.proofs.Common.{◌≡◌, ⊎_elim, ℕ, ◌+◌, ◌<◌, ◌≤◌, List, Ok, Err, Result, IfOk, length, take, sym, ap, subst, ◌∙◌, arith}
+use Rattle.std.proofs.Common.{◌≡◌, ⊎_elim, ℕ, ◌+◌, ◌<◌, ◌≤◌, List, Ok, Err, Result, IfOk, sym, ap, subst, ◌∙◌, arith}
 use Rattle.notes.specs.Lists.{Grows}
 use Rattle.store_pages.specs.Layouts.{multi_before}
 use Rattle.tx_events.proofs.ListSteps.{le_or_over}

@@ -35,7 +35,7 @@ use Rattle.tx_core.specs.declared.entry.Kind.{Kind}
 use Rattle.tx_core.specs.declared.entry.Kind.TheVariants as kinds
 use Rattle.tx_core.specs.declared.entry.Start.{Start}
 use Rattle.tx_core.specs.Entries.{appended, history, records_in, records_of, recs_in}
-use Rattle.tx_core.specs.Locks.{IsPageLock, log_lock, members_lock, number_of, offsets_lock}
+use Rattle.tx_core.specs.Locks.{IsPageLock, log_lock, members_lock}
 use Rattle.tx_core.specs.CutsFollow.{IsTruncated}
 use Rattle.tx_core.proofs.Lasting.{history_grows, stands_grows}
 use Rattle.tx_core.specs.RecordsFollow.{IsMultiAnnounced, IsOldestAnnounced}

@@ -37,8 +37,8 @@ abbrev pub IsOffsetsFault : List (List Entry) → By → Refusal → Type 0
 IsOffsetsFault lists by (refusals.DiskFault (locks.Offsets bank)) = MetFault lists (offsets_lock bank) by
 IsOffsetsFault lists by _ = ⊥
 
--- What was read of the offset of a multixact, where the pages tell, in a life of few: what stands. And the multixacts that
--- the life began with lie in order.
+-- What was read of the offset of a multixact, where the pages tell, in a life of few: what stands. And the multixacts
+-- that the life began with lie in order.
 pub record IsStartRead (tells : Bool) (start : Start) (lists : List (List Entry)) (multi : ℕ) (found : Option ℕ) : Type 0 where
   pub stands : IsTrue tells → AreFewMultis lists → IsOffsetFound start lists multi found
   pub told : IsTrue tells → AreFewMultis lists → IsTrue start.told × AreInOrder start.base start.recorded
@@ -58,8 +58,8 @@ IsRecordedAs tells start lists multi offset =
     IsTrue tells → AreFewMultis lists → multi < start.base.multi
     → (members : List Member) × Contains start.recorded (records.Multi multi offset members)
 
--- Why a pinned multixact isn't raised: it begins at no such offset, which can't be where the pages tell, in a life of few;
--- or one that is older is pinned, or memory was wanting.
+-- Why a pinned multixact isn't raised: it begins at no such offset, which can't be where the pages tell, in a life of
+-- few; or one that is older is pinned, or memory was wanting.
 abbrev pub IsNotRaisedRead : Bool → Start → List (List Entry) → ℕ → Refusal → Type 0
 IsNotRaisedRead tells start lists multi (refusals.NotYet told) = (told ≡ multi) × (IsTrue tells → AreFewMultis lists → ⊥)
 IsNotRaisedRead tells start lists multi (refusals.Held limit) =
@@ -74,7 +74,8 @@ pub record WasUnset (start : Start) (lists more : List (List Entry)) (multi : �
   pub upto : Grows seen more
   pub none : HasNoOffset start seen multi
 
--- at a moment of these the least pin was before the multixact; what the session has of multixacts behind it is of this command
+-- at a moment of these the least pin was before the multixact; what the session has of multixacts behind it is of this
+-- command
 pub record WasHeldBack (start : Start) (by : By) (lists more : List (List Entry)) (multi limit : ℕ) : Type 0 where
   pub place : ℕ
   pub from : length (multi_history lists) ≤ place

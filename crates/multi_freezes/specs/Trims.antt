@@ -17,7 +17,8 @@ use Rattle.tx_core.specs.declared.entry.Kind.{Kind}
 use Rattle.tx_core.specs.declared.entry.Kind.TheVariants as kinds
 use Rattle.tx_core.specs.declared.entry.Start.{Start}
 use Rattle.tx_core.specs.Entries.{Stands, history, records_of}
-use Rattle.tx_core.specs.Locks.{log_lock, members_lock, number_of, offsets_lock, subtrans_lock, subtrans_page, xact_lock, xact_page}
+use Rattle.tx_core.specs.Locks.{log_lock, members_lock, number_of, offsets_lock, subtrans_lock, xact_lock}
+use Rattle.tx_core.specs.Locks.{subtrans_page, xact_page}
 use Rattle.engine_parts.specs.Adding.{IsToldBy, IsTruncation, MayAddBy}
 use Rattle.engine_parts.specs.Answers.{MetFault, MetLogFault}
 use Rattle.engine_parts.specs.Stand.{IsDownAt, IsSubtransReach, IsXactReach, first_subtrans_page}
@@ -34,12 +35,13 @@ IsOfBank (locks.Offsets bank) = Unit {0}
 IsOfBank (locks.Members bank) = Unit {0}
 IsOfBank lock = ⊥
 
--- Why a step of a trim was refused: memory was wanting, the log is full, or down, or its volume failed, or that of a bank
--- did.
+-- Why a step of a trim was refused: memory was wanting, the log is full, or down, or its volume failed, or that of a
+-- bank did.
 abbrev pub IsTrimMet : Start → List (List Entry) → By → Refusal → Type 0
 IsTrimMet start lists by refusals.Memory = Unit {0}
 IsTrimMet start lists by refusals.Full = Unit {0}
-IsTrimMet start lists by refusals.LogFault = MetLogFault lists by × ((down : ℕ) × IsDownAt start (at lists log_lock) down)
+IsTrimMet start lists by refusals.LogFault =
+    MetLogFault lists by × ((down : ℕ) × IsDownAt start (at lists log_lock) down)
 IsTrimMet start lists by (refusals.LogDown down) = IsDownAt start (at lists log_lock) down
 IsTrimMet start lists by (refusals.DiskFault lock) = IsOfBank lock × MetFault lists (number_of lock) by
 IsTrimMet start lists by r = ⊥
@@ -61,8 +63,8 @@ WasOldestXmin start lists xmin =
 abbrev pub IsParentsReach : Start → ℕ → Type 0
 IsParentsReach start page = (first_subtrans_page start ≤ page) × IsSubtransReach start page
 
--- The bank of this number was cut in each store: what lies before these numbers was let go. Of pg_xact and pg_subtrans where
--- the page is in the life's reach.
+-- The bank of this number was cut in each store: what lies before these numbers was let go. Of pg_xact and pg_subtrans
+-- where the page is in the life's reach.
 pub record AreCut (start : Start) (lists : List (List Entry)) (oldest xmin multi offset bank : ℕ) : Type 0 where
   pub states : IsXactReach start (xact_page oldest) → Stands lists (xact_lock bank) (kinds.Cut (xact_page oldest))
   pub parents : IsParentsReach start (subtrans_page (id_before xmin))

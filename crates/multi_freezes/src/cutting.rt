@@ -6,7 +6,8 @@ ghost use Rattle.tx_core.specs.declared.entry.Kind.TheVariants as kinds;
 ghost use Rattle.tx_events.specs.Ids.{id_before};
 ghost use Rattle.tx_core.specs.CutsFollow.{IsTruncated};
 ghost use Rattle.tx_core.specs.Entries.{Stands};
-ghost use Rattle.tx_core.specs.Locks.{member_page_in_full, members_lock, offset_page, offsets_lock, subtrans_lock, subtrans_page, xact_lock, xact_page};
+ghost use Rattle.tx_core.specs.Locks.{member_page_in_full, members_lock, offset_page, offsets_lock};
+ghost use Rattle.tx_core.specs.Locks.{subtrans_lock, subtrans_page, xact_lock, xact_page};
 ghost use Rattle.engine_parts.specs.Calls.{MayStep};
 ghost use Rattle.engine_parts.specs.Sessions.{by_at};
 ghost use Rattle.engine_parts.specs.Stand.{IsXactReach};
@@ -23,8 +24,8 @@ use slru_bank::BankRefusal;
 use store_pages::xact_page_in_full;
 use tx_events::{Counters, FullMulti, FullXid, Lock, Refusal, subtrans_page_in_full};
 
-/// Whether a life that began with these counters cuts pg_xact up to this page. A page that is nearly half a ring past the
-/// first one is left to a later life.
+/// Whether a life that began with these counters cuts pg_xact up to this page. A page that is nearly half a ring past
+/// the first one is left to a later life.
 fn cuts_states(base: &Counters, page: u64) -> bool
     requires { page < 2 ^ 63 }
     ensures { IsTrue result ↔ ((xact_page base.now.oldest ≤ page) × (page + 64 ≤ xact_page base.now.oldest + 2 ^ 16)) }

@@ -69,8 +69,8 @@ fn read_start<R: Passing, L: LogDisk, P: PageDisk>(
     }
 }
 
-/// A pinned multixact becomes the oldest one, of which the stored half of the offset was read. Waits for ever where the life
-/// began with it and has given 2,900,000 others.
+/// A pinned multixact becomes the oldest one, of which the stored half of the offset was read. Waits for ever where the
+/// life began with it and has given 2,900,000 others.
 fn raise_read<R: Passing, L: LogDisk, P: PageDisk>(
     rt: &R,
     hall: &Hall<EngineLaw<L, P>>,
@@ -131,15 +131,15 @@ fn freeze_pinned<R: Passing, L: LogDisk, P: PageDisk>(
 }
 
 /// Announces the oldest multixact that is still asked for (`SetMultiXactIdLimit` of
-/// `src/backend/access/transam/multixact.c`, as `vac_truncate_clog` calls it): the limits on multixacts and members go by
-/// it from then on, and who asks for one before it is told `MultiTooOld`. The next one is announced at once, with the next
-/// free offset. An older one is pinned while its offset is read from its page: three critical sections of the generator,
-/// one of a bank of offsets and one of the ProcArray. The log has no record of it yet. `banks` is the number of banks of
-/// each store.
+/// `src/backend/access/transam/multixact.c`, as `vac_truncate_clog` calls it): the limits on multixacts and members go
+/// by it from then on, and who asks for one before it is told `MultiTooOld`. The next one is announced at once, with
+/// the next free offset. An older one is pinned while its offset is read from its page: three critical sections of the
+/// generator, one of a bank of offsets and one of the ProcArray. The log has no record of it yet. `banks` is the number
+/// of banks of each store.
 ///
-/// Refused with `Backward` where it is before the announced one, with `Held` where it is past the next one or one that is
-/// pinned, with `NotYet` where its offset isn't recorded, with `DiskFault` of a bank of offsets, or with `Memory`; then
-/// nothing was announced. The session has run fewer than 2^48 commands.
+/// Refused with `Backward` where it is before the announced one, with `Held` where it is past the next one or one that
+/// is pinned, with `NotYet` where its offset isn't recorded, with `DiskFault` of a bank of offsets, or with `Memory`;
+/// then nothing was announced. The session has run fewer than 2^48 commands.
 pub fn multi_freeze<R: Passing, L: LogDisk, P: PageDisk>(
     rt: &R,
     hall: &Hall<EngineLaw<L, P>>,
@@ -151,8 +151,8 @@ pub fn multi_freeze<R: Passing, L: LogDisk, P: PageDisk>(
     // What the pages say of a multixact that the life began with is known where they told it.
     requires told { (rec : Rec) → Contains (start_of hall.now).recorded rec → IsTrue (start_of hall.now).told
         → IsTrue P.tells }
-    ensures ran { Ran hall.now (next_command caller.old) (commands.MultiFreeze multi) (reply_of (λ _. replies.Done) result)
-        caller.old caller.new }
+    ensures ran { Ran hall.now (next_command caller.old) (commands.MultiFreeze multi)
+        (reply_of (λ _. replies.Done) result) caller.old caller.new }
     ensures recorded { IsTrue P.tells → IfOk result (λ _. AreFewMultis (view caller.new.pass).seen
         → multi < (start_of hall.now).base.multi → (offset : ℕ)
         → Contains (multi_history (view caller.new.pass).seen)

@@ -43,8 +43,8 @@ fn read_next<R: Passing, L: LogDisk, P: PageDisk>(
     next
 }
 
-/// Appends the record of a truncation, and puts all that the log has on disk. Waits for ever where the log's counters would
-/// be no base behind it, which can't be.
+/// Appends the record of a truncation, and puts all that the log has on disk. Waits for ever where the log's counters
+/// would be no base behind it.
 pub(crate) fn log_trim<R: Passing, L: LogDisk, P: PageDisk>(
     rt: &R,
     hall: &Hall<EngineLaw<L, P>>,

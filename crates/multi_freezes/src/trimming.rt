@@ -19,14 +19,14 @@ use proc_sections::read_horizons;
 use tx_events::{Rec, Refusal};
 
 /// Truncates the four stores (`vac_truncate_clog` of `src/backend/commands/vacuum.c`, `TruncateMultiXact` of
-/// `src/backend/access/transam/multixact.c`, `TruncateSUBTRANS` of `subtrans.c`): the announced oldest id, and the announced
-/// oldest multixact with its offset, are read, a record of them comes to the log and onto the disk, and then each bank of
-/// pg_xact, of offsets and of members lets go of the whole segments before them, and each of pg_subtrans of those before
-/// the oldest xmin. `banks` is the number of banks of each store. A cutoff that is nearly half a ring past the one with which
-/// the life began is left to a later life.
+/// `src/backend/access/transam/multixact.c`, `TruncateSUBTRANS` of `subtrans.c`): the announced oldest id, and the
+/// announced oldest multixact with its offset, are read, a record of them comes to the log and onto the disk, and then
+/// each bank of pg_xact, of offsets and of members lets go of the whole segments before them, and each of pg_subtrans
+/// of those before the oldest xmin. `banks` is the number of banks of each store. A cutoff that is nearly half a ring
+/// past the one with which the life began is left to a later life.
 ///
-/// Refused with `LogDown`, `LogFault`, `Full` or `Memory`, and then nothing was let go; or with `DiskFault` of a bank, and
-/// then the banks before it were cut. The session has run fewer than 2^48 commands.
+/// Refused with `LogDown`, `LogFault`, `Full` or `Memory`, and then nothing was let go; or with `DiskFault` of a bank,
+/// and then the banks before it were cut. The session has run fewer than 2^48 commands.
 pub fn trim<R: Passing, L: LogDisk, P: PageDisk>(
     rt: &R,
     hall: &Hall<EngineLaw<L, P>>,

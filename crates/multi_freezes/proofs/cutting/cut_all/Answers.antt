@@ -1,4 +1,4 @@
-use Rattle.std.proofs.Common.{◌≡◌, ◌<◌, [], Ok, Err, subst, ◌∙◌, arith}
+use Rattle.std.proofs.Common.{Ok, Err, subst, arith}
 use Rattle.hall.specs.Calls.{view, start_of}
 use Rattle.tx_events.specs.declared.event.By.{By}
 use Rattle.multi_banks.proofs.Adding.{truncated_later}

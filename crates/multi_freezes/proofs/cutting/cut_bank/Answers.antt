@@ -1,14 +1,10 @@
-use Rattle.std.proofs.Common.{◌≡◌, ℕ, ◌<◌, [], IfOk, IfErr, Result, Ok, Err, refl, subst, ◌∙◌}
+use Rattle.std.proofs.Common.{IfErr, Result, Err, subst, ◌∙◌}
 use Rattle.hall.specs.Calls.{view, start_of}
-use Rattle.tx_events.specs.declared.event.By.{By}
 use Rattle.tx_events.specs.declared.refusal.Refusal.{Refusal}
-use Rattle.tx_core.specs.declared.entry.Kind.{Kind}
 use Rattle.tx_core.proofs.Lasting.{stands_grows}
 use Rattle.bank_cuts.proofs.Cutting.{truncated_later, xmin_later}
-use Rattle.engine_parts.specs.Sessions.{by_at}
 use Rattle.engine_parts.proofs.Leaving.{grows_then}
-use Rattle.multi_freezes.specs.Trims.{AreCut, IsTrimMet, MayTrim}
-use Rattle.multi_freezes.specs.Visits.{Visited}
+use Rattle.multi_freezes.specs.Trims.{AreCut, IsTrimMet}
 use Rattle.multi_freezes.proofs.Going.{command_kept}
 use Rattle.multi_freezes.proofs.TrimSteps.{ok_maps, trim_then}
 use Rattle.multi_freezes.proofs.cutting.cut_bank.Goals as goal

@@ -46,7 +46,7 @@ returns-in-Ok-clause-read g c =
           let room = (multis_have_room start.base (multi_history more) e.ready.at.base few).1 in
           let upto = held.1 in
           e.offset told held.0 full (pinned_from start more old.number multi k pins) (omega arith) few;
-      told = λ told few. e.begun told few;
+      told = λ told few. let was = e.begun told few in (was.told, was.in_order);
     }
 
 pub returns-in-Err-DiskFault-clause-visited : goal.returns-in-Err-DiskFault-clause-visited

@@ -1,11 +1,9 @@
-use Rattle.std.proofs.Common.{◌≡◌, ℕ, ◌+◌, ◌-◌, ◌<◌, ◌≤◌, IfErr, Result, Ok, Err, [], length, refl, sym, ap, subst, ◌∙◌, arith}
+use Rattle.std.proofs.Common.{ℕ, ◌-◌, IfErr, Result, Ok, Err, [], refl, sym, subst, ◌∙◌, arith}
 use Rattle.std.proofs.lemmas.List.{length-map}
 use Rattle.hall.specs.Calls.{view, start_of}
-use Rattle.notes.specs.Lists.{at}
 use Rattle.tx_events.specs.declared.event.By.{By}
 use Rattle.tx_events.specs.declared.record.Rec.{Rec}
 use Rattle.tx_events.specs.declared.refusal.Refusal.{Refusal}
-use Rattle.log_sections.specs.declared.appending.Appended.{Appended}
 use Rattle.tx_core.specs.Entries.{records_of}
 use Rattle.tx_core.specs.Locks.{log_lock}
 use Rattle.engine_parts.specs.Adding.{IsTruncation}

@@ -1,4 +1,4 @@
-use Rattle.std.proofs.Common.{◌≡◌, ℕ, ◌<◌, ◌≤◌, [], IfOk, IfErr, Result, Ok, Err, refl, sym, ap, subst, ◌∙◌, arith}
+use Rattle.std.proofs.Common.{◌≡◌, ◌<◌, ◌≤◌, [], IfErr, Result, Err, refl, sym, ap, subst, ◌∙◌, arith}
 use Rattle.hall.specs.Calls.{view, start_of}
 use Rattle.tx_events.specs.declared.event.By.{By}
 use Rattle.tx_events.specs.declared.record.Counters.{Counters}
@@ -7,14 +7,13 @@ use Rattle.tx_events.specs.declared.record.Rec.{Rec}
 use Rattle.tx_events.specs.declared.record.Rec.TheVariants as records
 use Rattle.tx_core.specs.Locks.{multi_lock, proc_lock}
 use Rattle.tx_core.specs.RecordsFollow.{IsMultiAnnounced}
-use Rattle.engine_parts.specs.declared.session.Session.{Session}
 use Rattle.engine_parts.specs.Adding.{IsPlain}
 use Rattle.engine_parts.specs.Calls.{next_command}
 use Rattle.engine_parts.specs.Sessions.{by_at, look_by}
 use Rattle.engine_parts.proofs.Calling.{step_counted}
 use Rattle.engine_parts.proofs.Leaving.{grows_then}
 use Rattle.engine_parts.proofs.Sectioning.{shared_adds}
-use Rattle.multi_freezes.specs.Trims.{AreCut, HasFlushed, HasTrimmed, IsTrimMet}
+use Rattle.multi_freezes.specs.Trims.{HasFlushed, HasTrimmed, IsTrimMet}
 use Rattle.multi_freezes.specs.Visits.{Visited}
 use Rattle.multi_freezes.proofs.Going.{command_kept, visited_now, visited_then, went_none}
 use Rattle.multi_freezes.proofs.Letting.{xmin_later}

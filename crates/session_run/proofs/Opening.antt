@@ -1,5 +1,5 @@
 -- A life over a new log, and one that goes on from an earlier one, are open to a part of a script.
-use Rattle.std.proofs.Common.{subst, sym, ℕ, ◌∙◌}
+use Rattle.std.proofs.Common.{[], subst, sym, ℕ, ◌∙◌}
 use Rattle.disk_core.specs.declared.log_disk.LogDisk as logs
 use Rattle.disk_core.specs.declared.page_disk.PageDisk as disks
 use Rattle.disk_core.specs.declared.media.Volumes.{Volumes}

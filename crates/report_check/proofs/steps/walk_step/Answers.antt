@@ -5,6 +5,7 @@ use Rattle.checkpoint_rules.specs.Noting.{AreNoted}
 use Rattle.report_check.specs.Passing.{IsPassed}
 use Rattle.report_check.specs.Stepping.{IsSoFar, noting_of}
 use Rattle.report_check.specs.declared.steps.SoFar.{SoFar}
+use Rattle.report_check.proofs.Judging.{same_line}
 use Rattle.report_check.proofs.Rounding.{line_there}
 use Rattle.report_check.proofs.StepByStep.{both_if, noted_next}
 use Rattle.report_check.proofs.steps.walk_step.Goals as goal

@@ -1,0 +1,2 @@
+#!/bin/bash
+while true; do /work/tools/prio.sh; sleep 5; done

@@ -24,7 +24,7 @@ pub record IsLawfulLine (f : Facts) (round multis : RoundSpan) (before : List Li
   pub standing : by_standing l.reply
       ≡ refused_by l.command (stance f.events before l.by.session) (pending f.recs f.events before l.by.session)
   pub members : by_members l.reply ≡ refused_by_members l.command
-  pub reply : IsLawfulAnswer f round multis l.by (stance f.events before l.by.session)
+  pub reply : IsLawfulAnswer f before round multis l.by (stance f.events before l.by.session)
       (pending f.recs f.events before l.by.session) l.command l.reply
   pub logged : IsLogged f l.reply
 

@@ -1,2 +1,1 @@
 pub mod MoreWords
-pub mod OneLife

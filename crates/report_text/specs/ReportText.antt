@@ -96,5 +96,5 @@ abbrev pub report_text : Report → List ℕ
 report_text r = title_text ++ lives_text r.names 1 r.lives ++ end_text
 
 -- the report up to the steps of its first life
-abbrev pub front_text : Counters → List ℕ
-front_text base = title_text ++ life_line 1 0 base
+abbrev pub front_text : ℕ → Counters → List ℕ
+front_text from base = title_text ++ life_line 1 from base

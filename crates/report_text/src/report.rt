@@ -134,10 +134,10 @@ pub fn print_report(alloc: Global, report: &Report) -> Result<Vec<u8>, Memory>
 }
 
 /// Begins the report of a run that goes on while it is printed: all up to the steps of its first life, which begins
-/// with these counters over a new log. The steps follow, then the rest of each life.
-pub fn begin_report(out: &mut Text, base: &Counters) -> Result<(), Memory>
-    ensures ok { OnOk result (out.new ≡ out.old ++ front_text base.now) }
+/// with the checkpoint of this number and these counters. The steps follow, then the rest of each life.
+pub fn begin_report(out: &mut Text, from: u64, base: &Counters) -> Result<(), Memory>
+    ensures ok { OnOk result (out.new ≡ out.old ++ front_text from base.now) }
 {
     put_title(out)?;
-    put_life_line(out, 1, 0, base)
+    put_life_line(out, 1, from, base)
 }

@@ -26,7 +26,7 @@ pub fn front_of(alloc: Global, number: u64, from: u64, base: &Counters) -> Resul
     let _oldest = base.oldest_multi.number();
     let mut text = Text::new(alloc);
     if number == 1 {
-        begin_report(&mut text, base)?;
+        begin_report(&mut text, from, base)?;
     } else {
         put_life_line(&mut text, number, from, base)?;
     }

@@ -1,0 +1,13 @@
+pub mod Ids
+pub mod Turns
+pub mod MultiFits
+pub mod Records
+pub mod Fits
+pub mod Sizes
+pub mod Reaching
+pub mod LifeSteps
+pub mod LifeTold
+pub mod Readings
+pub mod Asking
+pub mod LivesTold
+pub mod Scripts

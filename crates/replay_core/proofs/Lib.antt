@@ -18,4 +18,4 @@ mod Joining
 mod Settling
 mod Prefixed
 mod Recovering
-mod Refusing
+pub mod Refusing

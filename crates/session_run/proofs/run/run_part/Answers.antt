@@ -124,5 +124,5 @@ returns-clause-went g c = λ banks start begun done lives run count.
       part_told s banks start m.falls begun done lives c.args.life run c.args.part c.args.number c.args.crash closed text count told,
       c.in-Ok-put_life.ensures.ok,
       subst (λ (x : Cluster). IsCrashed l p x m.falls how (m.faults c.args.media.now) (m.faults c.go_on.new.media) (volumes_left closed) (m.gives c.go_on.new.media) refusal) c.cluster_of.ensures.is
-      (subst (λ volumes. IsCrashed l p c.cluster_of.result m.falls how (m.faults c.args.media.now) (m.faults c.go_on.new.media) volumes (m.gives c.go_on.new.media) refusal) c.into_volumes-volumes.ensures c.in-Err-go_on.ensures.refused),
+          (subst (λ volumes. IsCrashed l p c.cluster_of.result m.falls how (m.faults c.args.media.now) (m.faults c.go_on.new.media) volumes (m.gives c.go_on.new.media) refusal) c.into_volumes-volumes.ensures c.in-Err-go_on.ensures.refused),
     )

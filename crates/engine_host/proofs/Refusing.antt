@@ -1,14 +1,11 @@
 -- Why no engine was opened, and what its volumes are then.
-use Rattle.std.proofs.Common.{Box, Global, ℕ, zero, suc, ◌≡◌, ◌≢◌, ◌⊎◌, ◌+◌, ◌<◌, ◌≤◌, ◌++◌, ◌∷◌, [], ◌∙◌, ⊎_elim, Bool, IsNone, IsSome, IsTrue, List, None, Ok, Err, Option, Some, ap, append-nil, append_assoc, arith, drop, false, inl, inr, length, length-append, refl, remove, subst, sym, true}
+use Rattle.std.proofs.Common.{Box, Global, ℕ, zero, suc, ◌≡◌, ◌≢◌, ◌⊎◌, ◌+◌, ◌<◌, ◌≤◌, ◌++◌, ◌∷◌, [], ◌∙◌, ⊎_elim, Bool, List, None, Option, Some, ap, append-nil, append_assoc, arith, drop, false, inl, inr, length, length-append, refl, remove, subst, sym}
 use Rattle.std.proofs.lemmas.List.Elements.{filter_map-append}
 use Rattle.std.proofs.lemmas.Option.{same_Some}
 use Rattle.std.specs.List.{cons_option, filter_map, slice_get, slice_index_or}
 use Rattle.disk_core.specs.Faults.{HasRisen}
-use Rattle.disk_core.specs.Volume.{Volume}
 use Rattle.disk_core.specs.declared.log_disk.LogDisk as logs
 use Rattle.disk_core.specs.declared.page_disk.PageDisk as disks
-use Rattle.tx_core.proofs.FaultCounts.{risen_past}
-use Rattle.tx_events.specs.declared.record.Counters.{Counters}
 use Rattle.tx_events.specs.declared.record.Rec.{Rec}
 use Rattle.tx_events.specs.declared.record.Rec.TheVariants as records
 use Rattle.tx_events.specs.declared.refusal.Lock.{Lock}
@@ -18,10 +15,8 @@ use Rattle.slru_bank.specs.declared.bank.SlruBank.{SlruBank}
 use Rattle.wal_core.specs.declared.refusal.LogRefusal.{LogRefusal}
 use Rattle.wal_core.specs.declared.refusal.LogRefusal.TheVariants as log_refusals
 use Rattle.wal_core.specs.declared.wal_log.WalLog.{WalLog}
-use Rattle.wal_core.specs.Log.{IsFull, bytes_of, history_in, history_on}
-use Rattle.wal_core.specs.LogContents.{history_with}
+use Rattle.wal_core.specs.Log.{IsFull, bytes_of}
 use Rattle.wal_core.specs.LogViews.{log_disk, log_down, log_end, log_pending, log_recs}
-use Rattle.wal_core.specs.Opening.{opened}
 use Rattle.wal_records.specs.Spelling.{rec_bytes}
 use Rattle.proc_table.specs.Table.{Table}
 use Rattle.tx_core.specs.declared.entry.Entry.{Entry}
@@ -34,7 +29,7 @@ use Rattle.disk_core.specs.declared.media.Volumes.{Volumes}
 use Rattle.recoverable.specs.Clusters.{HasFailedAt}
 use Rattle.engine_host.specs.declared.refusal.OpenRefusal.{OpenRefusal}
 use Rattle.engine_host.specs.declared.refusal.OpenRefusal.TheVariants as refusals
-use Rattle.engine_host.specs.Refused.{AreInPlace, HaveDisks, IsBack, IsBankRefusal, IsBeginRefusal, IsFailed, IsRefusal, IsStartRefusal, OpensEmpty, OpensFirst, refusal_by}
+use Rattle.engine_host.specs.Refused.{AreInPlace, HaveDisks, IsBack, IsBankRefusal, IsBeginRefusal, IsFailed, IsRefusal, OpensFirst, refusal_by}
 use Rattle.std.specs.Global.{Vec}
 use Rattle.std.specs.Prelude.{vec_capacity}
 use Rattle.engine_host.specs.Stores.{HaveEach, Store, banks_of, disk_in, disks_in, lock_named, of_members, of_offsets, of_subtrans, of_xact, volumes_in}
@@ -178,29 +173,6 @@ each_store F a b c d of_members = d
 
 -- ---- the log
 
-pub old_history : (v : Volume) (first gate : ℕ) (recs : List Rec) (counters : Option Counters) (b : Bool)
-    → opened v ≡ Ok (record { history = history_with first recs counters; gate = gate })
-    → ((IsTrue b → IsNone counters) × (IsNone counters → IsTrue b)) → b ≡ false → IsSome (history_on v)
-old_history v first gate recs None b e new old = let z : false ≡ true = sym old ∙ new.1 refl in absurd cc
-old_history v first gate recs (Some c) b e new old = subst IsSome (sym (ap history_in e)) refl
-
-pub new_history : (v : Volume) (first gate : ℕ) (recs : List Rec) (counters : Option Counters) (b : Bool)
-    → opened v ≡ Ok (record { history = history_with first recs counters; gate = gate })
-    → ((IsTrue b → IsNone counters) × (IsNone counters → IsTrue b)) → b ≡ true
-    → opened v ≡ Ok (record { history = None; gate = gate })
-new_history v first gate recs None b e new is = e
-new_history v first gate recs (Some c) b e new is = let none : IsNone (Some c) = new.0 is in absurd cc
-
-pub start_refused : {D : Type 0} (g : logs.Ghosts D) (old new : D) (r : LogRefusal) (told : OpenRefusal) → told ≡ refusal_by r
-    → (IsTrue g.tells → (at : ℕ) → r ≡ log_refusals.Damaged at → opened (g.reads old) ≡ Err at)
-    → (r ≡ log_refusals.LogFault → HasRisen (g.faults old) (g.faults new))
-    → (r ≢ log_refusals.Full) × ((at : ℕ) → r ≢ log_refusals.LogDown at) → IsStartRefusal g old new told
-start_refused g old new (log_refusals.Damaged at) told is damaged fault others = subst (IsStartRefusal g old new) (sym is) (λ t. damaged t at refl)
-start_refused g old new log_refusals.LogFault told is damaged fault others = subst (IsStartRefusal g old new) (sym is) (fault refl)
-start_refused g old new (log_refusals.LogDown at) told is damaged fault others = absurd (others.1 at refl)
-start_refused g old new log_refusals.Full told is damaged fault others = absurd (others.0 refl)
-start_refused g old new log_refusals.Memory told is damaged fault others = subst (IsStartRefusal g old new) (sym is) tt
-
 drop_none : {X : Type 0} (n : ℕ) → drop {A = X} n [] ≡ []
 drop_none zero = refl
 drop_none (suc n) = refl
@@ -338,31 +310,28 @@ module _ {L P : Type 0} {l : logs.Ghosts L} {p : disks.Ghosts P} where
       is_there (parts.Members store) k none = absurd (omega (arith, k.2.1))
 
   -- a bank wasn't opened behind so many
-  pub from_bank : (c : Cluster) (old new : Volumes L P) (bank : ℕ) (rest : List (Part L P l p)) (left : BankVolumes P) (r : OpenRefusal)
-      → HaveDisks bank rest → IsBankRefusal p bank (λ k. drop bank (volumes_in k (banks_of old)).items) (λ k. (volumes_in k left).items) r
-      → ((k : Store) → (volumes_in k (banks_of new)).items ≡ disks_in k rest ++ (volumes_in k left).items) → IsRefusal l p c old new r
-  from_bank c old new bank rest left r have why put = ⊎_elim
-      (λ (m : r ≡ refusals.Memory). subst (IsRefusal l p c old new) (sym m) tt)
-      (λ k. subst (IsRefusal l p c old new) (sym k.0) (by_store why.0 k.1))
+  pub from_bank : (c : Cluster) (log : WalLog L l) (old : BankVolumes P) (new : Volumes L P) (bank : ℕ) (rest : List (Part L P l p)) (left : BankVolumes P) (r : OpenRefusal)
+      → HaveDisks bank rest → IsBankRefusal p bank (λ k. drop bank (volumes_in k old).items) (λ k. (volumes_in k left).items) r
+      → ((k : Store) → (volumes_in k (banks_of new)).items ≡ disks_in k rest ++ (volumes_in k left).items) → IsRefusal p c log old new r
+  from_bank c log old new bank rest left r have why put = ⊎_elim
+      (λ (m : r ≡ refusals.Memory). subst (IsRefusal p c log old new) (sym m) tt)
+      (λ k. subst (IsRefusal p c log old new) (sym k.0) (by_store why.0 k.1))
       why.1
     where
-      behind : (k : Store) → HasFailedAt p.faults 0 (drop bank (volumes_in k (banks_of old)).items) (volumes_in k left).items → HasFailedAt p.faults bank (volumes_in k (banks_of old)).items (volumes_in k (banks_of new)).items
-      behind k = failed_behind p bank bank (volumes_in k (banks_of old)).items (disks_in k rest) (volumes_in k left).items (volumes_in k (banks_of new)).items refl (have k) (put k)
+      behind : (k : Store) → HasFailedAt p.faults 0 (drop bank (volumes_in k old).items) (volumes_in k left).items → HasFailedAt p.faults bank (volumes_in k old).items (volumes_in k (banks_of new)).items
+      behind k = failed_behind p bank bank (volumes_in k old).items (disks_in k rest) (volumes_in k left).items (volumes_in k (banks_of new)).items refl (have k) (put k)
 
-      by_store : (k : Store) → HasFailedAt p.faults 0 (drop bank (volumes_in k (banks_of old)).items) (volumes_in k left).items → IsRefusal l p c old new (refusals.DiskFault (lock_named k bank))
+      by_store : (k : Store) → HasFailedAt p.faults 0 (drop bank (volumes_in k old).items) (volumes_in k left).items → IsRefusal p c log old new (refusals.DiskFault (lock_named k bank))
       by_store of_xact = behind of_xact
       by_store of_subtrans = behind of_subtrans
       by_store of_offsets = behind of_offsets
       by_store of_members = behind of_members
 
 module _ {L P : Type 0} {l : logs.Ghosts L} (p : disks.Ghosts P) where
-  pub from_begin : (c : Cluster) (old new : Volumes L P) (log log' : WalLog L l) (r : OpenRefusal)
-      → OpensEmpty l old.log (log_end log) → l.faults old.log ≤ l.faults (log_disk log) → new.log ≡ log_disk log'
-      → IsBeginRefusal c log log' r → IsRefusal l p c old new r
-  from_begin c old new log log' (refusals.Damaged at) opens count back k = absurd k
-  from_begin c old new log log' refusals.NotNew opens count back k = absurd k
-  from_begin c old new log log' refusals.LogFault opens count back k =
-      subst (λ (d : L). HasRisen (l.faults old.log) (l.faults d)) (sym back) (risen_past (l.faults old.log) (l.faults (log_disk log)) (l.faults (log_disk log')) count k)
-  from_begin c old new log log' (refusals.DiskFault lock) opens count back k = absurd k
-  from_begin c old new log log' refusals.Full opens count back k = (log_end log, opens, k)
-  from_begin c old new log log' refusals.Memory opens count back k = tt
+  pub from_begin : (c : Cluster) (log log' : WalLog L l) (old : BankVolumes P) (new : Volumes L P) (r : OpenRefusal)
+      → new.log ≡ log_disk log' → IsBeginRefusal c log log' r → IsRefusal p c log old new r
+  from_begin c log log' old new refusals.LogFault back k =
+      subst (λ (d : L). HasRisen (l.faults (log_disk log)) (l.faults d)) (sym back) k
+  from_begin c log log' old new (refusals.DiskFault lock) back k = absurd k
+  from_begin c log log' old new refusals.Full back k = k
+  from_begin c log log' old new refusals.Memory back k = tt

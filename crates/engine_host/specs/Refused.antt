@@ -1,5 +1,5 @@
 -- Why no engine was opened, by its volumes before and after.
-use Rattle.std.specs.Prelude.{◌≡◌, ◌⊎◌, ◌∷◌, ◌≤◌, ℕ, Bool, false, IsSome, IsTrue, List, length, None, Ok, Err, Some, remove, slice_get}
+use Rattle.std.specs.Prelude.{◌≡◌, ◌⊎◌, ◌∷◌, ◌≤◌, ℕ, Bool, false, List, length, Some, remove, slice_get}
 use Rattle.disk_core.specs.declared.log_disk.LogDisk as logs
 use Rattle.disk_core.specs.declared.media.Volumes.{Volumes}
 use Rattle.disk_core.specs.declared.page_disk.PageDisk as disks
@@ -13,9 +13,8 @@ use Rattle.slru_bank.specs.declared.bank.SlruBank.{SlruBank}
 use Rattle.wal_core.specs.declared.refusal.LogRefusal.{LogRefusal}
 use Rattle.wal_core.specs.declared.refusal.LogRefusal.TheVariants as log_refusals
 use Rattle.wal_core.specs.declared.wal_log.WalLog.{WalLog}
-use Rattle.wal_core.specs.Log.{IsFull, history_on}
+use Rattle.wal_core.specs.Log.{IsFull}
 use Rattle.wal_core.specs.LogViews.{log_disk, log_end}
-use Rattle.wal_core.specs.Opening.{opened}
 use Rattle.wal_records.specs.Spelling.{rec_bytes}
 use Rattle.tx_core.specs.declared.entry.Entry.{Entry}
 use Rattle.tx_core.specs.declared.entry.Start.{Start}
@@ -23,13 +22,14 @@ use Rattle.recoverable.specs.Clusters.{HasFailedAt}
 use Rattle.engine_parts.specs.Parts.{PartStands}
 use Rattle.engine_parts.specs.declared.part.Part.{Part}
 use Rattle.engine_host.specs.Stores.{Store, disks_in, lock_named}
+use Rattle.engine_host.specs.declared.cluster.BankVolumes.{BankVolumes}
 use Rattle.engine_host.specs.declared.cluster.Cluster.{Cluster}
 use Rattle.engine_host.specs.declared.refusal.OpenRefusal.{OpenRefusal}
 use Rattle.engine_host.specs.declared.refusal.OpenRefusal.TheVariants as refusals
 
 -- what a refusal of a log that isn't down means
 abbrev pub refusal_by : LogRefusal → OpenRefusal
-refusal_by (log_refusals.Damaged at) = refusals.Damaged at
+refusal_by (log_refusals.Damaged at) = refusals.LogFault
 refusal_by log_refusals.LogFault = refusals.LogFault
 refusal_by (log_refusals.LogDown at) = refusals.LogFault
 refusal_by log_refusals.Full = refusals.Full
@@ -38,19 +38,6 @@ refusal_by log_refusals.Memory = refusals.Memory
 -- the first checkpoint doesn't fit behind this gate
 abbrev pub HasNoRoom : Cluster → ℕ → Type 0
 HasNoRoom c gate = IsFull gate 0 (length (rec_bytes (records.Checkpoint 0 c.base)))
-
-module _ {D : Type 0} (g : logs.Ghosts D) where
-  -- a volume that tells opens to no record, with this next gate
-  abbrev pub OpensEmpty : D → ℕ → Type 0
-  OpensEmpty disk gate = IsTrue g.tells → opened (g.reads disk) ≡ Ok (record { history = None; gate = gate })
-
-  -- why no new log was opened over this volume, which came back so
-  abbrev pub IsStartRefusal : D → D → OpenRefusal → Type 0
-  IsStartRefusal old new (refusals.Damaged at) = IsTrue g.tells → opened (g.reads old) ≡ Err at
-  IsStartRefusal old new refusals.NotNew = IsTrue g.tells → IsSome (history_on (g.reads old))
-  IsStartRefusal old new refusals.LogFault = HasRisen (g.faults old) (g.faults new)
-  IsStartRefusal old new refusals.Memory = Unit {0}
-  IsStartRefusal old new refusal = ⊥
 
 module _ {D : Type 0} {g : logs.Ghosts D} where
   -- why the first checkpoint of a log isn't on disk
@@ -91,21 +78,19 @@ module _ {L P : Type 0} {l : logs.Ghosts L} {p : disks.Ghosts P} where
   abbrev pub HaveDisks : ℕ → List (Part L P l p) → Type 0
   HaveDisks banks locks = (k : Store) → length (disks_in k locks) ≡ banks
 
-module _ {L P : Type 0} (l : logs.Ghosts L) (p : disks.Ghosts P) where
-  -- Why no new engine was opened over these volumes, which came back so: the log isn't new, or has no room, a volume
-  -- failed, or memory was wanting.
-  abbrev pub IsRefusal : Cluster → Volumes L P → Volumes L P → OpenRefusal → Type 0
-  IsRefusal c old new (refusals.Damaged at) = IsTrue l.tells → opened (l.reads old.log) ≡ Err at
-  IsRefusal c old new refusals.NotNew = IsTrue l.tells → IsSome (history_on (l.reads old.log))
-  IsRefusal c old new refusals.LogFault = HasRisen (l.faults old.log) (l.faults new.log)
-  IsRefusal c old new (refusals.DiskFault (locks.Xact bank)) =
+module _ {L P : Type 0} {l : logs.Ghosts L} (p : disks.Ghosts P) where
+  -- Why no new engine was opened over this log and these volumes of banks, which came back so: the log has no room, a
+  -- volume failed, or memory was wanting.
+  abbrev pub IsRefusal : Cluster → WalLog L l → BankVolumes P → Volumes L P → OpenRefusal → Type 0
+  IsRefusal c log old new refusals.LogFault = HasRisen (l.faults (log_disk log)) (l.faults new.log)
+  IsRefusal c log old new (refusals.DiskFault (locks.Xact bank)) =
       HasFailedAt p.faults bank old.xact.items new.xact.items
-  IsRefusal c old new (refusals.DiskFault (locks.Subtrans bank)) =
+  IsRefusal c log old new (refusals.DiskFault (locks.Subtrans bank)) =
       HasFailedAt p.faults bank old.subtrans.items new.subtrans.items
-  IsRefusal c old new (refusals.DiskFault (locks.Offsets bank)) =
+  IsRefusal c log old new (refusals.DiskFault (locks.Offsets bank)) =
       HasFailedAt p.faults bank old.offsets.items new.offsets.items
-  IsRefusal c old new (refusals.DiskFault (locks.Members bank)) =
+  IsRefusal c log old new (refusals.DiskFault (locks.Members bank)) =
       HasFailedAt p.faults bank old.members.items new.members.items
-  IsRefusal c old new (refusals.DiskFault lock) = ⊥
-  IsRefusal c old new refusals.Full = (gate : ℕ) × OpensEmpty l old.log gate × HasNoRoom c gate
-  IsRefusal c old new refusals.Memory = Unit {0}
+  IsRefusal c log old new (refusals.DiskFault lock) = ⊥
+  IsRefusal c log old new refusals.Full = HasNoRoom c (log_end log)
+  IsRefusal c log old new refusals.Memory = Unit {0}

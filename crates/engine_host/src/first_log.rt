@@ -1,44 +1,17 @@
 //! The log of a new cluster (`BootStrapXLOG` of `src/backend/access/transam/xlog.c`).
-ghost use Rattle.std.specs.Prelude.{◌≡◌, ◌≤◌, IfErr, IfOk, OnOk};
+ghost use Rattle.std.specs.Prelude.{◌≡◌, ◌≤◌, IfErr, OnOk};
 ghost use Rattle.tx_events.specs.Base.{IsBase};
 ghost use Rattle.tx_events.specs.declared.record.Rec.TheVariants as records;
-ghost use Rattle.wal_core.specs.LogViews.{log_disk, log_end};
+ghost use Rattle.wal_core.specs.LogViews.{log_disk};
 ghost use Rattle.wal_records.specs.Spelling.{AreCounters};
 ghost use Rattle.engine_host.specs.Opening.{HasFirst, IsBegunLog, IsNewLog, nothing_before};
-ghost use Rattle.engine_host.specs.Refused.{IsBeginRefusal, IsStartRefusal, OpensEmpty};
+ghost use Rattle.engine_host.specs.Refused.{IsBeginRefusal};
 
 use crate::cluster::Cluster;
 use crate::refusal::{OpenRefusal, refusal_of};
 use disk_core::LogDisk;
-use std::alloc::Global;
 use tx_events::{Counters, Rec};
-use wal_core::{Started, WalLog};
-
-// Opens the log of a volume on which nothing was ever written.
-pub(crate) fn start_log<L: LogDisk + Drop>(
-    alloc: Global,
-    disk: L,
-) -> Result<WalLog<L>, (L, OpenRefusal)>
-    ensures new { IfOk result (λ log. IsNewLog log) }
-    ensures opens { IfOk result (λ log. OpensEmpty L.LogDisk disk (log_end log)) }
-    ensures count { IfOk result (λ log. L.faults disk ≤ L.faults (log_disk log)) }
-    ensures refused { IfErr result (λ e. IsStartRefusal L.LogDisk disk e.0 e.1) }
-{
-    match WalLog::start(alloc, disk) {
-        Ok(started) => {
-            let Started {
-                log,
-                recs: _,
-                first: _,
-            } = started;
-            if !log.is_new() {
-                return Err((log.into_disk(), OpenRefusal::NotNew));
-            }
-            Ok(log)
-        }
-        Err((disk, refusal)) => Err((disk, refusal_of(refusal))),
-    }
-}
+use wal_core::WalLog;
 
 // The first checkpoint.
 fn first_record(base: Counters) -> Rec

@@ -1,18 +1,20 @@
 //! The parts of a new engine.
 ghost use Rattle.std.specs.Prelude.{◌≡◌, IfErr, IfOk};
+ghost use Rattle.wal_core.specs.LogViews.{log_disk};
 ghost use Rattle.engine_host.specs.Counted.{AreCounted};
-ghost use Rattle.engine_host.specs.Opening.{AreParts, IsCluster, new_life, nothing_before};
+ghost use Rattle.engine_host.specs.Opening.{AreParts, IsCluster, IsNewLog, new_life, nothing_before};
 ghost use Rattle.engine_host.specs.Refused.{IsRefusal};
-ghost use Rattle.engine_host.specs.Stores.{HaveEach, banks_of};
+ghost use Rattle.engine_host.specs.Stores.{HaveEach};
 
 use crate::building::{add_banks, first_locks, gather, taken_apart, with_log};
 use crate::cluster::{BankVolumes, Cluster, Parts};
-use crate::first_log::{begin_log, start_log};
+use crate::first_log::begin_log;
 use crate::refusal::OpenRefusal;
 use disk_core::{LogDisk, PageDisk, Volumes};
 use std::alloc::Global;
+use wal_core::WalLog;
 
-/// Makes the parts of a new cluster over volumes of which the log's has no record (`BootStrapXLOG` of `xlog.c`,
+/// Makes the parts of a new cluster over a log without a record and the volumes of its banks (`BootStrapXLOG` of `xlog.c`,
 /// `BootStrapCLOG` of `clog.c`, `BootStrapSUBTRANS` of `subtrans.c`, `BootStrapMultiXact` of `multixact.c`). All pages of
 /// the page volumes are removed. The log's first record, which is on disk then, is a checkpoint of the base. There is a
 /// volume of each store for each bank.
@@ -22,34 +24,20 @@ use std::alloc::Global;
 /// and the checkpoint written.
 pub fn open_new<L: LogDisk + Drop, P: PageDisk + Drop>(
     alloc: Global,
-    volumes: Volumes<L, P>,
+    log: WalLog<L>,
+    volumes: BankVolumes<P>,
     cluster: Cluster,
 ) -> Result<Parts<L, P>, (Volumes<L, P>, OpenRefusal)>
     requires cluster { IsCluster cluster }
-    requires volumes { HaveEach cluster.banks (banks_of volumes) }
+    requires volumes { HaveEach cluster.banks volumes }
+    requires new { IsNewLog log }
     ensures cluster { IfOk result (λ parts. parts.cluster ≡ cluster) }
     ensures parts { IfOk result (λ parts. AreParts parts) }
     ensures start { IfOk result (λ parts. parts.start.value ≡ new_life cluster nothing_before parts.locks.items) }
-    ensures counted { IfOk result (λ parts. AreCounted L.LogDisk P.PageDisk volumes.log (banks_of volumes) parts.start.value.faults) }
-    ensures refused { IfErr result (λ e. IsRefusal L.LogDisk P.PageDisk cluster volumes e.0 e.1) }
+    ensures counted { IfOk result (λ parts. AreCounted L.LogDisk P.PageDisk (log_disk log) volumes parts.start.value.faults) }
+    ensures refused { IfErr result (λ e. IsRefusal P.PageDisk cluster log volumes e.0 e.1) }
 {
-    let Volumes {
-        log,
-        xact,
-        subtrans,
-        offsets,
-        members,
-    } = volumes;
-    let mut volumes = BankVolumes {
-        xact,
-        subtrans,
-        offsets,
-        members,
-    };
-    let log = match start_log(alloc, log) {
-        Ok(log) => log,
-        Err((log, refusal)) => return Err((with_log(log, volumes), refusal)),
-    };
+    let mut volumes = volumes;
     let mut log = match Box::new(alloc, log) {
         Ok(log) => log,
         Err(lacking) => return Err((

@@ -5,13 +5,9 @@ ghost use Rattle.engine_host.specs.Refused.{refusal_by};
 use tx_events::Lock;
 use wal_core::LogRefusal;
 
-/// Why an engine wasn't opened over new volumes.
+/// Why no engine was opened over a log without a record.
 #[derive(Clone, Copy, Debug, PartialEq, Eq)]
 pub enum OpenRefusal {
-    /// The log's volume is no lawful log, from the gate at this place on.
-    Damaged { at: u64 },
-    /// The log has records: it is that of an earlier life.
-    NotNew,
     /// The log's volume failed.
     LogFault,
     /// The page volume behind this lock failed.
@@ -22,13 +18,14 @@ pub enum OpenRefusal {
     Memory,
 }
 
-// What a refusal of the log means here. A log that was just started isn't down.
+// What a refusal of the log means here. A log that was opened isn't damaged, and one that was just opened isn't down.
 pub(crate) fn refusal_of(refusal: LogRefusal) -> OpenRefusal
     ensures { result ≡ refusal_by refusal }
 {
     match refusal {
-        LogRefusal::Damaged { at } => OpenRefusal::Damaged { at },
-        LogRefusal::LogFault | LogRefusal::LogDown { .. } => OpenRefusal::LogFault,
+        LogRefusal::LogFault | LogRefusal::LogDown { .. } | LogRefusal::Damaged { .. } => {
+            OpenRefusal::LogFault
+        }
         LogRefusal::Full => OpenRefusal::Full,
         LogRefusal::Memory => OpenRefusal::Memory,
     }

@@ -2,9 +2,10 @@ mod Living
 pub mod Counts
 mod Followed
 mod Reopened
-mod GoingOn
+pub mod GoingOn
 mod LogEnds
 mod Fitting
 mod SetsInRoom
 mod MembersTails
 mod MultisFollowed
+mod Finding

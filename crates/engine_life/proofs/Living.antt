@@ -1,17 +1,14 @@
 -- What a life leaves, and why none was opened.
-use Rattle.std.proofs.Common.{ℕ, ◌≡◌, ◌++◌, ◌∙◌, Err, IfErr, IfOk, List, Ok, Result, ap, append_assoc, inl, inr}
+use Rattle.std.proofs.Common.{ℕ, ◌≡◌, ◌++◌, ◌∙◌, Err, IfErr, IfOk, List, Ok, Result, ap, append_assoc, inr}
 use Rattle.disk_core.specs.declared.log_disk.LogDisk as logs
 use Rattle.disk_core.specs.declared.page_disk.PageDisk as disks
 use Rattle.disk_core.specs.declared.media.Volumes.{Volumes}
 use Rattle.disk_core.specs.Images.{Only}
-use Rattle.tx_events.specs.declared.refusal.Lock.TheVariants as locks
 use Rattle.engine_host.specs.declared.cluster.Cluster.{Cluster}
-use Rattle.engine_host.specs.declared.refusal.OpenRefusal.{OpenRefusal}
-use Rattle.engine_host.specs.declared.refusal.OpenRefusal.TheVariants as refusals
-use Rattle.engine_host.specs.Refused.{IsRefusal}
 use Rattle.engine_life.specs.declared.refusal.NoLife.{NoLife}
 use Rattle.engine_life.specs.declared.refusal.NoLife.TheVariants as no_lives
-use Rattle.engine_life.specs.Refusals.{IsNoLife, IsUnopened, refusal_by}
+use Rattle.engine_life.specs.FirstLives.{with_banks}
+use Rattle.engine_life.specs.Refusals.{IsNoLife, IsUnopened}
 
 -- one text behind the other
 pub behind_text : (out history multis log crash a b c d : List ℕ) → a ≡ out ++ history → b ≡ a ++ multis → c ≡ b ++ log → d ≡ c ++ crash
@@ -31,25 +28,10 @@ of_oks (Ok x) P Q R f k m = f x k m
 of_oks (Err e) P Q R f k m = tt
 
 module _ {L P : Type 0} (l : logs.Ghosts L) (p : disks.Ghosts P) where
-  pub unopened : (c : Cluster) (first : ℕ → Volumes L P → Type 0) (before now : ℕ) (gives : Volumes L P → Type 0) (old new : Volumes L P) (r : NoLife)
-      → first c.banks old → Only new gives → IsNoLife l p c old new r → IsUnopened l p c first before now gives r
-  unopened c first before now gives old new (no_lives.Damaged at) given only k = (old, new, given, only, k)
-  unopened c first before now gives old new no_lives.OldLog given only k = (old, new, given, only, k)
-  unopened c first before now gives old new no_lives.Device given only k = inr (old, new, given, only, k)
-  unopened c first before now gives old new no_lives.Full given only k = (old, new, given, only, k)
-  unopened c first before now gives old new no_lives.Memory given only k = tt
-
-  -- why the engine wasn't opened says why no life was
-  pub no_life : (c : Cluster) (old new : Volumes L P) (r : OpenRefusal) → IsRefusal l p c old new r → IsNoLife l p c old new (refusal_by r)
-  no_life c old new (refusals.Damaged at) k = k
-  no_life c old new refusals.NotNew k = k
-  no_life c old new refusals.LogFault k = inl k
-  no_life c old new (refusals.DiskFault (locks.Xact bank)) k = inr (inl (bank, k))
-  no_life c old new (refusals.DiskFault (locks.Subtrans bank)) k = inr (inr (inl (bank, k)))
-  no_life c old new (refusals.DiskFault (locks.Offsets bank)) k = inr (inr (inr (inl (bank, k))))
-  no_life c old new (refusals.DiskFault (locks.Members bank)) k = inr (inr (inr (inr (bank, k))))
-  no_life c old new (refusals.DiskFault locks.Log) k = absurd k
-  no_life c old new (refusals.DiskFault locks.Proc) k = absurd k
-  no_life c old new (refusals.DiskFault locks.Multi) k = absurd k
-  no_life c old new refusals.Full k = k
-  no_life c old new refusals.Memory k = tt
+  -- why no life was opened doesn't go by the number of banks
+  pub unopened : (c : Cluster) (banks : ℕ) (first : ℕ → Volumes L P → Type 0) (before now : ℕ) (gives : Volumes L P → Type 0) (old new : Volumes L P) (r : NoLife)
+      → first c.banks old → Only new gives → IsNoLife l p (with_banks c banks) old new r → IsUnopened l p c first before now gives r
+  unopened c banks first before now gives old new (no_lives.Damaged at) given only k = (old, new, given, only, k)
+  unopened c banks first before now gives old new no_lives.Device given only k = inr (old, new, given, only, k)
+  unopened c banks first before now gives old new no_lives.Full given only k = (old, new, given, only, k)
+  unopened c banks first before now gives old new no_lives.Memory given only k = tt

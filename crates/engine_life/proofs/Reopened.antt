@@ -76,14 +76,14 @@ state_small bytes place = bits_small (slice_index bytes (place / 4)) (place % 4)
 
 module _ {L P : Type 0} (l : logs.Ghosts L) (p : disks.Ghosts P) where
   -- what reads give of the volumes: a crash may leave just that
-  abbrev pages_read : Option P → Pages
+  abbrev pub pages_read : Option P → Pages
   pages_read None = λ q. None
   pages_read (Some disk) = p.pages disk
 
-  abbrev on_banks : List P → ℕ → Pages
+  abbrev pub on_banks : List P → ℕ → Pages
   on_banks volumes bank = pages_read (slice_get volumes bank)
 
-  abbrev as_read : L → List P → List P → List P → Left
+  abbrev pub as_read : L → List P → List P → List P → Left
   as_read log xact offsets members = record {
     log = l.reads log;
     xact = on_banks xact;
@@ -94,7 +94,7 @@ module _ {L P : Type 0} (l : logs.Ghosts L) (p : disks.Ghosts P) where
   store_as_read : (volumes : List P) → ((disk : P) → p.images disk (p.pages disk)) → AreLeft l p volumes (on_banks volumes)
   store_as_read volumes each bank disk at = subst (λ (o : Option P). p.images disk (pages_read o)) (sym at) (each disk)
 
-  left_as_read : (log : L) (xact offsets members : List P) → l.images log (l.reads log) → ((disk : P) → p.images disk (p.pages disk)) → IsLeft l p log xact offsets members (as_read log xact offsets members)
+  pub left_as_read : (log : L) (xact offsets members : List P) → l.images log (l.reads log) → ((disk : P) → p.images disk (p.pages disk)) → IsLeft l p log xact offsets members (as_read log xact offsets members)
   left_as_read log xact offsets members reads each = record {
     log_image = reads;
     states = store_as_read xact each;

@@ -2,3 +2,4 @@ pub mod Refusals
 pub mod Lives
 pub mod Reopening
 pub mod NextLives
+pub mod FirstLives

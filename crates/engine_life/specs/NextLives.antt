@@ -1,25 +1,20 @@
--- How a life goes on from an earlier one, over a media, and why none does.
-use Rattle.std.specs.Prelude.{◌≡◌, ℕ, IsTrue, List, length}
+-- How a life goes on from an earlier one, over a media, and what is left where none does.
+use Rattle.std.specs.Prelude.{◌≡◌, ◌⊎◌, ℕ, IsTrue, List, length}
 use Rattle.disk_core.specs.declared.log_disk.LogDisk as logs
 use Rattle.disk_core.specs.declared.page_disk.PageDisk as disks
 use Rattle.disk_core.specs.declared.media.Volumes.{Volumes}
-use Rattle.disk_core.specs.Faults.{HasRisen}
-use Rattle.disk_core.specs.Images.{Only}
 use Rattle.disk_core.specs.Media.{AllCrashed, LogCrashed, PagesCrashed}
 use Rattle.recoverable.specs.Fit.{KeptLog}
 use Rattle.recoverable.specs.Whole.{BeganRight}
-use Rattle.replay_core.specs.Refused.{IsRefusal}
-use Rattle.replay_core.specs.declared.refusal.RecoverRefusal.{RecoverRefusal}
-use Rattle.replay_core.specs.declared.refusal.RecoverRefusal.TheVariants as refusals
 use Rattle.engine_host.specs.declared.cluster.Cluster.{Cluster}
 use Rattle.engine_host.specs.Counted.{AreCounted}
 use Rattle.engine_host.specs.Opening.{life_from}
 use Rattle.engine_host.specs.Stores.{banks_of}
 use Rattle.engine_life.specs.declared.life.OpenLife.{OpenLife}
-use Rattle.engine_life.specs.declared.refusal.NotReopened.{NotReopened}
-use Rattle.engine_life.specs.declared.refusal.NotReopened.TheVariants as not_reopened
+use Rattle.engine_life.specs.declared.refusal.NoLife.{NoLife}
+use Rattle.engine_life.specs.declared.refusal.NoLife.TheVariants as no_lives
 use Rattle.engine_life.specs.Lives.{FitsLog, IsBegun}
-use Rattle.engine_life.specs.Reopening.{IsBaseAt, LeavesLog, behind}
+use Rattle.engine_life.specs.Reopening.{IsBaseAt, LeavesLog, OpensUpTo, behind}
 
 module _ {L P : Type 0} (l : logs.Ghosts L) (p : disks.Ghosts P) where
   -- volumes that tell what they hold fit this log
@@ -32,27 +27,21 @@ module _ {L P : Type 0} (l : logs.Ghosts L) (p : disks.Ghosts P) where
       → (IsTrue l.tells → IsTrue p.tells → AllCrashed (LogCrashed l.reads l.images l.faults) (PagesCrashed p.pages p.images p.faults) old new)
       → MayGoOn kept old → MayGoOn kept new
 
-  -- but where memory was wanting they fit what a later recovery may go on from
-  abbrev pub WhenRefused : KeptLog → Volumes L P → Volumes L P → RecoverRefusal → Type 0
-  WhenRefused kept old new refusals.Memory = Unit {0}
+  -- what volumes became fits what a later recovery may go on from, but where memory was wanting
+  abbrev pub WhenRefused : KeptLog → Volumes L P → Volumes L P → NoLife → Type 0
+  WhenRefused kept old new no_lives.Memory = Unit {0}
   WhenRefused kept old new refusal = LeavesLog l p old new kept
 
-  -- So of a media, which gave these volumes and gives those. Where nothing was mounted it gives what it gave.
-  abbrev pub StayFit : KeptLog → (Volumes L P → Type 0) → (Volumes L P → Type 0) → NotReopened → Type 0
-  StayFit kept gave gives (not_reopened.Unrecovered refusal) =
-      (new : Volumes L P) → gives new → (old : Volumes L P) × gave old × WhenRefused kept old new refusal
-  StayFit kept gave gives refusal = (new : Volumes L P) → gives new → gave new
-
-  -- Why no life goes on over a media with these counts of faults, which gave these volumes and gives those.
-  abbrev pub IsNotReopened : ℕ → ℕ → (Volumes L P → Type 0) → (Volumes L P → Type 0) → NotReopened → Type 0
-  IsNotReopened before now gave gives not_reopened.Device = HasRisen before now
-  IsNotReopened before now gave gives not_reopened.Memory = Unit {0}
-  IsNotReopened before now gave gives (not_reopened.Unrecovered refusal) =
-      (old new : Volumes L P) × gave old × Only new gives × IsRefusal l p old new refusal
+  -- So of a media, which gave these volumes and gives those, if those that were mounted fitted the log. Where none were
+  -- it gives what it gave.
+  abbrev pub StayFit : KeptLog → (Volumes L P → Type 0) → (Volumes L P → Type 0) → NoLife → Type 0
+  StayFit kept gave gives refusal = (new : Volumes L P) → gives new
+      → gave new ⊎ ((old : Volumes L P) × gave old × (FitsLog l p kept old → WhenRefused kept old new refusal))
 
 module _ {L P : Type 0} {l : logs.Ghosts L} {p : disks.Ghosts P} where
   -- The life goes on over these volumes. Where they tell what they hold, and so fit this log, it goes on from the base at a
-  -- number of the log, from the flushed one to its end; where they don't, nothing is known of what was before. It begins at
+  -- number of the log, from the flushed one to its end; where they don't, nothing is known of what was before. That number
+  -- is the one behind the last record to which the log's volume opens, if this tells what it holds. The life begins at
   -- counts of faults that aren't below those of the volumes.
   pub record GoesOnLife (kept : KeptLog) (sessions : ℕ) (volumes : Volumes L P) (life : OpenLife L P l p) : Type 0 where
     pub number : ℕ
@@ -60,6 +49,7 @@ module _ {L P : Type 0} {l : logs.Ghosts L} {p : disks.Ghosts P} where
     pub banks : cluster.banks ≡ length volumes.xact.items
     pub sessions_are : cluster.sessions ≡ sessions
     pub base : IsTrue p.tells → IsBaseAt kept number cluster.base
+    pub opened_to : IsTrue l.tells → OpensUpTo number cluster.base (l.reads volumes.log)
     pub faults : List ℕ
     pub counted : AreCounted l p volumes.log (banks_of volumes) faults
     pub begun : IsBegun cluster (life_from cluster (behind p.tells kept number) faults) life

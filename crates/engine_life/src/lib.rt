@@ -2,11 +2,12 @@
 //! `docs/ENGINE.md`.
 #![tactic(auto)]
 
+mod begun;
 mod closed;
 mod ending;
 pub mod laws;
 mod life;
-mod next_life;
+mod old_life;
 mod old_parts;
 mod opened;
 mod refusal;
@@ -15,8 +16,7 @@ mod sessions;
 pub use closed::{ClosedLife, close_life};
 pub use ending::end_life;
 pub use life::{Aside, OpenLife};
-pub use next_life::reopen_life;
 pub use old_parts::open_old;
 pub use opened::open_life;
-pub use refusal::{NoLife, NotReopened};
+pub use refusal::NoLife;
 pub use sessions::new_sessions;

@@ -1,22 +1,23 @@
 //! The parts of an engine over a cluster in which a life ran before.
-ghost use Rattle.std.specs.Prelude.{◌≡◌, ◌≤◌, ℕ, [], false, IfErr, IfOk, IsTrue, length};
+ghost use Rattle.std.specs.Prelude.{◌≡◌, ◌≤◌, [], false, IfErr, IfOk, IsTrue, length};
 ghost use Rattle.recoverable.specs.Fit.{KeptLog};
 ghost use Rattle.recoverable.specs.Whole.{BeganRight};
-ghost use Rattle.wal_core.specs.LogViews.{log_disk};
+ghost use Rattle.wal_core.specs.LogViews.{log_disk, log_next};
 ghost use Rattle.replay_core.specs.Begun.{IsSettled};
+ghost use Rattle.replay_core.specs.Opened.{IsFound};
 ghost use Rattle.replay_core.specs.Refused.{IsRefusal};
 ghost use Rattle.replay_core.specs.declared.refusal.RecoverRefusal.TheVariants as refusals;
 ghost use Rattle.engine_parts.specs.Sessions.{AreGivenBefore};
 ghost use Rattle.engine_host.specs.Counted.{AreCounted};
 ghost use Rattle.engine_host.specs.Opening.{AreParts, Beginning, MayBeginOver, life_from, new_life};
 ghost use Rattle.engine_host.specs.Stores.{Store, banks_of, volumes_in};
-ghost use Rattle.engine_life.specs.Lives.{FitsLog};
-ghost use Rattle.engine_life.specs.Reopening.{IsBaseAt, KeepsStart, LeavesLog, banks_in, behind, cluster_over};
+ghost use Rattle.engine_life.specs.NextLives.{MayGoOn};
+ghost use Rattle.engine_life.specs.Reopening.{IsBaseAt, KeepsStart, LeavesLog, banks_in, behind, cluster_over, volumes_over};
 
-use crate::opened::is_full_multi;
+use crate::begun::is_full_multi;
 use disk_core::{LogDisk, PageDisk, Volumes};
 use engine_host::{BankVolumes, Cluster, Parts, open_begun};
-use replay_core::{RecoverRefusal, Recovered, recover};
+use replay_core::{Found, RecoverRefusal, Recovered, recover};
 use std::alloc::Global;
 
 // The parts over what a recovery left. Only memory may be wanting; the volumes come back then.
@@ -72,15 +73,18 @@ fn open_recovered<L: LogDisk + Drop, P: PageDisk + Drop>(
     }
 }
 
-/// Recovers a cluster and makes its parts (`StartupXLOG` of `xlog.c`, `StartupCLOG` of `clog.c`, `StartupSUBTRANS` of
-/// `subtrans.c`). There is one volume of each store for each bank, 1 to 16, and there may be so many sessions, at most 64.
+/// Recovers a cluster of which the log was found on a volume, and makes its parts (`StartupXLOG` of `xlog.c`,
+/// `StartupCLOG` of `clog.c`, `StartupSUBTRANS` of `subtrans.c`). There is one volume of each store for each bank, 1 to 16,
+/// and there may be so many sessions, at most 64.
 ///
-/// The volumes fit a log, which contracts alone see. The parts stand for lists without entries, in a life that goes on
-/// from the base at a number of that log, from the flushed one to its end: so what was committed below that number is
-/// committed. Of volumes that don't tell what they hold, nothing is known to be committed.
+/// Where the pages tell what they hold, the volumes fit a log, which contracts alone see. The parts stand for lists without
+/// entries, in a life that goes on behind the last record that was found: from the base at its next number, which is one
+/// from the flushed number of that log to its end. So what was committed below it is committed. Of volumes that don't tell
+/// what they hold, nothing is known to be committed.
 pub fn open_old<L: LogDisk + Drop, P: PageDisk + Drop>(
     alloc: Global,
-    volumes: Volumes<L, P>,
+    found: Found<L>,
+    volumes: BankVolumes<P>,
     sessions: u32,
 ) -> Result<Parts<L, P>, (Volumes<L, P>, RecoverRefusal)>
     ghost kept: { KeptLog }
@@ -89,21 +93,28 @@ pub fn open_old<L: LogDisk + Drop, P: PageDisk + Drop>(
     requires as_many { (length volumes.subtrans.items ≡ length volumes.xact.items)
         × (length volumes.offsets.items ≡ length volumes.xact.items) × (length volumes.members.items ≡ length volumes.xact.items) }
     requires sessions { sessions ≤ 64 }
-    requires fits { IsTrue P.tells → IsTrue L.tells × FitsLog L.LogDisk P.PageDisk kept volumes }
+    requires fits { (log : L) × IsFound log found × MayGoOn L.LogDisk P.PageDisk kept (volumes_over log volumes) }
     ensures cluster { IfOk result (λ parts. (parts.cluster.banks ≡ length volumes.xact.items) × (parts.cluster.sessions ≡ sessions)) }
     ensures parts { IfOk result (λ parts. AreParts parts) }
-    ensures start { IfOk result (λ parts. (number : ℕ)
-        × (parts.start.value ≡ new_life parts.cluster (behind P.tells kept number) parts.locks.items)
-        × (IsTrue P.tells → IsBaseAt kept number parts.cluster.base)) }
-    ensures counted { IfOk result (λ parts. AreCounted L.LogDisk P.PageDisk volumes.log (banks_of volumes)
+    ensures start { IfOk result (λ parts. (parts.start.value ≡ new_life parts.cluster (behind P.tells kept (log_next found.log)) parts.locks.items)
+        × (parts.cluster.base ≡ found.base) × (IsTrue P.tells → IsBaseAt kept (log_next found.log) parts.cluster.base)) }
+    ensures counted { (log : L) → IsFound log found → IfOk result (λ parts. AreCounted L.LogDisk P.PageDisk log volumes
         parts.start.value.faults) }
     // That is a base from which a life may start, so the laws on its volumes hold of it (`recoverable`).
     ensures right { IsTrue P.tells → IfOk result (λ parts. BeganRight parts.start.value) }
     // After an error the volumes fit what a later recovery may go on from.
-    ensures again { IsTrue P.tells → IfErr result (λ e. LeavesLog L.LogDisk P.PageDisk volumes e.0 kept) }
-    ensures refused { IfErr result (λ e. IsRefusal L.LogDisk P.PageDisk volumes e.0 e.1) }
+    ensures again { IsTrue P.tells → (log : L) → IsFound log found
+        → IfErr result (λ e. LeavesLog L.LogDisk P.PageDisk (volumes_over log volumes) e.0 kept) }
+    ensures refused { (log : L) → IsFound log found
+        → IfErr result (λ e. IsRefusal L.LogDisk P.PageDisk (volumes_over log volumes) e.0 e.1) }
 {
-    match recover(alloc, volumes) {
+    let BankVolumes {
+        xact,
+        subtrans,
+        offsets,
+        members,
+    } = volumes;
+    match recover(alloc, found, xact, subtrans, offsets, members) {
         Ok(recovered) => {
             is_full_multi(&recovered.base);
             open_recovered(alloc, recovered, sessions)

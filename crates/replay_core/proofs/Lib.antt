@@ -13,10 +13,9 @@ pub mod Rows
 mod BankRows
 mod StoreRows
 mod LaterLogs
-mod Locating
+pub mod Locating
 mod Joining
 mod Settling
 mod Prefixed
-mod Openings
 mod Recovering
-mod Refusing
+pub mod Refusing

@@ -35,7 +35,6 @@ pages_of v = record { xact = v.xact; subtrans = v.subtrans; offsets = v.offsets;
 module _ {L P : Type 0} (l : logs.Ghosts L) (p : disks.Ghosts P) (old new : Volumes L P) (found : Found L l) (is : IsFound {g = l} old.log found) (log' : WalLog L l) (same : new.log ≡ log_disk log') where
   settle_refused : (e : RecoverRefusal) → IsSettleRefusal (log_next found.log) found.base found.log log' e → IsRefusal l p old new e
   settle_refused (refusals.Damaged at) h = absurd h
-  settle_refused refusals.NoRecord h = absurd h
   settle_refused refusals.LogFault h = subst (λ z. HasRisen (l.faults old.log) (l.faults z)) (sym same) (risen_since (l.faults old.log) (l.faults (log_disk found.log)) (l.faults (log_disk log')) is.count h)
   settle_refused (refusals.DiskFault lock) h = absurd h
   settle_refused refusals.Full h = λ told. record {

@@ -13,6 +13,8 @@ use Rattle.wal_core.specs.LogContents.{ComesTo}
 use Rattle.wal_core.specs.LogViews.{KeepsAll, log_counters, log_disk, log_down, log_end, log_first, log_flushed, log_next, log_pending, log_recs}
 use Rattle.wal_core.specs.Opening.{opened}
 use Rattle.replay_core.specs.declared.found.Found.{Found}
+use Rattle.replay_core.specs.declared.found.FoundLog.{FoundLog}
+use Rattle.replay_core.specs.declared.found.FoundLog.TheVariants as found_logs
 
 module _ {D : Type 0} {g : logs.Ghosts D} where
   -- a log that was just started, with these counters
@@ -32,6 +34,23 @@ module _ {D : Type 0} {g : logs.Ghosts D} where
     pub count : g.faults disk ≤ g.faults (log_disk found.log)
     pub opens : IsTrue g.tells → opened (g.reads disk) ≡ Ok (record { history = Some (record { first = log_first found.log; recs = found.recs; counters = found.base }); gate = log_end found.log })
     pub keeps : IsTrue g.tells → KeepsAll (log_first found.log) found.recs g.images found.log
+
+  -- It is that of this volume, which has no record.
+  pub record IsFoundNew (disk : D) (log : WalLog D g) : Type 0 where
+    pub recs : log_recs log ≡ []
+    pub next : log_next log ≡ 0
+    pub first : log_first log ≡ 0
+    pub flushed : log_flushed log ≡ 0
+    pub up : log_down log ≡ None
+    pub counters : log_counters log ≡ None
+    pub count : g.faults disk ≤ g.faults (log_disk log)
+    pub opens : IsTrue g.tells → opened (g.reads disk) ≡ Ok (record { history = None; gate = log_end log })
+    pub keeps : IsTrue g.tells → KeepsAll 0 [] g.images log
+
+  -- so it was found
+  abbrev pub IsFoundLog : D → FoundLog D g → Type 0
+  IsFoundLog disk (found_logs.New log) = IsFoundNew disk log
+  IsFoundLog disk (found_logs.Old found) = IsFound disk found
 
   -- with the checkpoint behind its records, which isn't flushed yet
   pub record HasCheckpoint (number : ℕ) (base : Counters) (old log : WalLog D g) : Type 0 where

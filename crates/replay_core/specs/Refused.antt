@@ -1,5 +1,6 @@
 -- Why a cluster wasn't recovered, by its volumes before and after.
 use Rattle.std.specs.Prelude.{◌≡◌, ℕ, IsTrue, Option, None, Some, Ok, Err, length}
+use Rattle.std.specs.Global.{Vec}
 use Rattle.disk_core.specs.Faults.{HasRisen}
 use Rattle.disk_core.specs.Volume.{Volume}
 use Rattle.disk_core.specs.declared.log_disk.LogDisk as logs
@@ -43,10 +44,9 @@ refusal_by log_refusals.Full = refusals.Full
 refusal_by log_refusals.Memory = refusals.Memory
 
 module _ {D : Type 0} (g : logs.Ghosts D) where
-  -- why the log of this volume isn't one to recover from; the volume came back so
+  -- why the log of this volume wasn't opened; the volume came back so
   abbrev pub IsOpenRefusal : D → D → RecoverRefusal → Type 0
   IsOpenRefusal old new (refusals.Damaged at) = IsTrue g.tells → opened (g.reads old) ≡ Err at
-  IsOpenRefusal old new refusals.NoRecord = IsTrue g.tells → IsNewLog (g.reads old)
   IsOpenRefusal old new refusals.LogFault = HasRisen (g.faults old) (g.faults new)
   IsOpenRefusal old new refusals.Memory = Unit {0}
   IsOpenRefusal old new refusal = ⊥
@@ -59,10 +59,14 @@ module _ {D : Type 0} {g : logs.Ghosts D} where
   IsSettleRefusal number base old new refusals.Memory = Unit {0}
   IsSettleRefusal number base old new refusal = ⊥
 
+-- a log's volume with those of the banks
+abbrev pub volumes_of : {L P : Type 0} → L → Vec P → Vec P → Vec P → Vec P → Volumes L P
+volumes_of log xact subtrans offsets members = record { log = log; xact = xact; subtrans = subtrans; offsets = offsets; members = members }
+
 module _ {L P : Type 0} (l : logs.Ghosts L) (p : disks.Ghosts P) where
+  -- why a cluster with these volumes wasn't recovered, of which the log was opened; they came back so
   abbrev pub IsRefusal : Volumes L P → Volumes L P → RecoverRefusal → Type 0
-  IsRefusal old new (refusals.Damaged at) = IsTrue l.tells → opened (l.reads old.log) ≡ Err at
-  IsRefusal old new refusals.NoRecord = IsTrue l.tells → IsNewLog (l.reads old.log)
+  IsRefusal old new (refusals.Damaged at) = ⊥
   IsRefusal old new refusals.LogFault = HasRisen (l.faults old.log) (l.faults new.log)
   IsRefusal old new (refusals.DiskFault (locks.Xact bank)) = HasFailedAt p.faults bank old.xact.items new.xact.items
   IsRefusal old new (refusals.DiskFault (locks.Subtrans bank)) = HasFailedAt p.faults bank old.subtrans.items new.subtrans.items

@@ -20,6 +20,7 @@ mod spans;
 mod volumes;
 
 pub use cluster::Recovered;
+pub use found::{Found, FoundLog, find_log};
 pub use recovery::recover;
 pub use refusal::RecoverRefusal;
 pub use replay_multis::{RestoreRefusal, Share};

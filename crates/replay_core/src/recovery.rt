@@ -4,19 +4,19 @@ ghost use Rattle.recoverable.specs.Fit.{KeptLog};
 ghost use Rattle.log_bases.specs.LifeBase.{committed_in};
 ghost use Rattle.replay_core.specs.Redo.{AreNear};
 ghost use Rattle.replay_core.specs.Restore.{IsWindow};
-ghost use Rattle.wal_core.specs.LogViews.{log_disk};
+ghost use Rattle.wal_core.specs.LogViews.{log_disk, log_next};
 ghost use Rattle.replay_core.specs.Banks.{NoCountFell};
 ghost use Rattle.replay_core.specs.Begun.{AreEmpty, AreOnDisk, IsSettled};
-ghost use Rattle.replay_core.specs.Opened.{IsOpen};
+ghost use Rattle.replay_core.specs.Opened.{IsFound, IsOpen};
 ghost use Rattle.replay_core.specs.PageVolumes.{AreFew};
-ghost use Rattle.replay_core.specs.Refused.{IsRefusal};
+ghost use Rattle.replay_core.specs.Refused.{IsRefusal, volumes_of};
 ghost use Rattle.replay_core.specs.Replay.{Replays};
 ghost use Rattle.replay_core.specs.Spans.{AreMultisInReach};
 ghost use Rattle.recoverable.specs.Clusters.{Fit};
 ghost use Rattle.replay_core.specs.Volumes.{LeavesFit, RecoversLog};
 
 use crate::cluster::Recovered;
-use crate::found::{Found, open_log};
+use crate::found::Found;
 use crate::pages::restore_pages;
 use crate::refusal::RecoverRefusal;
 use crate::settle::settle;
@@ -26,60 +26,57 @@ use std::alloc::Global;
 use tx_events::{Counters, Rec};
 use wal_core::WalLog;
 
-/// Recovers a cluster (`StartupXLOG`): the log is opened; the commits among its records are put on the pages of pg_xact,
-/// and what lies past the next id is cleared; its multixacts are put on the pages of the offsets and the members, and what
-/// no record tells of is cleared; pg_subtrans is emptied; then a checkpoint is flushed, alone in its batch, and the log
-/// before it forgotten. After an error the volumes come back, and may be recovered again.
+/// Recovers a cluster of which the log was found on a volume (`StartupXLOG`): the commits among its records are put on the
+/// pages of pg_xact, and what lies past the next id is cleared; its multixacts are put on the pages of the offsets and the
+/// members, and what no record tells of is cleared; pg_subtrans is emptied; then a checkpoint is flushed, alone in its
+/// batch, and the log before it forgotten. After an error the volumes come back, and may be recovered again.
 ///
 /// There is one volume of each store for each bank, 1 to 16.
 pub fn recover<L: LogDisk + Drop, P: PageDisk + Drop>(
     alloc: Global,
-    volumes: Volumes<L, P>,
+    found: Found<L>,
+    xact: Vec<P>,
+    subtrans: Vec<P>,
+    offsets: Vec<P>,
+    members: Vec<P>,
 ) -> Result<Recovered<L, P>, (Volumes<L, P>, RecoverRefusal)>
-    requires some { 1 ≤ length volumes.xact.items }
-    requires few { length volumes.xact.items ≤ 16 }
-    requires as_many { (length volumes.subtrans.items ≡ length volumes.xact.items)
-        × (length volumes.offsets.items ≡ length volumes.xact.items) × (length volumes.members.items ≡ length volumes.xact.items) }
+    requires some { 1 ≤ length xact.items }
+    requires few { length xact.items ≤ 16 }
+    requires as_many { (length subtrans.items ≡ length xact.items) × (length offsets.items ≡ length xact.items)
+        × (length members.items ≡ length xact.items) }
+    requires found { (volume : L) × IsFound volume found }
     // From volumes that fit a log the base at a number from the flushed one to its end is answered, and the volumes are
     // left as a life may begin with them. Any later recovery from there answers the same, and the log keeps the list that
     // it goes by.
-    ensures recovers { IsTrue L.tells → IsTrue P.tells → IfOk result (λ r. (log : KeptLog)
-        → Fit L.LogDisk P.PageDisk log volumes.log volumes.xact.items volumes.offsets.items volumes.members.items
-        → RecoversLog L.LogDisk P.PageDisk volumes.log volumes.xact.items r.log r.xact.items r.offsets.items r.members.items r.from r.base log) }
+    ensures recovers { (volume : L) → IsFound volume found → IsTrue L.tells → IsTrue P.tells → IfOk result (λ r. (log : KeptLog)
+        → Fit L.LogDisk P.PageDisk log volume xact.items offsets.items members.items
+        → RecoversLog L.LogDisk P.PageDisk volume xact.items r.log r.xact.items r.offsets.items r.members.items r.from r.base log) }
     // After an error they fit, and a later recovery answers what this one might have answered.
-    ensures again { IsTrue L.tells → IsTrue P.tells → IfErr result (λ e. (log : KeptLog)
-        → Fit L.LogDisk P.PageDisk log volumes.log volumes.xact.items volumes.offsets.items volumes.members.items
-        → LeavesFit L.LogDisk P.PageDisk volumes.xact.items e.0.log e.0.xact.items e.0.offsets.items e.0.members.items log) }
+    ensures again { (volume : L) → IsFound volume found → IsTrue L.tells → IsTrue P.tells → IfErr result (λ e. (log : KeptLog)
+        → Fit L.LogDisk P.PageDisk log volume xact.items offsets.items members.items
+        → LeavesFit L.LogDisk P.PageDisk xact.items e.0.log e.0.xact.items e.0.offsets.items e.0.members.items log) }
+    // The base has the counters behind all records that were found, and the checkpoint the number that comes next.
+    ensures all { IfOk result (λ r. (r.from ≡ log_next found.log) × (r.base ≡ found.base)) }
     ensures log { IfOk result (λ r. IsSettled r.from r.base r.log) }
     ensures states { IsTrue P.tells → IfOk result (λ r. AreOnDisk P.PageDisk r.xact.items) }
     ensures parents { IsTrue P.tells → IfOk result (λ r. AreEmpty P.PageDisk r.subtrans.items) }
     ensures multis { IsTrue P.tells → IfOk result (λ r. AreOnDisk P.PageDisk r.offsets.items × AreOnDisk P.PageDisk r.members.items) }
-    ensures banks { IfOk result (λ r. (length r.xact.items ≡ length volumes.xact.items) × (length r.subtrans.items ≡ length volumes.subtrans.items)
-        × (length r.offsets.items ≡ length volumes.offsets.items) × (length r.members.items ≡ length volumes.members.items)) }
-    ensures banks_err { IfErr result (λ e. (length e.0.xact.items ≡ length volumes.xact.items) × (length e.0.subtrans.items ≡ length volumes.subtrans.items)
-        × (length e.0.offsets.items ≡ length volumes.offsets.items) × (length e.0.members.items ≡ length volumes.members.items)) }
-    ensures counted { IfOk result (λ r. (L.faults volumes.log ≤ L.faults (log_disk r.log)) × NoCountFell P.PageDisk volumes.xact.items r.xact.items
-        × NoCountFell P.PageDisk volumes.subtrans.items r.subtrans.items × NoCountFell P.PageDisk volumes.offsets.items r.offsets.items
-        × NoCountFell P.PageDisk volumes.members.items r.members.items) }
+    ensures banks { IfOk result (λ r. (length r.xact.items ≡ length xact.items) × (length r.subtrans.items ≡ length subtrans.items)
+        × (length r.offsets.items ≡ length offsets.items) × (length r.members.items ≡ length members.items)) }
+    ensures banks_err { IfErr result (λ e. (length e.0.xact.items ≡ length xact.items) × (length e.0.subtrans.items ≡ length subtrans.items)
+        × (length e.0.offsets.items ≡ length offsets.items) × (length e.0.members.items ≡ length members.items)) }
+    ensures counted { (volume : L) → IsFound volume found → IfOk result (λ r. (L.faults volume ≤ L.faults (log_disk r.log))
+        × NoCountFell P.PageDisk xact.items r.xact.items × NoCountFell P.PageDisk subtrans.items r.subtrans.items
+        × NoCountFell P.PageDisk offsets.items r.offsets.items × NoCountFell P.PageDisk members.items r.members.items) }
     // Each refusal has its cause.
-    ensures refused { IfErr result (λ e. IsRefusal L.LogDisk P.PageDisk volumes e.0 e.1) }
+    ensures refused { (volume : L) → IsFound volume found
+        → IfErr result (λ e. IsRefusal L.LogDisk P.PageDisk (volumes_of volume xact subtrans offsets members) e.0 e.1) }
 {
-    let Volumes {
-        log,
-        xact,
-        subtrans,
-        offsets,
-        members,
-    } = volumes;
     let mut pages = PageVolumes {
         xact,
         subtrans,
         offsets,
         members,
-    };
-    let found = match open_log(alloc, log) {
-        Ok(found) => found,
-        Err((log, refusal)) => return Err((with_log(log, pages), refusal)),
     };
     let Found { log, recs, base } = found;
     let mut log = log;

@@ -9,8 +9,6 @@ use wal_core::LogRefusal;
 pub enum RecoverRefusal {
     /// The log's volume is no lawful log. The place is that of the first gate at which it isn't.
     Damaged { at: u64 },
-    /// The log has no record: the cluster is a new one, and nothing is there to recover.
-    NoRecord,
     /// The log's volume failed.
     LogFault,
     /// The volume of this lock's bank failed.

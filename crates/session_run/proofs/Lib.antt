@@ -17,6 +17,7 @@ mod LifeFits
 mod LifeLived
 mod Endings
 mod ToolEnds
+pub mod Handed
 mod Opening
 mod Running
 mod GoingOn

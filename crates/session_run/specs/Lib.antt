@@ -6,6 +6,7 @@ pub mod Causes
 pub mod Parts
 pub mod Fits
 pub mod OneLife
+pub mod Starts
 pub mod Lives
 pub mod Leaves
 pub mod Runs

@@ -43,7 +43,7 @@ id a 8 7
 multis
 hold a 6 1
 unhold a 6 1
-log flushed 6 end 312
+log flushed 6 end 269
 5 checkpoint next 7 oldest 3 multi 2 offset 3 oldest-multi 1 oldest-offset 1
 end
 ";

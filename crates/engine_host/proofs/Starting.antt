@@ -37,7 +37,7 @@ use Rattle.engine_parts.specs.Course.{HasCourse, IsOpened}
 use Rattle.engine_parts.specs.Parts.{PartStands}
 use Rattle.engine_parts.specs.Stand.{GivesStart, LogStands, XactStands}
 use Rattle.engine_host.specs.declared.cluster.Cluster.{Cluster}
-use Rattle.engine_host.specs.Opening.{AllOnDisk, AllShow, AllShowNothing, AreNew, Beginning, IsNewPart, IsOnDisk, MayBeginOver, ShowMembers, ShowOffsets, ShowStates, bytes_left, faults_behind, life_from, life_of, new_life}
+use Rattle.engine_host.specs.Opening.{AllOnDisk, AllShow, AllShowNothing, AreNew, Beginning, IsNewPart, IsOnDisk, ShowBeginning, ShowMembers, ShowOffsets, ShowStates, bytes_left, faults_behind, life_from, life_of, new_life}
 use Rattle.engine_host.specs.Stores.{Store, of_members, of_offsets, of_subtrans, of_xact, volumes_in}
 use Rattle.engine_host.specs.declared.cluster.BankVolumes.{BankVolumes}
 
@@ -238,7 +238,7 @@ rest_on_disk p n xs all m disk at = all (n + m) disk (drop_at n m xs disk at)
 
 -- the life may begin over the rest of the volumes, too
 pub rest_begin : {P : Type 0} (p : disks.Ghosts P) (c : Cluster) (b : Beginning) (removed : Bool) (n : ℕ) (all rest : BankVolumes P) → ((k : Store) → (volumes_in k rest).items ≡ drop n (volumes_in k all).items)
-    → MayBeginOver p c b removed 0 all → MayBeginOver p c b removed n rest
+    → ShowBeginning p c b removed 0 all → ShowBeginning p c b removed n rest
 rest_begin {P} p c b removed n all rest is may = record {
   states = subst (λ (xs : List P). AllShow p (ShowStates c b) removed n xs) (sym (is of_xact)) (rest_show p (ShowStates c b) removed n all.xact.items may.states);
   parents = subst (λ (xs : List P). AllShowNothing p removed xs) (sym (is of_subtrans)) (rest_empty p removed n all.subtrans.items may.parents);

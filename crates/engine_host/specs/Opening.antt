@@ -137,7 +137,7 @@ module _ {P : Type 0} (p : disks.Ghosts P) where
 
   -- A life may begin over these volumes, the first of which are of this bank: their pages show what it begins with, where
   -- they may be removed first, and as they are they are on disk.
-  pub record MayBeginOver (c : Cluster) (b : Beginning) (removed : Bool) (first : ℕ) (volumes : BankVolumes P) : Type 0 where
+  pub record ShowBeginning (c : Cluster) (b : Beginning) (removed : Bool) (first : ℕ) (volumes : BankVolumes P) : Type 0 where
     pub states : AllShow (ShowStates c b) removed first volumes.xact.items
     pub parents : AllShowNothing removed volumes.subtrans.items
     pub offsets : AllShow (ShowOffsets c b) removed first volumes.offsets.items

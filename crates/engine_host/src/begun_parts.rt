@@ -3,7 +3,7 @@ ghost use Rattle.std.specs.Prelude.{◌≡◌, [], false, IfErr, IfOk, IsTrue};
 ghost use Rattle.wal_core.specs.LogViews.{log_disk};
 ghost use Rattle.engine_parts.specs.Sessions.{AreGivenBefore};
 ghost use Rattle.engine_host.specs.Counted.{AreCounted};
-ghost use Rattle.engine_host.specs.Opening.{AreParts, Beginning, IsBegunLog, IsCluster, MayBeginOver, life_from, new_life};
+ghost use Rattle.engine_host.specs.Opening.{AreParts, Beginning, IsBegunLog, IsCluster, ShowBeginning, life_from, new_life};
 ghost use Rattle.engine_host.specs.Stores.{HaveEach, Store, banks_of, volumes_in};
 
 use crate::building::{add_banks, first_locks, gather, taken_apart, with_log};
@@ -28,7 +28,7 @@ pub fn open_begun<L: LogDisk + Drop, P: PageDisk + Drop>(
     requires volumes { HaveEach cluster.banks volumes }
     requires before { AreGivenBefore (life_from cluster begins []) }
     requires log { IsBegunLog cluster begins log }
-    requires shown { IsTrue P.tells → MayBeginOver P.PageDisk cluster begins false 0 volumes }
+    requires shown { IsTrue P.tells → ShowBeginning P.PageDisk cluster begins false 0 volumes }
     ensures cluster { IfOk result (λ parts. parts.cluster ≡ cluster) }
     ensures parts { IfOk result (λ parts. AreParts parts) }
     ensures start { IfOk result (λ parts. parts.start.value ≡ new_life cluster begins parts.locks.items) }

@@ -3,7 +3,7 @@ ghost use Rattle.std.specs.Prelude.{◌≡◌, ◌+◌, ◌*◌, ◌≤◌, ◌<
 ghost use Rattle.wal_core.specs.LogViews.{log_disk};
 ghost use Rattle.engine_parts.specs.Sessions.{AreGivenBefore};
 ghost use Rattle.engine_host.specs.Counted.{CountsBank, HaveCounted};
-ghost use Rattle.engine_host.specs.Opening.{AreNew, AreParts, Beginning, IsBegunLog, IsCluster, MayBeginOver, faults_behind, life_from, new_life};
+ghost use Rattle.engine_host.specs.Opening.{AreNew, AreParts, Beginning, IsBegunLog, IsCluster, ShowBeginning, faults_behind, life_from, new_life};
 ghost use Rattle.engine_host.specs.declared.refusal.OpenRefusal.TheVariants as refusals;
 ghost use Rattle.engine_host.specs.Refused.{HaveDisks, IsBankRefusal};
 ghost use Rattle.engine_host.specs.Stores.{HaveEach, Store, banks_of, disks_in, volumes_in};
@@ -69,7 +69,7 @@ fn add_bank<L: LogDisk, P: PageDisk + Drop>(
     requires disks { HaveDisks bank locks.old.items }
     requires room { 3 + 4 * cluster.now.banks ≤ vec_capacity locks.old }
     requires stand { AreNew cluster.now begins 1 locks.old.items }
-    requires shown { IsTrue P.tells → MayBeginOver P.PageDisk cluster.now begins removes bank volumes.old }
+    requires shown { IsTrue P.tells → ShowBeginning P.PageDisk cluster.now begins removes bank volumes.old }
     ensures taken { OnOk result ((k : Store) → (volumes_in k volumes.new).items ≡ remove (volumes_in k volumes.old).items 0) }
     ensures count { OnOk result (length locks.new.items ≡ 2 + 4 * (bank + 1)) }
     ensures disks { OnOk result (HaveDisks (bank + 1) locks.new.items) }
@@ -134,7 +134,7 @@ pub(crate) fn add_banks<L: LogDisk, P: PageDisk + Drop>(
     requires disks { HaveDisks 0 locks.old.items }
     requires room { 3 + 4 * cluster.now.banks ≤ vec_capacity locks.old }
     requires stand { AreNew cluster.now begins 1 locks.old.items }
-    requires shown { IsTrue P.tells → MayBeginOver P.PageDisk cluster.now begins removes 0 volumes.old }
+    requires shown { IsTrue P.tells → ShowBeginning P.PageDisk cluster.now begins removes 0 volumes.old }
     ensures count { OnOk result (length locks.new.items ≡ 2 + 4 * cluster.now.banks) }
     ensures room { OnOk result (vec_capacity locks.new ≡ vec_capacity locks.old) }
     ensures stand { OnOk result (AreNew cluster.now begins 1 locks.new.items) }

@@ -25,6 +25,7 @@ use Rattle.engine_host.specs.declared.cluster.Cluster.{Cluster}
 use Rattle.engine_host.specs.Counted.{AreCounted}
 use Rattle.engine_host.specs.Opening as engines
 use Rattle.engine_host.specs.Refused as engine_refusals
+use Rattle.engine_host.specs.Stores.{banks_of}
 use Rattle.engine_host.specs.declared.refusal.OpenRefusal.{OpenRefusal}
 use Rattle.engine_host.specs.declared.refusal.OpenRefusal.TheVariants as refusals
 use Rattle.engine_life.specs.FirstLives.{MayBeginOver}
@@ -61,6 +62,10 @@ opens_up_to g disk found is told = record {
 
 not_both : (v : Volume) (h : History) (gate gate' : ℕ) → opened v ≡ Ok (record { history = None; gate = gate }) → opened v ≡ Ok (record { history = Some h; gate = gate' }) → ⊥
 not_both v h gate gate' a b = let z : None ≡ Some h = sym (ap history_in a) ∙ ap history_in b in absurd cc
+
+-- volumes that were put together
+pub together : {L P : Type 0} (new : Volumes L P) (log : L) (banks : BankVolumes P) → new.log ≡ log → banks_of new ≡ banks → new ≡ volumes_over log banks
+together new log banks a b = λ i. volumes_over (a i) (b i)
 
 module _ {L P : Type 0} (l : logs.Ghosts L) (p : disks.Ghosts P) where
   pub counted_since : (disk disk' : L) (volumes : BankVolumes P) (faults : List ℕ) → l.faults disk ≤ l.faults disk' → AreCounted l p disk' volumes faults → AreCounted l p disk volumes faults
@@ -112,7 +117,7 @@ module _ {L P : Type 0} (l : logs.Ghosts L) (p : disks.Ghosts P) where
   module _ (kept : KeptLog) (v : Volumes L P) (fit : FitsLog l p kept v) (reads : l.images v.log (l.reads v.log)) (each : (d : P) → p.images d (p.pages d)) where
     -- where the log wasn't opened they fit still
     pub unopened_fits : (new : L) → length v.offsets.items ≡ length v.xact.items → length v.members.items ≡ length v.xact.items
-        → (EndsWithin (l.reads v.log) → OpensStill l v.log new) → LeavesLog l p v (record v { log = new }) kept
+        → (EndsWithin (l.reads v.log) → OpensStill l v.log new) → LeavesLog l p v (volumes_over new (banks_of v)) kept
     unopened_fits new offsets members still =
         still_fits l p v.log (pages_of v) offsets members kept fit reads each new (still (ends_within l p v.log (pages_of v) offsets members kept fit reads each))
 

@@ -9,7 +9,7 @@ ghost use Rattle.replay_core.specs.Refused.{IsRefusal};
 ghost use Rattle.replay_core.specs.declared.refusal.RecoverRefusal.TheVariants as refusals;
 ghost use Rattle.engine_parts.specs.Sessions.{AreGivenBefore};
 ghost use Rattle.engine_host.specs.Counted.{AreCounted};
-ghost use Rattle.engine_host.specs.Opening.{AreParts, Beginning, MayBeginOver, life_from, new_life};
+ghost use Rattle.engine_host.specs.Opening.{AreParts, Beginning, ShowBeginning, life_from, new_life};
 ghost use Rattle.engine_host.specs.Stores.{Store, banks_of, volumes_in};
 ghost use Rattle.engine_life.specs.NextLives.{MayGoOn};
 ghost use Rattle.engine_life.specs.Reopening.{IsBaseAt, KeepsStart, LeavesLog, banks_in, behind, cluster_over, volumes_over};
@@ -36,7 +36,7 @@ fn open_recovered<L: LogDisk + Drop, P: PageDisk + Drop>(
     requires log { IsSettled recovered.from recovered.base recovered.log }
     requires number { begins.number ≡ recovered.from }
     requires before { AreGivenBefore (life_from (cluster_over recovered.base (length recovered.xact.items) sessions) begins []) }
-    requires shown { IsTrue P.tells → MayBeginOver P.PageDisk (cluster_over recovered.base (length recovered.xact.items) sessions) begins false 0 (banks_in recovered) }
+    requires shown { IsTrue P.tells → ShowBeginning P.PageDisk (cluster_over recovered.base (length recovered.xact.items) sessions) begins false 0 (banks_in recovered) }
     requires past { IsTrue L.tells → IsTrue begins.told → KeepsStart (cluster_over recovered.base (length recovered.xact.items) sessions) begins recovered.log }
     ensures cluster { IfOk result (λ parts. parts.cluster ≡ cluster_over recovered.base (length recovered.xact.items) sessions) }
     ensures parts { IfOk result (λ parts. AreParts parts) }

@@ -1,12 +1,16 @@
 //! Runs of the tool on a script in memory, over a media of the test's, and rows of text that they are held against.
-ghost use Rattle.std.specs.Prelude.{IsTrue};
+ghost use Rattle.std.specs.Prelude.{◌≡◌, ℕ, IsTrue, false, length};
+ghost use Rattle.disk_core.specs.Media.{HasBanks};
+ghost use Rattle.disk_core.specs.declared.media.Volumes.{Volumes as Mounted};
+ghost use Rattle.engine_life.specs.FirstLives.{MayMount};
 
 use disk_core::{Media, MemMedia, Which};
+use disk_folder::FolderMedia;
 use disk_fuse::Fuse;
 use engine_parts::OpenGate;
 use script_rounds::RoundThreads;
 use session_run::run_tool;
-use std::alloc::AllocGlobal;
+use std::alloc::{AllocGlobal, Global};
 use std::process::Abort;
 use std::str::SplitWhitespace;
 use std::sync::Wait;
@@ -14,7 +18,7 @@ use std::test::Fail;
 use std::thread::Threads;
 use tx_io::{MemSink, MemSource};
 
-/// The tool over a media, without its contract, so that a test proves no more than that it is safe.
+/// The tool over a media whose pages tell nothing, without its contract, so that a test proves no more than that it is safe.
 fn status_over<M: Media>(
     rt: &(impl AllocGlobal + Threads + Wait + Sync),
     words: &[String],
@@ -27,7 +31,10 @@ where
     M::Log: Sync,
     M::Pages: Sync,
     requires idle { IsTrue (M.is_idle media.old) }
-    requires new { IsTrue (M.is_new media.old) }
+    requires silent { M.Pages.tells ≡ false }
+    requires banks { (banks : ℕ) (volumes : Mounted M.Log M.Pages)
+        → MayMount (M.is_new media.old) (M.begins media.old) (M.gives media.old) banks volumes
+        → HasBanks (length volumes.xact.items) volumes }
 {
     run_tool(
         rt,
@@ -41,7 +48,7 @@ where
     )
 }
 
-/// Runs the tool with these words on a script over a media, the sessions of a round on at most so many threads. Answers
+/// Runs the tool with these words on a script over a media whose pages tell nothing, the sessions of a round on at most so many threads. Answers
 /// the status and what was written.
 pub fn run_over<M: Media>(
     rt: &(impl AllocGlobal + Threads + Wait + Sync),
@@ -54,7 +61,10 @@ where
     M::Log: Sync,
     M::Pages: Sync,
     requires idle { IsTrue (M.is_idle media.old) }
-    requires new { IsTrue (M.is_new media.old) }
+    requires silent { M.Pages.tells ≡ false }
+    requires banks { (banks : ℕ) (volumes : Mounted M.Log M.Pages)
+        → MayMount (M.is_new media.old) (M.begins media.old) (M.gives media.old) banks volumes
+        → HasBanks (length volumes.xact.items) volumes }
 {
     let alloc = rt.alloc();
     let mut source = MemSource::new(Vec::from_slice(alloc, script.as_bytes())?, Vec::new(alloc));
@@ -76,8 +86,7 @@ pub fn run_new(
     script: &str,
     threads: usize,
 ) -> Result<(u8, String), Fail> {
-    let mut media = MemMedia::new(rt.alloc());
-    run_over(rt, "run", script, &mut media, threads)
+    run_fused(rt, "run", script, Which::Log, u64::MAX, threads)
 }
 
 /// Runs the tool with these words over a media of which this volume passes so many calls.
@@ -92,6 +101,25 @@ pub fn run_fused(
     let alloc = rt.alloc();
     let mut media = Fuse::new(alloc, MemMedia::new(alloc), at, passes);
     run_over(rt, words, script, &mut media, threads)
+}
+
+/// Runs a script over a media in memory that has this log, and no pages.
+pub fn run_behind(
+    rt: &(impl AllocGlobal + Threads + Wait + Sync),
+    log: &[u8],
+    script: &str,
+) -> Result<(u8, String), Fail> {
+    let alloc = rt.alloc();
+    let log = Vec::from_slice(alloc, log)?;
+    let mut media = Fuse::new(alloc, MemMedia::of_log(alloc, log), Which::Log, u64::MAX);
+    run_over(rt, "run", script, &mut media, 1)
+}
+
+/// Runs a script over a folder, by a media of its own.
+pub fn run_in(rt: HostRuntime, folder: &str, script: &str) -> Result<(u8, String), Fail> {
+    let alloc: Global = rt.alloc();
+    let mut media = FolderMedia::new(rt, alloc, String::from_str(alloc, folder)?);
+    run_over(&rt, "run", script, &mut media, 2)
 }
 
 /// A row over one volume: its name, its script, and the texts of its runs.

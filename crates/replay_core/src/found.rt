@@ -11,6 +11,7 @@ use tx_events::{Counters, RecList};
 use wal_core::{Started, WalLog};
 
 /// A log, the records that its volume has, and the counters behind them.
+#[derive(Drop)]
 pub struct Found<D: LogDisk> {
     pub log: WalLog<D>,
     pub recs: RecList,
@@ -18,6 +19,7 @@ pub struct Found<D: LogDisk> {
 }
 
 /// What a log's volume has.
+#[derive(Drop)]
 pub enum FoundLog<D: LogDisk> {
     /// No record: a new cluster is to be begun on it.
     New(WalLog<D>),

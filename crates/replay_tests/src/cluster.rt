@@ -1,6 +1,6 @@
 // A cluster of two banks, and what it holds.
 use disk_core::{LogDisk, PageDisk, Volumes};
-use replay_core::{RecoverRefusal, Recovered, recover};
+use replay_core::{FoundLog, RecoverRefusal, Recovered, find_log, recover};
 use slru_bank::{SlruBank, State, set_states, state};
 use std::alloc::Global;
 use std::test::Fail;
@@ -154,17 +154,33 @@ pub fn recover_mounted<L: LogDisk + Drop, P: PageDisk + Drop>(
     }
 }
 
-/// Recovers a cluster of two banks.
+/// Recovers a cluster of two banks, of which the log is found first. None is without a record.
 fn recovered<L: LogDisk + Drop, P: PageDisk + Drop>(
     alloc: Global,
     volumes: Volumes<L, P>,
 ) -> Result<Result<Recovered<L, P>, (Volumes<L, P>, RecoverRefusal)>, Fail> {
-    if volumes.xact.len() != 2
-        || volumes.subtrans.len() != 2
-        || volumes.offsets.len() != 2
-        || volumes.members.len() != 2
-    {
+    let Volumes {
+        log,
+        xact,
+        subtrans,
+        offsets,
+        members,
+    } = volumes;
+    if xact.len() != 2 || subtrans.len() != 2 || offsets.len() != 2 || members.len() != 2 {
         return Err("two banks".into());
     }
-    Ok(recover(alloc, volumes))
+    match find_log(alloc, log) {
+        Ok(FoundLog::Old(found)) => Ok(recover(alloc, found, xact, subtrans, offsets, members)),
+        Ok(FoundLog::New(_)) => Err("a log without a record".into()),
+        Err((log, refusal)) => {
+            let volumes = Volumes {
+                log,
+                xact,
+                subtrans,
+                offsets,
+                members,
+            };
+            Ok(Err((volumes, refusal)))
+        }
+    }
 }

@@ -7,4 +7,6 @@ mod cluster;
 #[cfg(test)]
 mod multis;
 #[cfg(test)]
+mod prefix_tests;
+#[cfg(test)]
 mod recover_tests;

@@ -1,5 +1,5 @@
 -- What a run of the tool says.
-use Rattle.std.specs.Prelude.{◌≡◌, ℕ, Bool, ◌<◌, ◌⊎◌, List, [], ◌∷◌, Option, Some, Ok, length, codes}
+use Rattle.std.specs.Prelude.{◌≡◌, ℕ, Bool, ◌<◌, ◌≤◌, ◌⊎◌, List, [], ◌∷◌, Option, Some, Ok, length, codes}
 use Rattle.std.specs.Io.KnownBytes.{Consumes, Appends, IsAtEnd}
 use Rattle.tx_model.specs.declared.report.Report.{Report}
 use Rattle.script_lines.specs.declared.kind.Kind.{Kind}

@@ -1,8 +1,9 @@
 -- A crash, and the next life.
-use Rattle.std.proofs.Common.{Bool, Err, IfErr, IfOk, IfSome, IsTrue, List, None, Ok, Option, Result, Some, [], ap, arith, false, inl, inr, length, refl, subst, suc, sym, take, true, zero, ℕ, ⊎_elim, ◌++◌, ◌+◌, ◌-◌, ◌∙◌, ◌∷◌, ◌<◌, ◌≡◌, ◌≤◌}
+use Rattle.std.proofs.Common.{Bool, Err, IfErr, IfOk, IsTrue, List, None, Ok, Option, Result, Some, [], ap, arith, false, inl, inr, length, refl, subst, suc, sym, take, true, zero, ℕ, ⊎_elim, ◌++◌, ◌+◌, ◌-◌, ◌∙◌, ◌∷◌, ◌<◌, ◌≡◌, ◌≤◌}
 use Rattle.std.proofs.lemmas.Bool.{false≢true}
 use Rattle.std.proofs.lemmas.Option.{same_Some}
 use Rattle.std.specs.List.{slice_get}
+use Rattle.std.specs.Prelude.{IsSomeAnd}
 use Rattle.disk_core.specs.declared.log_disk.LogDisk as logs
 use Rattle.disk_core.specs.declared.page_disk.PageDisk as disks
 use Rattle.disk_core.specs.declared.media.Crash.{Crash}
@@ -169,7 +170,7 @@ module _ {L P : Type 0} (l : logs.Ghosts L) (p : disks.Ghosts P) where
 -- ---- the next life is open
 
 -- a log ends with the records of a life, and a life that begins with what it gives at a number goes on from that one
-from_last : (kept : KeptLog) (before next : Life) (n : ℕ) → EndsWithLife before kept → before.from < before.flushed → kept.flushed ≤ n → n ≤ log_end kept → next.from ≡ n → base_of next ≡ base_at kept n → GoesOnFrom before next
+pub from_last : (kept : KeptLog) (before next : Life) (n : ℕ) → EndsWithLife before kept → before.from < before.flushed → kept.flushed ≤ n → n ≤ log_end kept → next.from ≡ n → base_of next ≡ base_at kept n → GoesOnFrom before next
 from_last kept before next n ends begun low upto from is =
     let flushed = ends.flushed in
     let size = ap (λ (t : List Rec). length t) ends.recs in
@@ -192,7 +193,7 @@ module _ {L P : Type 0} {l : logs.Ghosts L} {p : disks.Ghosts P} (s : Script) (b
         sessions = so.sessions;
         opened = so.opened;
         comes = comes_push s banks start falls lives r begun told.last.mounted left gone.mounted told.last.comes told.last.ended
-            (subst (λ (c : Option How). IfSome c (λ h. HasFallen l p falls h left gone.mounted)) (sym crash ∙ sym told.crash_is) gone.fallen);
+            (subst (λ (c : Option How). IsSomeAnd c (λ h. HasFallen l p falls h left gone.mounted)) (sym crash ∙ sym told.crash_is) gone.fallen);
         opens = so.opens;
         first = λ none. absurd (push_some lives r none);
         behind = λ tells next from base.

@@ -23,3 +23,4 @@ mod Running
 mod GoingOn
 mod LivesRun
 mod Counted
+mod Again

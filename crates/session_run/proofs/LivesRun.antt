@@ -1,9 +1,10 @@
 -- A run, life by life: a life for each part of its script.
-use Rattle.std.proofs.Common.{Bool, Err, IfSome, List, None, Option, Some, [], ap, append-nil, append_assoc, arith, inl, inr, length, length-append, refl, subst, sym, take, ⊎_elim, ℕ, ◌++◌, ◌+◌, ◌∙◌, ◌∷◌, ◌≡◌, ◌≤◌, ◌^◌}
+use Rattle.std.proofs.Common.{Bool, Err, List, None, Option, Some, [], ap, append-nil, append_assoc, arith, inl, inr, length, length-append, refl, subst, sym, take, ⊎_elim, ℕ, ◌++◌, ◌+◌, ◌∙◌, ◌∷◌, ◌≡◌, ◌≤◌, ◌^◌}
 use Rattle.std.proofs.KnownBytes.{Appends-nil, Appends-trans}
 use Rattle.std.proofs.Math.Seq.{take-append-add}
 use Rattle.std.specs.Io.KnownBytes.{Appends}
 use Rattle.std.specs.List.{All}
+use Rattle.std.specs.Prelude.{IsSomeAnd}
 use Rattle.disk_core.specs.declared.log_disk.LogDisk as logs
 use Rattle.disk_core.specs.declared.page_disk.PageDisk as disks
 use Rattle.disk_core.specs.declared.media.Crash.{Crash}
@@ -225,7 +226,7 @@ module _ {L P : Type 0} {l : logs.Ghosts L} {p : disks.Ghosts P} (s : Script) (f
         have_left,
         since l p (cluster_of s) (λ banks volumes. HasFallen l p falls how left volumes) (λ banks volumes. ComesTo l p falls (h.lives ++ r ∷ []) h.begun volumes) gives faults count now later
             (λ v fell. comes_push s h.banks h.start falls h.lives r h.begun told.last.mounted left v told.last.comes told.last.ended
-            (subst (λ (c : Option How). IfSome c (λ k. HasFallen l p falls k left v)) (sym some ∙ sym told.crash_is) fell)) refusal none.0,
+            (subst (λ (c : Option How). IsSomeAnd c (λ k. HasFallen l p falls k left v)) (sym some ∙ sym told.crash_is) fell)) refusal none.0,
         none.1,
       )
 

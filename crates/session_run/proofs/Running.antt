@@ -1,8 +1,9 @@
 -- A run goes on from life to life.
-use Rattle.std.proofs.Common.{List, None, Option, IfSome, [], ap, arith, length, refl, subst, sym, ℕ, ◌++◌, ◌+◌, ◌∙◌, ◌∷◌, ◌≡◌, ◌≤◌}
+use Rattle.std.proofs.Common.{List, None, Option, [], ap, arith, length, refl, subst, sym, ℕ, ◌++◌, ◌+◌, ◌∙◌, ◌∷◌, ◌≡◌, ◌≤◌}
 use Rattle.std.proofs.KnownBytes.{Appends-trans}
 use Rattle.std.specs.Io.KnownBytes.{Appends}
 use Rattle.std.specs.List.{flat_map}
+use Rattle.std.specs.Prelude.{IsSomeAnd}
 use Rattle.disk_core.specs.declared.log_disk.LogDisk as logs
 use Rattle.disk_core.specs.declared.page_disk.PageDisk as disks
 use Rattle.disk_core.specs.declared.media.Crash.{Crash}
@@ -112,7 +113,7 @@ module _ {L P : Type 0} {l : logs.Ghosts L} {p : disks.Ghosts P} (s : Script) (b
 
   -- ---- a crash, and the next life
 
-  pub comes_push : (lives : List LifeReport) (r : LifeReport) (begun mounted left next : Volumes L P) → ComesTo l p falls lives begun mounted → HasEndedOn l p r mounted left → IfSome r.crash (λ how. HasFallen l p falls how left next) → ComesTo l p falls (lives ++ r ∷ []) begun next
+  pub comes_push : (lives : List LifeReport) (r : LifeReport) (begun mounted left next : Volumes L P) → ComesTo l p falls lives begun mounted → HasEndedOn l p r mounted left → IsSomeAnd r.crash (λ how. HasFallen l p falls how left next) → ComesTo l p falls (lives ++ r ∷ []) begun next
   comes_push [] r begun mounted left next comes ended fell = (left, next, subst (λ (v : Volumes L P). HasEndedOn l p r v left) comes ended, fell, refl)
   comes_push (q ∷ lives) r begun mounted left next comes ended fell = (comes.0, comes.1, comes.2, comes.3, comes_push lives r comes.1 mounted left next comes.4 ended fell)
 

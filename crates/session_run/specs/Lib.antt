@@ -13,3 +13,4 @@ pub mod Runs
 pub mod Stops
 pub mod Going
 pub mod Tool
+pub mod Again

@@ -1,5 +1,5 @@
 -- The volumes of a media from one life of a run to the next, through a crash.
-use Rattle.std.specs.Prelude.{◌≡◌, ◌<◌, ℕ, IfSome, IsTrue, List, [], ◌∷◌, length}
+use Rattle.std.specs.Prelude.{◌≡◌, ◌<◌, ℕ, IsSomeAnd, IsTrue, List, [], ◌∷◌, length}
 use Rattle.disk_core.specs.declared.log_disk.LogDisk as logs
 use Rattle.disk_core.specs.declared.page_disk.PageDisk as disks
 use Rattle.disk_core.specs.declared.media.Crash.{Crash}
@@ -48,4 +48,4 @@ module _ {L P : Type 0} (l : logs.Ghosts L) (p : disks.Ghosts P) (falls : Crash 
   ComesTo [] mounted next = next ≡ mounted
   ComesTo (r ∷ lives) mounted next =
       (left behind : Volumes L P) × HasEndedOn l p r mounted left
-      × IfSome r.crash (λ how. HasFallen how left behind) × ComesTo lives behind next
+      × IsSomeAnd r.crash (λ how. HasFallen how left behind) × ComesTo lives behind next

@@ -3,7 +3,7 @@ use Rattle.wal_core.specs.LogViews.{log_disk}
 use Rattle.tx_core.specs.declared.entry.Start.{Start}
 use Rattle.tx_events.proofs.Membership.{contains_has}
 use Rattle.engine_parts.specs.Sessions.{AreGivenBefore}
-use Rattle.engine_host.specs.Opening.{IsNewLog, MayBeginOver, life_from, nothing_before}
+use Rattle.engine_host.specs.Opening.{IsNewLog, ShowBeginning, life_from, nothing_before}
 use Rattle.engine_host.specs.Refused.{IsRefusal}
 use Rattle.engine_host.proofs.Counting.{all_counted}
 use Rattle.engine_host.proofs.Multis.{zeros_show_members, zeros_show_offsets}
@@ -26,7 +26,7 @@ add_banks-requires g c =
     let disks = l.disks in
     let room = l.room in
     let stand = l.stand in
-    let shown : IsTrue p.tells → MayBeginOver p c.args.cluster nothing_before true 0 c.args.volumes = λ told. record {
+    let shown : IsTrue p.tells → ShowBeginning p c.args.cluster nothing_before true 0 c.args.volumes = λ told. record {
       states = λ bank disk at. zeros_show c.args.cluster nothing_before (0 + bank) c.requires.cluster.base refl;
       parents = λ bank disk at q small. refl;
       offsets = λ bank disk at. zeros_show_offsets c.args.cluster nothing_before refl (0 + bank) refl;

@@ -6,7 +6,7 @@ use Rattle.replay_core.specs.Banks.{NoCountFell}
 use Rattle.replay_core.specs.Refused.{IsRefusal}
 use Rattle.replay_core.specs.declared.refusal.RecoverRefusal.{RecoverRefusal}
 use Rattle.engine_host.specs.declared.cluster.Cluster.{Cluster}
-use Rattle.engine_host.specs.Opening.{AllOnDisk, MayBeginOver, faults_behind, new_life}
+use Rattle.engine_host.specs.Opening.{AllOnDisk, ShowBeginning, faults_behind, new_life}
 use Rattle.engine_host.specs.Stores.{volumes_in}
 use Rattle.engine_life.specs.Reopening.{IsBaseAt, KeepsStart, banks_in, behind, cluster_over, volumes_over}
 use Rattle.engine_life.proofs.Living.{of_err, of_oks}
@@ -36,7 +36,7 @@ open_recovered-requires g c κs inside =
     let shown = λ (told : IsTrue p.tells).
     let fit = c.requires.1.1.1.1.1.1.2 told in
     let recovers = (e.recovers v c.requires.1.1.1.1.1.1.1 fit.0 told g.kept fit.1).0 in
-    let is_shown : MayBeginOver p (cluster_over r.base (length r.xact.items) c.args.sessions) (behind true g.kept r.from) false 0 (banks_in r) = record {
+    let is_shown : ShowBeginning p (cluster_over r.base (length r.xact.items) c.args.sessions) (behind true g.kept r.from) false 0 (banks_in r) = record {
       states = states_shown l p v (log_disk r.log) a.xact.items r.xact.items r.offsets.items r.members.items r.from c.args.sessions r.base g.kept e.banks.0 some c.is_full_multi.ensures (g.met.L.LogDisk.reads_image (log_disk r.log) fit.0) (λ d. g.met.P.PageDisk.reads_image d told) recovers;
       parents = empty_shown p r.subtrans.items (λ d. g.met.P.PageDisk.reads_image d told) (e.parents told);
       offsets = offsets_shown l p v (log_disk r.log) a.xact.items r.xact.items r.offsets.items r.members.items r.from c.args.sessions r.base g.kept e.banks.0 some c.is_full_multi.ensures (g.met.L.LogDisk.reads_image (log_disk r.log) fit.0) (λ d. g.met.P.PageDisk.reads_image d told) recovers;
@@ -45,7 +45,7 @@ open_recovered-requires g c κs inside =
           each_store (λ k. AllOnDisk p (volumes_in k (banks_in r)).items) (e.states told) (empty_durable p r.subtrans.items (e.parents told))
           (e.multis told).0 (e.multis told).1;
     } in
-    subst (λ (t : Bool). MayBeginOver p (cluster_over r.base (length r.xact.items) c.args.sessions) (behind t g.kept r.from) false 0 (banks_in r)) (sym told) is_shown in
+    subst (λ (t : Bool). ShowBeginning p (cluster_over r.base (length r.xact.items) c.args.sessions) (behind t g.kept r.from) false 0 (banks_in r)) (sym told) is_shown in
     let past = λ (log_tells : IsTrue l.tells) (told : IsTrue p.tells).
     let fit = c.requires.1.1.1.1.1.1.2 told in
     let recovers = e.recovers v c.requires.1.1.1.1.1.1.1 fit.0 told g.kept fit.1 in

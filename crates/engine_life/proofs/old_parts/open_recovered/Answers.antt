@@ -1,6 +1,6 @@
 use Rattle.std.proofs.Common.{[], IsTrue, arith, false, length, rules, subst, sym, ◌∙◌, ◌≡◌}
 use Rattle.engine_parts.specs.Sessions.{AreGivenBefore}
-use Rattle.engine_host.specs.Opening.{IsCluster, MayBeginOver, life_from}
+use Rattle.engine_host.specs.Opening.{IsCluster, ShowBeginning, life_from}
 use Rattle.engine_host.specs.Stores.{volumes_in}
 use Rattle.engine_life.specs.Reopening.{KeepsStart, banks_in, cluster_over}
 use Rattle.engine_life.proofs.Reopened.{each_store, settled_begins}
@@ -21,7 +21,7 @@ open_begun-requires g c =
     let before = subst (λ n. AreGivenBefore (life_from (cluster_over r.base n c.args.sessions) g.begins [])) (sym banks) c.requires.1.1.1.1.1.1.1.1.0 in
     let past = subst (λ n. IsTrue g.L.LogDisk.tells → IsTrue g.begins.told → KeepsStart (cluster_over r.base n c.args.sessions) g.begins r.log) (sym banks) c.requires.1.1.1.1.1.1.1.1.1.1 in
     let log = settled_begins (cluster_over r.base c.len.result c.args.sessions) g.begins r.from r.log settled c.requires.1.1.1.1.1.1.1.0 past in
-    let shown = subst (λ n. IsTrue p.tells → MayBeginOver p (cluster_over r.base n c.args.sessions) g.begins false 0 (banks_in r)) (sym banks) c.requires.1.1.1.1.1.1.1.1.1.0 in
+    let shown = subst (λ n. IsTrue p.tells → ShowBeginning p (cluster_over r.base n c.args.sessions) g.begins false 0 (banks_in r)) (sym banks) c.requires.1.1.1.1.1.1.1.1.1.0 in
     search (rules, cluster, each, before, log, shown)
 
 pub returns-in-Err-clause-kept : goal.returns-in-Err-clause-kept

@@ -6,8 +6,8 @@ use Rattle.engine_host.specs.Stores.{HaveEach, banks_of}
 use Rattle.engine_life.specs.declared.refusal.NoLife.{NoLife}
 use Rattle.engine_life.specs.NextLives.{WhenRefused}
 use Rattle.engine_life.specs.Refusals.{IsNoLife}
-use Rattle.engine_life.specs.Reopening.{volumes_over}
-use Rattle.engine_life.proofs.Finding.{may_go_on, new_opens, none_fits, not_found, unopened_fits}
+use Rattle.engine_life.specs.Reopening.{LeavesLog}
+use Rattle.engine_life.proofs.Finding.{may_go_on, new_opens, none_fits, not_found, together, unopened_fits}
 use Rattle.engine_life.proofs.GoingOn.{when_fits}
 use Rattle.engine_life.proofs.Living.{of_err}
 use Rattle.engine_life.proofs.Reopened.{each_store}
@@ -40,7 +40,9 @@ returns-in-Err-clause-again g c told fit =
     let l = g.L.LogDisk in let p = g.P.PageDisk in let v = c.args.volumes in let h = c.requires.1.1.1.1.banks in
     let reads = c.requires.1.1.1.1.tells told in
     let left = unopened_fits l p g.kept v fit (g.met.L.LogDisk.reads_image v.log reads) (λ d. g.met.P.PageDisk.reads_image d told) c.in-Err.log h.offsets h.members (c.in-Err.ensures.still_err reads) in
-    when_fits l p g.kept v c.with_log.result c.unrecovered.result left
+    let w = c.with_log.ensures in
+    when_fits l p g.kept v c.with_log.result c.unrecovered.result
+    (subst (λ z. LeavesLog l p v z g.kept) (sym (together c.with_log.result c.in-Err.log (banks_of v) w.log w.banks)) left)
 
 pub returns-in-Err-clause-refused : goal.returns-in-Err-clause-refused
 returns-in-Err-clause-refused g c =

@@ -219,6 +219,7 @@ so_far_checkpoint tells start before after sessions rounds reply so_far went = r
       through_idle tells start before after n (told_by n rounds) s went.kept (went.idle n low) (so_far.each n s e);
   places = subst (λ (h : List Event). Follow in_events 0 rounds (length h)) (sym went.same_history) so_far.places;
   multi_places = subst (λ (h : List MultiEvent). Follow in_multis 0 rounds (length h)) (sym went.same_multis) so_far.multi_places;
+  made = so_far.made;
   lines = so_far.lines;
 }
 

@@ -60,9 +60,9 @@ use Rattle.engine_parts.specs.Sessions.{by_at, stance_of}
 use Rattle.engine_parts.specs.Stages.{pending_in}
 use Rattle.engine_parts.specs.Makings.{IsToldMaking, has_more_multis}
 use Rattle.session_promise.specs.Told.{IsNoLater, Place, Told, between, lines_of, place_of, told_in}
-use Rattle.session_promise.specs.Promise.{Answered, IsInRound, IsOfSession, IsRecordedIn, IsToldWell, MayAnswerIn, Promise, PromiseGoesOn, SaysLogFault, is_made_level, is_made_multi, recs_of}
+use Rattle.session_promise.specs.Promise.{Answered, IsInRound, IsMadeFor, IsOfSession, IsRecordedIn, IsToldWell, MayAnswerIn, Promise, PromiseGoesOn, SaysLogFault, is_made_level, is_made_multi, recs_of}
 use Rattle.session_promise.specs.MultiGrowth.{IsLaterThan}
-use Rattle.session_promise.proofs.Growing.{all_lines_of, answer_stays, each_grows, IsUpTo, making_same, pending_same, stance_same}
+use Rattle.session_promise.proofs.Growing.{all_lines_of, all_places, answer_stays, each_grows, IsUpTo, making_same, pending_same, stance_same}
 use Rattle.session_promise.proofs.Known.{known_of}
 use Rattle.session_promise.proofs.PendingFollows.{IsKnownOf, by_reply}
 use Rattle.session_promise.proofs.PendingGrowth.{AreSettled}
@@ -279,6 +279,18 @@ module _ (tells : Bool) (start : Start) (v w : Knowledge) (n : ℕ) (past : List
           let least : (multi_by e).command ≤ s.levels.commands = all_at (λ (e : MultiEvent). (multi_by e).command ≤ s.levels.commands) (filter (is_multi_of n) mv) e multi_turn (filter_has (is_multi_of n) mv e old (eq-eqb (multi_by e).session n (ap (λ (b : By). b.session) is))) in
           omega (arith, number, least)
 
+  -- the command has no multixact event before it
+  unheard_before : (e : MultiEvent) → Contains mv e → multi_by e ≡ by → ⊥
+  unheard_before e c is =
+      let own : (multi_by e).session ≡ n = ap (λ (b : By). b.session) is in
+      let number : (multi_by e).command ≡ s.levels.commands + 1 = ap (λ (b : By). b.command) is in
+      let least : (multi_by e).command ≤ s.levels.commands = all_at (λ (e : MultiEvent). (multi_by e).command ≤ s.levels.commands) (filter (is_multi_of n) mv) e multi_turn (filter_has (is_multi_of n) mv e (contains_has mv e c) (eq-eqb (multi_by e).session n own)) in
+      omega (arith, number, least)
+
+  -- and finds done what the session made before
+  made_before : AllByRecursion (λ (l : Line). IsMadeFor start v.seen n l.reply) (lines_of told)
+  made_before = all_lines_of (λ (l : Line). IsMadeFor start v.seen n l.reply) told (all_places (λ (t : Told). IsMadeFor start v.seen n t.line.reply) told (λ q t at. (p.each q t at).made))
+
   is_told : IsToldWell tells start w.seen n (lines_of told) t
   is_told = record {
     own = refl;
@@ -298,6 +310,7 @@ module _ (tells : Bool) (start : Start) (v w : Knowledge) (n : ℕ) (past : List
     standing = a.acted.standing ∙ ap (λ z. refused_by command z (pending_in s.stage)) (sym stance_before);
     members = a.members;
     begun = v.seen;
+    began = record { kept = a.might.ready.at.kept; in_round = low.grown; unheard = unheard_before; made = made_before };
     answer = subst (λ z. MayAnswerIn tells start v.seen w.seen (between from (place_of w.seen)) by z s.stage command reply) (sym stance_before)
         (answer_stays tells start v.seen w.seen w.seen (record { begins = λ q. begins_same (at w.seen q) }) (between (place_of v.seen) (place_of w.seen)) (between from (place_of w.seen)) by (stance_of s) s.stage
         (record { from = low.events; to = omega arith; within = omega arith; later = none_behind (λ e. IsLaterThan by (by_of e)) hw })

@@ -27,6 +27,7 @@ pub mod OneFault
 pub mod HostFaults
 pub mod Between
 pub mod FaultLines
+pub mod NotYets
 pub mod LawfulReplies
 pub mod LawfulSteps
 pub mod LawfulCheckpoints

@@ -14,6 +14,7 @@ pub mod PendingFollows
 pub mod RecordPlaces
 pub mod Known
 pub mod OwnNone
+pub mod OneCommand
 pub mod GoingOn
 pub mod Beginning
 pub mod Parting

@@ -1,5 +1,5 @@
 -- No multixact is told as not yet there that was given with `ok` before, but by another session in the round.
-use Rattle.std.proofs.Common.{Bool, Contains, List, Some, [], absurd, ap, append-nil, append_assoc, arith, drop, false, get_or, inl, inr, length, refl, subst, sym, take, take-append-drop, true, ℕ, ⊎_elim, ◌&&◌, ◌+◌, ◌++◌, ◌-◌, ◌<◌, ◌≡◌, ◌≢◌, ◌≤◌, ◌∙◌, ◌∷◌, ◌⊎◌}
+use Rattle.std.proofs.Common.{Bool, Contains, List, Some, [], ap, append-nil, append_assoc, arith, drop, false, get_or, inl, inr, length, refl, subst, sym, take, take-append-drop, true, ℕ, ⊎_elim, ◌&&◌, ◌%◌, ◌+◌, ◌++◌, ◌-◌, ◌<◌, ◌≡◌, ◌≢◌, ◌≤◌, ◌∙◌, ◌∷◌, ◌⊎◌}
 use Rattle.std.specs.List.{flat_map, list_any, slice_get}
 use Rattle.std.proofs.Math.Seq.{take-append-add}
 use Rattle.std.proofs.lemmas.Bool.{false≢true}
@@ -68,11 +68,13 @@ oldest base h = oldest_multi base.oldest_multi h
 
 up_by : (base : Counters) (h : List MultiEvent) (e : MultiEvent) → MultiMayCome base (InBase base) h e → oldest base h ≤ oldest_multi_after (oldest base h) e
 up_by base h (multis.Raise by multi offset) rule = let r : IsRaised base (InBase base) h multi offset = rule in r.not_back
-up_by base h e rule = omega arith
+up_by base h (multis.Gen by multi offset members) rule = omega arith
+up_by base h (multis.Hold by multi) rule = omega arith
+up_by base h (multis.Unhold by multi) rule = omega arith
 
 rises : (base : Counters) (h : List MultiEvent) (rest : List MultiEvent) → AreLegalMultis base (InBase base) (h ++ rest) → oldest base h ≤ oldest base (h ++ rest)
 rises base h = by_end (λ rest. AreLegalMultis base (InBase base) (h ++ rest) → oldest base h ≤ oldest base (h ++ rest))
-    (λ legal. let same : oldest base (h ++ []) ≡ oldest base h = ap (oldest base) (append-nil h) in omega arith)
+    (λ legal. let same : oldest base (h ++ []) ≡ oldest base h = ap (oldest base) (append-nil h) in omega (arith, same))
     (λ rest e before legal.
     let longer : (h ++ rest) ++ e ∷ [] ≡ h ++ rest ++ e ∷ [] = append_assoc h rest (e ∷ []) in
     let all : AreLegalMultis base (InBase base) ((h ++ rest) ++ e ∷ []) = subst (AreLegalMultis base (InBase base)) (sym longer) legal in
@@ -196,7 +198,8 @@ module _ (start : Start) (begun lists : List (List Entry)) (was : EngineInvarian
             let same : told ≡ multi = gen_is start.base (history lists) (events l k).0 (multi_history lists) l.by giver l.command told at_offset warn multi offset members (multis_of l.by (multi_history lists)) e among in
             ⊎_elim
             (λ (o : (l.by.session ≢ by.session) × IsInRound multi_by (multi_history lists) span l.by).
-            (λ q. o.0 (ap (λ (b : By). b.session) own ∙ q), o.1 place (multis.Gen giver multi offset members) stands (sym own)))
+            let inside = o.1 place (multis.Gen giver multi offset members) stands (sym own) in
+            (λ q. o.0 (ap (λ (b : By). b.session) own ∙ q), inside.0, inside.1))
             (λ (m : (ms : List Member) × IsMultiDone start begun l.by.session told at_offset ms).
             absurd (not_done start begun lists was kept is_base few by multi n unheard l.by.session at_offset m.0 (subst (λ x. IsMultiDone start begun l.by.session x at_offset m.0) same m.1)))
             d

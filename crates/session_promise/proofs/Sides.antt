@@ -9,7 +9,7 @@ use Rattle.tx_events.specs.Events.{same_by}
 use Rattle.tx_events.proofs.ListSteps.{both_all, filter_none}
 use Rattle.session_promise.specs.MultiGrowth.{IsLaterThan}
 
-and_both : (a b : Bool) → (a && b) ≡ true → (a ≡ true) × (b ≡ true)
+pub and_both : (a b : Bool) → (a && b) ≡ true → (a ≡ true) × (b ≡ true)
 and_both true b e = (refl, e)
 and_both false b e = absurd (false≢true e)
 

@@ -1,5 +1,5 @@
 -- No multixact is told as not yet there that was given with `ok` before, but by another session in the round.
-use Rattle.std.proofs.Common.{Bool, Contains, List, Some, [], ap, append-nil, append_assoc, arith, drop, false, get_or, inl, inr, length, refl, subst, sym, take, take-append-drop, true, ℕ, ⊎_elim, ◌&&◌, ◌%◌, ◌+◌, ◌++◌, ◌-◌, ◌<◌, ◌≡◌, ◌≢◌, ◌≤◌, ◌∙◌, ◌∷◌, ◌⊎◌}
+use Rattle.std.proofs.Common.{Bool, Contains, List, Some, [], ap, append-nil, append_assoc, arith, drop, false, get_or, inl, inr, length, refl, subst, sym, take, take-append-drop, true, ℕ, ⊎_elim, ◌&&◌, ◌||◌, ◌%◌, ◌+◌, ◌++◌, ◌-◌, ◌<◌, ◌≡◌, ◌≢◌, ◌≤◌, ◌∙◌, ◌∷◌, ◌⊎◌}
 use Rattle.std.specs.List.{flat_map, list_any, slice_get}
 use Rattle.std.proofs.Math.Seq.{take-append-add}
 use Rattle.std.proofs.lemmas.Bool.{false≢true}
@@ -76,7 +76,7 @@ rises : (base : Counters) (h : List MultiEvent) (rest : List MultiEvent) → Are
 rises base h = by_end (λ rest. AreLegalMultis base (InBase base) (h ++ rest) → oldest base h ≤ oldest base (h ++ rest))
     (λ legal. let same : oldest base (h ++ []) ≡ oldest base h = ap (oldest base) (append-nil h) in omega (arith, same))
     (λ rest e before legal.
-    let longer : (h ++ rest) ++ e ∷ [] ≡ h ++ rest ++ e ∷ [] = append_assoc h rest (e ∷ []) in
+    let longer : (h ++ rest) ++ e ∷ [] ≡ h ++ (rest ++ e ∷ []) = append_assoc h rest (e ∷ []) in
     let all : AreLegalMultis base (InBase base) ((h ++ rest) ++ e ∷ []) = subst (AreLegalMultis base (InBase base)) (sym longer) legal in
     let low = before (each_place_start (MultiMayCome base (InBase base)) (h ++ rest) (e ∷ []) all) in
     let up = up_by base (h ++ rest) e (each_place_last (MultiMayCome base (InBase base)) (h ++ rest) e all) in

@@ -8,7 +8,7 @@ use Rattle.tx_events.specs.Events.{by_of, events_of}
 use Rattle.tx_events.specs.Places.{EachPlace}
 use Rattle.tx_events.proofs.ListSteps.{all_weaker}
 use Rattle.tx_events.proofs.Membership.{all_from, all_at, has_take, has_place, place_has}
-use Rattle.tx_events.proofs.OwnEvents.{AreLater, AreOthers, events_of_grows, later_are_others, not_other}
+use Rattle.tx_events.proofs.OwnEvents.{AreLater, AreOthers, events_of_grows, later_are_others}
 use Rattle.tx_events.proofs.PlaceLemmas.{slice_get-append_cases}
 use Rattle.tx_model.specs.declared.report.Line.{Line}
 use Rattle.tx_model.specs.CommandEvents.{HasEvents}

@@ -1,6 +1,6 @@
 -- What may be answered in the lists at the end is lawful.
 use Rattle.engine_parts.specs.Stages.{pending_in}
-use Rattle.std.proofs.Common.{Bool, Contains, IsTrue, List, Some, subst, ◌<◌, [], append_assoc, arith, refl, sym, zero, suc, ℕ, ◌++◌, ◌-◌, ◌≡◌, ◌∙◌, ◌∷◌, is_some, false}
+use Rattle.std.proofs.Common.{Bool, IsTrue, List, [], append_assoc, arith, refl, sym, zero, suc, ℕ, ◌++◌, ◌-◌, ◌≡◌, ◌∙◌, ◌∷◌, is_some, false}
 use Rattle.std.specs.List.{flat_map}
 use Rattle.std.proofs.lemmas.Bool.{false≢true, or_left}
 use Rattle.notes.specs.Lists.{Begins, Grows, at}

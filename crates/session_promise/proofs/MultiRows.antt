@@ -1,5 +1,5 @@
 -- The rows of replies on multixacts, once more was added.
-use Rattle.std.proofs.Common.{◌≡◌, ℕ, ◌<◌, ◌≤◌, ◌↔◌, ◌⊎◌, IsTrue, List, [], ◌∷◌, ◌++◌, length, take, refl, ap, sym, subst, ◌∙◌, arith, inl, inr, ⊎_elim, Option, Some, None, IfSome, Contains, unwrap_or, true, false}
+use Rattle.std.proofs.Common.{◌≡◌, ℕ, ◌<◌, ◌≤◌, List, [], ◌∷◌, ◌++◌, length, take, refl, ap, sym, subst, ◌∙◌, arith, inl, inr, ⊎_elim, Option, Some, None, IfSome, Contains, unwrap_or}
 use Rattle.std.specs.List.{AllByRecursion, AllZip, slice_get}
 use Rattle.tx_events.specs.Ids.{low_half}
 use Rattle.tx_events.specs.Nearest.{near_id}

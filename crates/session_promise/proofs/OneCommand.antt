@@ -1,5 +1,5 @@
 -- Of single commands: what they append, and how they are answered.
-use Rattle.std.proofs.Common.{Bool, true, List, [], drop, length, refl, subst, sym, ℕ, ⊎_elim, ◌+◌, ◌++◌, ◌≡◌, ◌∷◌, ◌⊎◌}
+use Rattle.std.proofs.Common.{Bool, true, List, [], drop, length, refl, subst, sym, ℕ, ⊎_elim, ◌++◌, ◌≡◌, ◌∷◌}
 use Rattle.std.specs.List.{AllByRecursion}
 use Rattle.std.proofs.lemmas.Bool.{false≢true}
 use Rattle.tx_events.specs.declared.event.By.{By}
@@ -9,7 +9,6 @@ use Rattle.tx_model.specs.declared.command.Command.{Command}
 use Rattle.tx_model.specs.declared.command.Command.TheVariants as commands
 use Rattle.tx_model.specs.declared.reply.Reply.{Reply}
 use Rattle.tx_model.specs.declared.reply.Reply.TheVariants as replies
-use Rattle.tx_model.specs.Replies.{alone}
 use Rattle.tx_model.specs.Stance.{Stance}
 use Rattle.life_law.specs.LawfulMultis.{is_ok_trim}
 use Rattle.tx_core.specs.declared.entry.Entry.{Entry}

@@ -1,5 +1,5 @@
-// A bank: up to 16 buffers over a volume of pages. Each call first brings its page to the front; what it changes stands
-// in a buffer until the buffer is taken for another page, or all are flushed.
+// A bank: up to 16 buffers over a volume of pages. Each call first brings its page to the front; what it changes stands in a
+// buffer until the buffer is taken for another page, or all are flushed.
 ghost use Rattle.std.specs.Prelude.{◌≡◌, ◌≢◌, ◌⊎◌, ℕ, ◌+◌, ◌-◌, ◌<◌, ◌≤◌, ◌^◌, Bool, true, false, List, ◌∷◌, length, take, drop, slice_index, slice_set, bit_and, bit_or, OnOk, OnErr, IsOk, IsTrue, Some, None, IfOk, IfErr, Ok, Err, cond, ◌&&◌, is_ok, IsErr, MatchBool};
 ghost use Rattle.std.proofs.Props.{props};
 ghost use Rattle.disk_core.specs.Faults.{CountsFault, HasRisen};

@@ -9,7 +9,7 @@ use Rattle.slru_bank.specs.Bank.{holds, buffered, map_of, Distinct, Agrees, AllA
 use Rattle.slru_bank.specs.Crash.{IsMixture, byte_at}
 
 pub same_order : (xs : List Buffer) → Distinct xs → Rearranged xs xs
-same_order xs d = record { long = refl; has = λ q. refl; map = λ pages q. refl; distinct = d; agree = λ pages a. a }
+same_order xs d = record { long = omega arith; has = λ q. refl; map = λ pages q. refl; distinct = d; agree = λ pages a. a }
 
 pub holds_same : (o : Option ℕ) (q : ℕ) → holds o q ≡ true → o ≡ Some q
 holds_same None q e = cc
@@ -50,7 +50,7 @@ not_both b x ys q d e =
 
 swapped : (b x : Buffer) (ys : List Buffer) → Distinct (b ∷ x ∷ ys) → Rearranged (b ∷ x ∷ ys) (x ∷ b ∷ ys)
 swapped b x ys d = record {
-  long = refl;
+  long = omega arith;
   has = λ q. cond_other (holds x.page q) (holds b.page q) (buffered ys q);
   map = λ pages q. swap_cond (holds x.page q) (holds b.page q) x.bytes.value b.bytes.value (map_of pages ys q) (not_both b.page x.page ys q d.0);
   distinct = (λ p e. let h = not_both b.page x.page ys p d.0 (holds_it x.page p e) in let k = d.1.0 p e in rw (h, k) refl, (λ p e. (or_false (holds x.page p) (buffered ys p) (d.0 p e)).1, d.1.1));
@@ -59,16 +59,16 @@ swapped b x ys d = record {
 
 behind : (b : Buffer) (xs ys : List Buffer) → Distinct (b ∷ xs) → Rearranged xs ys → Rearranged (b ∷ xs) (b ∷ ys)
 behind b xs ys d r = record {
-  long = ap suc r.long;
+  long = let l = r.long in omega (arith, l);
   has = λ q. ap (cond (holds b.page q) true) (r.has q);
   map = λ pages q. ap (cond (holds b.page q) b.bytes.value) (r.map pages q);
   distinct = (λ p e. r.has p ∙ d.0 p e, r.distinct);
   agree = λ pages a. (a.0, r.agree pages a.1);
 }
 
-again : (xs ys zs : List Buffer) → Rearranged xs ys → Rearranged ys zs → Rearranged xs zs
+pub again : (xs ys zs : List Buffer) → Rearranged xs ys → Rearranged ys zs → Rearranged xs zs
 again xs ys zs r s = record {
-  long = s.long ∙ r.long;
+  long = let l = r.long in let m = s.long in omega (arith, l, m);
   has = λ q. s.has q ∙ r.has q;
   map = λ pages q. s.map pages q ∙ r.map pages q;
   distinct = s.distinct;
@@ -84,6 +84,26 @@ to_front (b ∷ xs) (suc i) d within apart =
     let first = to_front xs i d (omega arith) apart.1 in
     let second = behind b xs (x ∷ remove xs i) apart first in
     again (b ∷ xs) (b ∷ x ∷ remove xs i) (x ∷ b ∷ remove xs i) second (swapped b x (remove xs i) second.distinct)
+
+-- one more buffer behind the others, without a page
+pub grown : (xs : List Buffer) (c : Buffer) → Distinct xs → c.page ≡ None → Rearranged xs (xs ++ c ∷ [])
+grown [] c d none = record {
+  long = omega arith;
+  has = λ q. ap (λ (o : Option ℕ). cond (holds o q) true false) none;
+  map = λ pages q. ap (λ (o : Option ℕ). cond (holds o q) c.bytes.value (page_bytes (pages q))) none;
+  distinct = (λ p e. refl, tt);
+  agree = λ pages a. (λ clean p e. absurd cc, tt);
+}
+grown (x ∷ xs) c d none = behind x xs (xs ++ c ∷ []) d (grown xs c d.1 none)
+
+-- the same, if there was memory for it
+pub grown_if : (added : Bool) (xs ys : List Buffer) (c : Buffer) → Distinct xs → c.page ≡ None → ys ≡ cond added (xs ++ c ∷ []) xs → Rearranged xs ys
+grown_if true xs ys c d none is = subst (λ (l : List Buffer). Rearranged xs l) (sym is) (grown xs c d none)
+grown_if false xs ys c d none is = subst (λ (l : List Buffer). Rearranged xs l) (sym is) (same_order xs d)
+
+-- as long as the first
+pub some_again : (xs ys : List Buffer) → 1 ≤ length xs → Rearranged xs ys → 1 ≤ length ys
+some_again xs ys some r = let l = r.long in omega (arith, some, l)
 
 -- ---- the first buffer is written, given up, and filled
 

@@ -1,5 +1,5 @@
 -- Runs of subids: each lies on one page, and together they have all.
-use Rattle.std.proofs.Common.{zero, suc, ◌≡◌, ◌≢◌, ◌⊎◌, ℕ, ◌+◌, ◌-◌, ◌≤◌, ◌<◌, ◌==◌, cond, Bool, true, false, List, [], ◌∷◌, ◌++◌, Some, refl, sym, ap, subst, ◌∙◌, inl, inr, ⊎_elim, length, take, drop, arith, eqb-true, slice_index, Contains, slice_get}
+use Rattle.std.proofs.Common.{zero, suc, ◌≡◌, ◌⊎◌, ℕ, ◌+◌, ◌-◌, ◌≤◌, ◌<◌, ◌==◌, cond, Bool, true, false, List, [], ◌∷◌, ◌++◌, Some, refl, sym, ap, subst, ◌∙◌, inl, inr, ⊎_elim, length, take, drop, arith, eqb-true, slice_index, Contains, slice_get}
 use Rattle.std.specs.List.{slice_range}
 use Rattle.tx_events.proofs.Membership.{Has, contains_has, has_contains, place_has}
 use Rattle.tx_events.specs.Pages.{xact_page}

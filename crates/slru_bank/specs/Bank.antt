@@ -1,5 +1,5 @@
 -- A bank as a map of its pages. What a disk tells is given by the pages that it reads.
-use Rattle.std.specs.Prelude.{◌≡◌, ◌≢◌, ◌⊎◌, ℕ, zero, suc, ◌+◌, ◌<◌, Bool, true, false, ◌==◌, if◌then◌else◌, List, [], ◌∷◌, ◌++◌, length, slice_index, take, drop, bit_and, bit_or, ◌-◌, Option, Some, None}
+use Rattle.std.specs.Prelude.{◌≡◌, ◌≢◌, ◌⊎◌, ℕ, zero, suc, ◌+◌, ◌<◌, ◌≤◌, Bool, true, false, ◌==◌, if◌then◌else◌, List, [], ◌∷◌, ◌++◌, length, slice_index, take, drop, bit_and, bit_or, ◌-◌, Option, Some, None}
 use Rattle.std.proofs.Common.{ap, ◌∙◌}
 use Rattle.std.proofs.Props.{props}
 use Rattle.disk_core.specs.Pages.{Pages, page_bytes}
@@ -52,9 +52,9 @@ pub record StaysUp (old new : Pages) (xs ys : List Buffer) : Type 0 where
   pub agree : AllAgree new ys
   pub distinct : Distinct ys
 
--- an order of the same buffers
+-- the same buffers in any order, and maybe more of them without a page
 pub record Rearranged (old new : List Buffer) : Type 0 where
-  pub long : length new ≡ length old
+  pub long : length old ≤ length new
   pub has : (q : ℕ) → buffered new q ≡ buffered old q
   pub map : (pages : Pages) (q : ℕ) → map_of pages new q ≡ map_of pages old q
   pub distinct : Distinct new

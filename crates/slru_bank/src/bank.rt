@@ -1,4 +1,4 @@
-// A bank: 16 buffers over a volume of pages. Each call first brings its page to the front; what it changes stands in a
+// A bank: up to 16 buffers over a volume of pages. Each call first brings its page to the front; what it changes stands in a
 // buffer until the buffer is taken for another page, or all are flushed.
 ghost use Rattle.std.specs.Prelude.{◌≡◌, ◌≢◌, ◌⊎◌, ℕ, ◌+◌, ◌-◌, ◌<◌, ◌≤◌, ◌^◌, Bool, true, false, List, ◌∷◌, length, take, drop, slice_index, slice_set, bit_and, bit_or, OnOk, OnErr, IsOk, IsTrue, Some, None, IfOk, IfErr, Ok, Err, cond, ◌&&◌, is_ok, IsErr, MatchBool};
 ghost use Rattle.std.proofs.Props.{props};
@@ -14,7 +14,7 @@ ghost use Rattle.slru_bank.specs.declared.refusal.BankRefusal.TheVariants.{Cut, 
 use crate::BankRefusal;
 use crate::buffer::Buffer;
 use crate::buffers::{
-    blank_first, clear_first, empty_buffers, make_page, put_first, read_first_bytes, set_first,
+    blank_first, clear_first, first_buffer, make_page, put_first, read_first_bytes, set_first,
     touch, write_pages,
 };
 use crate::removal::{Removal, blank_removed, empty_removed, later_of, lies_before, remove_pages};
@@ -33,9 +33,9 @@ pub struct SlruBank<P: PageDisk, O: PageRule> {
     last: u32,
     /// Segments wholly before it are cut.
     cutoff: u32,
-    /// The one used last first.
+    /// The one used last first. There are up to 16, each made when a page first needs it.
     buffers: Vec<Buffer>,
-    ghost sixteen: { length buffers.items ≡ 16 },
+    ghost some: { 1 ≤ length buffers.items },
     ghost distinct: { Distinct buffers.items } by { Distinct-prop buffers.items },
     ghost agree: { IsTrue P.tells → AllAgree (P.pages disk) buffers.items } by { Prim.hlevel (props, AllAgree-prop) },
 }
@@ -245,7 +245,7 @@ impl<P: PageDisk + Drop, O: PageRule> SlruBank<P, O> {
         ensures map { IfOk result (λ b. SameMap (λ q. page_bytes (P.pages disk q)) (pages_of b)) }
         ensures err { IfErr result (λ e. e.0 ≡ disk) }
     {
-        match empty_buffers(alloc) {
+        match first_buffer(alloc) {
             Ok(buffers) => Ok(SlruBank {
                 disk,
                 rule: PhantomData,

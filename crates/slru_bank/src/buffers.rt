@@ -35,11 +35,11 @@ fn turn(buffers: &mut [Buffer], at: usize)
 }
 
 // Takes a buffer to the front.
-fn bring(buffers: &mut [Buffer], at: usize)
-    requires within { at < length buffers.old }
-    requires distinct { Distinct buffers.old }
-    ensures order { Rearranged buffers.old buffers.new }
-    ensures list { (d : AnyBuffer) → buffers.new ≡ get_or buffers.old at d ∷ remove buffers.old at }
+fn bring(buffers: &mut Vec<Buffer>, at: usize)
+    requires within { at < length buffers.old.items }
+    requires distinct { Distinct buffers.old.items }
+    ensures order { Rearranged buffers.old.items buffers.new.items }
+    ensures list { (d : AnyBuffer) → buffers.new.items ≡ get_or buffers.old.items at d ∷ remove buffers.old.items at }
 {
     turn(buffers, at);
 }
@@ -76,24 +76,91 @@ fn read_first<P: PageDisk>(disk: &mut P, buffers: &mut [Buffer], page: u32) -> R
     buffers[0].fill(disk, page)
 }
 
-// Brings the page to the front, in place of the one used longest ago if it isn't there (`SlruSelectLRUPage`). A page at
-// the front already is found without a call of the disk.
-pub(crate) fn touch<P: PageDisk>(
-    disk: &mut P,
-    buffers: &mut [Buffer],
-    page: u32,
-) -> Result<(), Failed>
+// Writes the first buffer's page, if it was changed, and reads the page in its place.
+fn replace_first<P: PageDisk>(disk: &mut P, buffers: &mut [Buffer], page: u32) -> Result<(), Failed>
     requires some { 1 ≤ length buffers.old }
+    requires lacks { buffered buffers.old page ≡ false }
     requires distinct { Distinct buffers.old }
     requires agree { IsTrue P.tells → AllAgree (P.pages disk.old) buffers.old }
     ensures long { length buffers.new ≡ length buffers.old }
     ensures first { OnOk result (FirstHolds page buffers.new) }
-    ensures no_fault { FirstHolds page buffers.old → IsOk result }
-    ensures not_asked { FirstHolds page buffers.old → disk.new ≡ disk.old }
     ensures distinct { Distinct buffers.new }
     ensures stays { IsTrue P.tells → StaysUp (P.pages disk.old) (P.pages disk.new) buffers.old buffers.new }
     ensures others { IsTrue P.tells → (q : ℕ) → buffered buffers.old q ≡ false → P.pages disk.new q ≡ P.pages disk.old q }
     ensures crash { IsTrue P.tells → CrashLeaves (IsMixture (map_of (P.pages disk.old) buffers.old) (map_of (P.pages disk.old) buffers.old)) P.images P.moment P.left_at disk.old disk.new }
+    ensures cause { CountsFault result (P.faults disk.old) (P.faults disk.new) }
+{
+    write_first(disk, buffers)?;
+    read_first(disk, buffers, page)
+}
+
+// A buffer without a page.
+fn empty_buffer(alloc: Global) -> Result<Buffer, AllocError>
+    ensures page { IfOk result (λ b. b.page ≡ None) }
+    ensures clean { IfOk result (λ b. b.changed ≡ false) }
+{
+    Ok(Buffer {
+        page: None,
+        changed: false,
+        bytes: Box::new(alloc, [0; 8192])?,
+    })
+}
+
+// Puts one more behind the others, if there is memory for its place.
+fn add_buffer(buffers: &mut Vec<Buffer>, buffer: Buffer)
+    requires distinct { Distinct buffers.old.items }
+    requires page { buffer.page ≡ None }
+    ensures { Rearranged buffers.old.items buffers.new.items }
+{
+    let _ = buffers.push(buffer);
+}
+
+// Makes one buffer more, as long as there are fewer than 16 and the last has a page. Where there is no memory for it,
+// those that there are do.
+fn grow(buffers: &mut Vec<Buffer>)
+    requires some { 1 ≤ length buffers.old.items }
+    requires distinct { Distinct buffers.old.items }
+    ensures { Rearranged buffers.old.items buffers.new.items }
+{
+    let count = buffers.len();
+    if count >= 16 || buffers[count - 1].page.is_none() {
+        return;
+    }
+    let alloc = *buffers.allocator();
+    if let Ok(buffer) = empty_buffer(alloc) {
+        add_buffer(buffers, buffer);
+    }
+}
+
+// Takes a buffer for another page to the front: a new one, or the one used longest ago (`SlruSelectLRUPage`).
+fn take_last(buffers: &mut Vec<Buffer>)
+    requires some { 1 ≤ length buffers.old.items }
+    requires distinct { Distinct buffers.old.items }
+    ensures { Rearranged buffers.old.items buffers.new.items }
+{
+    grow(buffers);
+    let last = buffers.len() - 1;
+    bring(buffers, last);
+}
+
+// Brings the page to the front, in place of another if it isn't there. A page at the front already is found without a
+// call of the disk.
+pub(crate) fn touch<P: PageDisk>(
+    disk: &mut P,
+    buffers: &mut Vec<Buffer>,
+    page: u32,
+) -> Result<(), Failed>
+    requires some { 1 ≤ length buffers.old.items }
+    requires distinct { Distinct buffers.old.items }
+    requires agree { IsTrue P.tells → AllAgree (P.pages disk.old) buffers.old.items }
+    ensures some { 1 ≤ length buffers.new.items }
+    ensures first { OnOk result (FirstHolds page buffers.new.items) }
+    ensures no_fault { FirstHolds page buffers.old.items → IsOk result }
+    ensures not_asked { FirstHolds page buffers.old.items → disk.new ≡ disk.old }
+    ensures distinct { Distinct buffers.new.items }
+    ensures stays { IsTrue P.tells → StaysUp (P.pages disk.old) (P.pages disk.new) buffers.old.items buffers.new.items }
+    ensures others { IsTrue P.tells → (q : ℕ) → buffered buffers.old.items q ≡ false → P.pages disk.new q ≡ P.pages disk.old q }
+    ensures crash { IsTrue P.tells → CrashLeaves (IsMixture (map_of (P.pages disk.old) buffers.old.items) (map_of (P.pages disk.old) buffers.old.items)) P.images P.moment P.left_at disk.old disk.new }
     ensures cause { CountsFault result (P.faults disk.old) (P.faults disk.new) }
 {
     match place_of(buffers, page) {
@@ -102,10 +169,8 @@ pub(crate) fn touch<P: PageDisk>(
             Ok(())
         }
         None => {
-            let last = buffers.len() - 1;
-            bring(buffers, last);
-            write_first(disk, buffers)?;
-            read_first(disk, buffers, page)
+            take_last(buffers);
+            replace_first(disk, buffers, page)
         }
     }
 }
@@ -168,34 +233,6 @@ pub(crate) fn clear_first(buffers: &mut Vec<Buffer>, page: u32, at: usize)
 }
 
 // Brings a buffer for the page to the front, without reading it.
-pub(crate) fn make_room<P: PageDisk>(
-    disk: &mut P,
-    buffers: &mut [Buffer],
-    page: u32,
-) -> Result<(), Failed>
-    requires some { 1 ≤ length buffers.old }
-    requires distinct { Distinct buffers.old }
-    requires agree { IsTrue P.tells → AllAgree (P.pages disk.old) buffers.old }
-    ensures long { length buffers.new ≡ length buffers.old }
-    ensures first { OnOk result (FirstMayHold page buffers.new) }
-    ensures distinct { Distinct buffers.new }
-    ensures stays { IsTrue P.tells → StaysUp (P.pages disk.old) (P.pages disk.new) buffers.old buffers.new }
-    ensures crash { IsTrue P.tells → CrashLeaves (IsMixture (map_of (P.pages disk.old) buffers.old) (map_of (P.pages disk.old) buffers.old)) P.images P.moment P.left_at disk.old disk.new }
-    ensures cause { CountsFault result (P.faults disk.old) (P.faults disk.new) }
-{
-    match place_of(buffers, page) {
-        Some(i) => {
-            bring(buffers, i);
-            Ok(())
-        }
-        None => {
-            let last = buffers.len() - 1;
-            bring(buffers, last);
-            write_first(disk, buffers)
-        }
-    }
-}
-
 pub(crate) fn make_page<P: PageDisk>(
     disk: &mut P,
     buffers: &mut Vec<Buffer>,
@@ -204,14 +241,23 @@ pub(crate) fn make_page<P: PageDisk>(
     requires some { 1 ≤ length buffers.old.items }
     requires distinct { Distinct buffers.old.items }
     requires agree { IsTrue P.tells → AllAgree (P.pages disk.old) buffers.old.items }
-    ensures long { length buffers.new.items ≡ length buffers.old.items }
+    ensures some { 1 ≤ length buffers.new.items }
     ensures first { OnOk result (FirstMayHold page buffers.new.items) }
     ensures distinct { Distinct buffers.new.items }
     ensures stays { IsTrue P.tells → StaysUp (P.pages disk.old) (P.pages disk.new) buffers.old.items buffers.new.items }
     ensures crash { IsTrue P.tells → CrashLeaves (IsMixture (map_of (P.pages disk.old) buffers.old.items) (map_of (P.pages disk.old) buffers.old.items)) P.images P.moment P.left_at disk.old disk.new }
     ensures cause { CountsFault result (P.faults disk.old) (P.faults disk.new) }
 {
-    make_room(disk, buffers, page)
+    match place_of(buffers, page) {
+        Some(i) => {
+            bring(buffers, i);
+            Ok(())
+        }
+        None => {
+            take_last(buffers);
+            write_first(disk, buffers)
+        }
+    }
 }
 
 pub(crate) fn blank_first(buffers: &mut Vec<Buffer>, page: u32)
@@ -277,18 +323,13 @@ pub(crate) fn write_pages<P: PageDisk>(
     write_all(disk, buffers)
 }
 
+// The first buffer of a bank. Others are made when pages come that it has no room for.
 #[tactic(auto, using(crate::proofs::BufferLists::empty_push))]
-pub(crate) fn empty_buffers(alloc: Global) -> Result<Vec<Buffer>, AllocError>
-    ensures count { IfOk result (λ v. length v.items ≡ 16) }
+pub(crate) fn first_buffer(alloc: Global) -> Result<Vec<Buffer>, AllocError>
+    ensures some { IfOk result (λ v. 1 ≤ length v.items) }
     ensures empty { IfOk result (λ v. AllEmpty v.items) }
 {
     let mut buffers = Vec::new(alloc);
-    while buffers.len() < 16 {
-        buffers.push(Buffer {
-            page: None,
-            changed: false,
-            bytes: Box::new(alloc, [0; 8192])?,
-        })?;
-    }
+    buffers.push(empty_buffer(alloc)?)?;
     Ok(buffers)
 }

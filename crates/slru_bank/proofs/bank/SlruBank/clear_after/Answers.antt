@@ -1,4 +1,4 @@
-use Rattle.std.proofs.Common.{◌≡◌, List, ℕ, Bool, false, ap, rules, ◌∙◌}
+use Rattle.std.proofs.Common.{◌≡◌, ◌≤◌, List, ℕ, Bool, false, ap, rules, subst, sym, ◌∙◌}
 use Rattle.tx_events.specs.PageOrder.{page_precedes}
 use Rattle.tx_events.specs.PageWindow.{precedes_itself}
 use Rattle.slru_bank.specs.Calls.{pages_of}
@@ -36,7 +36,7 @@ returns-clause-bank g c =
 
 pub invariant_of-self : goal.invariant_of-self
 invariant_of-self g c = record {
-  sixteen = c.clear_first.ensures.long ∙ c.load.new.self.sixteen;
+  some = subst (λ (n : ℕ). 1 ≤ n) (sym c.clear_first.ensures.long) c.load.new.self.some;
   distinct = c.clear_first.ensures.distinct;
   agree = λ told. c.clear_first.ensures.agree (g.P.PageDisk.pages c.load.new.self.disk) (c.load.new.self.agree told);
 }

@@ -1,4 +1,4 @@
-use Rattle.std.proofs.Common.{List, arith, subst, ℕ, ◌∙◌}
+use Rattle.std.proofs.Common.{◌≤◌, List, arith, subst, sym, ℕ}
 use Rattle.slru_bank.specs.Bank.{IsPage, map_of, placed, puts_after}
 use Rattle.slru_bank.specs.Calls.{pages_of}
 use Rattle.slru_bank.proofs.PageBytes.{put_stays}
@@ -19,7 +19,7 @@ returns-clause-page g c told =
 
 pub invariant_of-self : goal.invariant_of-self
 invariant_of-self g c = record {
-  sixteen = c.put_first.ensures.long ∙ c.open.new.self.sixteen;
+  some = subst (λ (n : ℕ). 1 ≤ n) (sym c.put_first.ensures.long) c.open.new.self.some;
   distinct = c.put_first.ensures.distinct;
   agree = λ told. c.put_first.ensures.agree (g.P.PageDisk.pages c.open.new.self.disk) (c.open.new.self.agree told);
 }

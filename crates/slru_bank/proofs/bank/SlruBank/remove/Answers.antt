@@ -1,4 +1,4 @@
-use Rattle.std.proofs.Common.{List, ℕ, Bool, ◌∙◌}
+use Rattle.std.proofs.Common.{◌≤◌, List, ℕ, Bool, subst, sym, ◌∙◌}
 use Rattle.disk_core.specs.Pages.{Pages}
 use Rattle.slru_bank.specs.declared.buffer.Buffer.{Buffer}
 use Rattle.slru_bank.specs.Bank.{map_of}
@@ -13,7 +13,7 @@ invariant_of-self g c =
     let gone : ℕ → Bool = removes g.O.PageRule.shape g.O.PageRule.per_page c.args.removal in
     let pages = g.P.PageDisk.pages in
     record {
-      sixteen = c.blank_removed.ensures.long ∙ c.args.self.now.sixteen;
+      some = subst (λ (n : ℕ). 1 ≤ n) (sym c.blank_removed.ensures.long) c.args.self.now.some;
       distinct = c.blank_removed.ensures.distinct;
       agree = λ told. lack_agree gone (pages c.args.self.now.disk) (pages c.remove_pages.new.disk) c.blank_removed.new.buffers.items (c.remove_pages.ensures.others told) c.blank_removed.ensures.blank
           (c.blank_removed.ensures.agree (pages c.args.self.now.disk) (c.args.self.now.agree told));
@@ -24,7 +24,7 @@ invariant_of-self-2 g c =
     let gone : ℕ → Bool = removes g.O.PageRule.shape g.O.PageRule.per_page c.args.removal in
     let pages = g.P.PageDisk.pages in
     record {
-      sixteen = c.empty_removed.ensures.long ∙ c.blank_removed.ensures.long ∙ c.args.self.now.sixteen;
+      some = subst (λ (n : ℕ). 1 ≤ n) (sym (c.empty_removed.ensures.long ∙ c.blank_removed.ensures.long)) c.args.self.now.some;
       distinct = c.empty_removed.ensures.distinct;
       agree = λ told. c.empty_removed.ensures.agree (pages c.remove_pages.new.disk)
           (lack_agree gone (pages c.args.self.now.disk) (pages c.remove_pages.new.disk) c.blank_removed.new.buffers.items (c.remove_pages.ensures.others told) c.blank_removed.ensures.blank

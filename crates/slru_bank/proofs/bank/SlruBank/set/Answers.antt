@@ -1,4 +1,4 @@
-use Rattle.std.proofs.Common.{List, arith, subst, ℕ, slice_index, slice_set, ◌∙◌}
+use Rattle.std.proofs.Common.{◌≤◌, List, arith, subst, sym, ℕ, slice_index, slice_set}
 use Rattle.slru_bank.specs.Bank.{IsPage, map_of, masked, puts_after}
 use Rattle.slru_bank.specs.Calls.{pages_of}
 use Rattle.slru_bank.proofs.PageBytes.{set_stays}
@@ -19,7 +19,7 @@ returns-clause-page g c told =
 
 pub invariant_of-self : goal.invariant_of-self
 invariant_of-self g c = record {
-  sixteen = c.set_first.ensures.long ∙ c.open.new.self.sixteen;
+  some = subst (λ (n : ℕ). 1 ≤ n) (sym c.set_first.ensures.long) c.open.new.self.some;
   distinct = c.set_first.ensures.distinct;
   agree = λ told. c.set_first.ensures.agree (g.P.PageDisk.pages c.open.new.self.disk) (c.open.new.self.agree told);
 }

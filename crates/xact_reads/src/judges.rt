@@ -1,7 +1,8 @@
 //! The verdicts on a multixact's members.
-ghost use Rattle.std.specs.Prelude.{◌≡◌, ℕ, ◌+◌, ◌*◌, ◌<◌, ◌≤◌, [], IfErr, IfOk, IsTrue, OnOk, Some, cond, length, vec_capacity};
+ghost use Rattle.std.specs.Prelude.{◌≡◌, ℕ, ◌+◌, ◌*◌, ◌^◌, ◌<◌, ◌≤◌, [], IfErr, IfOk, IsTrue, OnOk, Some, cond, length, vec_capacity};
 ghost use Rattle.std.specs.List.{AllByRecursion, filter_map};
 ghost use Rattle.hall.specs.Calls.{view, IsOf, start_of};
+ghost use Rattle.tx_events.specs.Ids.{IsXidNumber};
 ghost use Rattle.tx_model.specs.declared.reply.Verdict.TheVariants as verdicts;
 ghost use Rattle.life_law.specs.MultiReplies.{IsOfId};
 ghost use Rattle.tx_core.specs.Entries.{AreFewIds};
@@ -26,12 +27,20 @@ use tx_model::{MemberVerdict, Verdict};
 
 /// The id of the first epoch.
 fn lone(x: Xid) -> FullXid
-    ensures { result ≡ x.number }
+    ensures value { result ≡ x.number }
+    ensures number { (result < 2 ^ 64) × IsXidNumber result }
 {
     match FullXid::new(u64::from(x.number)) {
         Some(id) => id,
         None => unreachable!(),
     }
+}
+
+/// The number of an id has 64 bits and is an id's.
+fn known(id: FullXid)
+    ensures { (id < 2 ^ 64) × IsXidNumber id }
+{
+    let _number = id.number();
 }
 
 fn verdict_on(shown: bool) -> Verdict
@@ -141,6 +150,7 @@ fn judge<R: Passing, L: LogDisk, P: PageDisk>(
         }
         Some(glance) => {
             let id = glance.id;
+            known(id);
             match judge_glance(rt, hall, caller, banks, name, glance, oldest) {
                 Ok(verdict) => Ok(MemberVerdict { id, mode, verdict }),
                 Err(refusal) => Err(refusal),

@@ -43,6 +43,9 @@ returns-in-Err-clause-went g c =
     let i = c.loop-place.invariant in
     went_both c.args.caller.now.number u.number (view c.args.caller.now.pass).seen (view u.pass).seen (view c.judge_slot.new.caller.pass).seen i.same.1 i.went c.in-Err.ensures.went
 
+pub returns-in-Err-clause-ranges : goal.returns-in-Err-clause-ranges
+returns-in-Err-clause-ranges g c = c.in-Err.ensures.ranges c.loop-place.invariant.ranges
+
 pub returns-in-Err-clause-adds : goal.returns-in-Err-clause-adds
 returns-in-Err-clause-adds g c =
     let old = c.args.caller.now in

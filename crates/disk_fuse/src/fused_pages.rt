@@ -17,11 +17,9 @@ pub struct FusedPages<P: PageDisk> {
 }
 
 impl<P: PageDisk> PageDisk for FusedPages<P> {
-    ghost use Rattle.std.specs.Prelude.{◌+◌, false};
-    ghost use Rattle.std.proofs.lemmas.Bool.{false≢true};
+    ghost use Rattle.std.specs.Prelude.{◌+◌};
 
-    // Also not what the pages behind it tell, so that a run over any bytes may be tried.
-    ghost tells = { false };
+    ghost tells = { P.tells };
 
     ghost pages = { λ f. P.pages f.inner };
 
@@ -33,11 +31,11 @@ impl<P: PageDisk> PageDisk for FusedPages<P> {
 
     ghost faults = { λ f. P.faults f.inner + f.refused };
 
-    ghost reads_image = { λ f told. absurd (false≢true told) };
+    ghost reads_image = { λ f told. P.reads_image f.inner told };
 
-    ghost counts_now = { λ f c told now. absurd (false≢true told) };
+    ghost counts_now = { λ f c told now. P.counts_now f.inner c told now };
 
-    ghost only_now = { λ f c told now. absurd (false≢true told) };
+    ghost only_now = { λ f c told now. P.only_now f.inner c told now };
 
     fn read_page(&mut self, page: u32, into: &mut [u8; 8192]) -> Result<bool, Failed>
         ensures bytes { IsTrue P.tells → IfOk result (λ found. IsPageRead found (P.pages self.old.inner page) into.new) }

@@ -1,15 +1,6 @@
 //! A media that is handed to a second run, which goes on behind the records of the first.
-use crate::run_help::run_in;
+use crate::run_help::{clear, run_in};
 use std::test::Fail;
-use std::{fs, io};
-
-/// Takes away what an earlier run of the test left.
-fn clear(rt: &HostRuntime, path: &str) -> io::Result<()> {
-    match fs::remove_dir_all(rt, path) {
-        Err(error) if error.kind() != io::ErrorKind::NotFound => Err(error),
-        _ => Ok(()),
-    }
-}
 
 const FIRST: &str = ".banks 3
 a begin
@@ -53,7 +44,7 @@ fn a_second_run_goes_on_behind_the_first_in_its_banks(rt: HostRuntime) -> Result
     let alloc = rt.alloc();
     for banks in [1, 3, 16] {
         clear(&rt, "again")?;
-        let (status, _) = run_in(rt, "again", FIRST)?;
+        let (status, _) = run_in(&rt, rt, "again", FIRST)?;
         assert_eq!(rt; status, 0);
         let script = format!(in alloc;
             ".banks {banks}
@@ -67,7 +58,7 @@ a begin
 a write
 "
         )?;
-        let (status, written) = run_in(rt, "again", script.as_str())?;
+        let (status, written) = run_in(&rt, rt, "again", script.as_str())?;
         assert_eq!(rt; (status, written.as_str()), (0, NEXT));
     }
     clear(&rt, "again")?;

@@ -1,5 +1,5 @@
 //! Logs that a run finds on its media: those of an earlier life, damaged ones, and new ones.
-use crate::run_help::run_behind;
+use crate::run_help::{clear, run_behind};
 use std::alloc::Global;
 use std::test::Fail;
 
@@ -59,11 +59,12 @@ fn a_log_that_is_cut_anywhere_is_gone_on_from_or_damaged_at_the_cut_batch(
 ) -> Result<(), Fail> {
     let alloc = rt.alloc();
     for length in 0..188 {
-        let (status, written) = run_behind(&rt, &LOG[..length], "a begin\n")?;
+        let (status, written) = run_behind(&rt, rt, "cut_log", &LOG[..length], "a begin\n")?;
         let found = format!(in alloc; "{status}:{written}")?;
         let wanted = wanted(alloc, length)?;
         assert!(rt; found.starts_with(wanted.as_str()), "{length}: {found}");
     }
+    clear(&rt, "cut_log")?;
     Ok(())
 }
 
@@ -104,12 +105,13 @@ fn logs_that_a_run_finds(rt: HostRuntime) -> Result<(), Fail> {
         let (_name, row_rest) = row.split_once(":").ok_or("a row is cut")?;
         let (log, wanted) = row_rest.split_once(":").ok_or("a row is cut")?;
         let log = bytes_of(alloc, log)?;
-        let (status, written) = run_behind(&rt, log.as_slice(), "a begin\n")?;
+        let (status, written) = run_behind(&rt, rt, "found_log", log.as_slice(), "a begin\n")?;
         let text = if status == 0 { NEW } else { "" };
         let wanted = format!(in alloc; "{wanted}{text}\n")?;
         let found = format!(in alloc; "{status}:{written}")?;
         assert_eq!(rt; found.as_str(), wanted.as_str(), "{row}");
     }
+    clear(&rt, "found_log")?;
     Ok(())
 }
 
@@ -131,8 +133,9 @@ end
 fn a_commit_of_an_earlier_life_is_visible(rt: HostRuntime) -> Result<(), Fail> {
     let mut log = LOG;
     log[80] = 0;
-    let (status, written) = run_behind(&rt, &log[..81], "a snap s\na see s 3\n")?;
+    let (status, written) = run_behind(&rt, rt, "commit_log", &log[..81], "a snap s\na see s 3\n")?;
     assert_eq!(rt; (status, written.as_str()), (0, BEHIND_A_COMMIT));
+    clear(&rt, "commit_log")?;
     Ok(())
 }
 
@@ -154,7 +157,8 @@ end
 
 #[test]
 fn a_multixact_of_an_earlier_life_has_its_members(rt: HostRuntime) -> Result<(), Fail> {
-    let (status, written) = run_behind(&rt, &LOG, "a snap s\na seemulti s 1\n")?;
+    let (status, written) = run_behind(&rt, rt, "multi_log", &LOG, "a snap s\na seemulti s 1\n")?;
     assert_eq!(rt; (status, written.as_str()), (0, BEHIND_A_MULTIXACT));
+    clear(&rt, "multi_log")?;
     Ok(())
 }

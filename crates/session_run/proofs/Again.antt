@@ -9,7 +9,7 @@ use Rattle.disk_core.specs.Media.{HasBanks}
 use Rattle.tx_model.specs.declared.report.How.{How}
 use Rattle.tx_model.specs.declared.report.LifeReport.{LifeReport}
 use Rattle.life_law.specs.LawfulLife.{IsLawfulLife}
-use Rattle.lives_law.specs.Lives.{GoesBehind}
+use Rattle.lives_law.specs.Lives.{GoOn, GoesBehind}
 use Rattle.lives_law.proofs.GoingOn.{behind_push}
 use Rattle.session_lang.specs.Rounds.{asked_of}
 use Rattle.run_law.specs.Lives.{AreLivesOf, LifePart, parts_of}
@@ -26,6 +26,12 @@ last_lawful tells banks (part ∷ parts) [] r are = (part, are.0)
 last_lawful tells banks (part ∷ parts) (q ∷ before) r are = last_lawful tells banks parts before r are.2
 last_lawful tells banks [] [] r are = absurd are
 last_lawful tells banks [] (q ∷ before) r are = absurd are
+
+-- lives go on behind others
+go_on_join : (lives : List LifeReport) (next : LifeReport) (more : List LifeReport) → GoOn lives → GoesBehind lives next.life → GoOn (next ∷ more) → GoOn (lives ++ next ∷ more)
+go_on_join [] next more go behind rest = rest
+go_on_join (a ∷ []) next more go behind rest = (behind, rest)
+go_on_join (a ∷ (b ∷ lives)) next more go behind rest = (go.0, go_on_join (b ∷ lives) next more go.1 behind rest)
 
 module _ {L P : Type 0} (l : logs.Ghosts L) (p : disks.Ghosts P) (falls : Crash → Volumes L P → Volumes L P → Type 0) where
   -- a crash keeps the number of volumes
@@ -65,7 +71,7 @@ module _ {L P : Type 0} (l : logs.Ghosts L) (p : disks.Ghosts P) where
           tells = tells;
           fits = λ told some. subst (FitsLog l p kept) (sym (leaves.only v given)) (found.1 told (tells told)).fit;
         };
-        goes_on = λ told log next life behind begins.
-            subst (λ (ls : List LifeReport). GoesBehind ls life) (sym h.lives_are) (behind_push h.before last life
-            (from_last kept last.life life next.number (found.1 told (tells told)).ends lawful.1.log.begun (behind.flushed told) (behind.upto told) begins.from (begins.base ∙ sym (behind.base told))));
+        go_on = λ told log begins next more behind is_next go.
+            let from = from_last kept last.life next.life begins.number (found.1 told (tells told)).ends lawful.1.log.begun (behind.flushed told) (behind.upto told) is_next.from (is_next.base ∙ sym (behind.base told)) in
+            go_on_join r.lives next more (is.lives.go_on told) (subst (λ (ls : List LifeReport). GoesBehind ls next.life) (sym h.lives_are) (behind_push h.before last next.life from)) go;
       }

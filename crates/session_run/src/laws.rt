@@ -22,7 +22,7 @@ pub fn life_ends<L: LogDisk, P: PageDisk>(hall: &Hall<EngineLaw<L, P>>)
     ensures { LifeEnds hall.now }
 {}
 
-/// A media that a run left with status 0 may be handed to a next one, which goes on behind its last life.
+/// A media that a run left with status 0 may be handed to a next one, whose lives go on from its own: all are of one log.
 pub fn runs_go_on<L: LogDisk, P: PageDisk>()
     ensures { RunsGoOn L.LogDisk P.PageDisk }
 {}

@@ -9,6 +9,17 @@ use Rattle.session_run.proofs.LivesRun.{HasCome, come_first, come_on, part_stops
 use Rattle.session_run.proofs.Opening.{is_first}
 use Rattle.session_run.proofs.run.run_script.Goals as goal
 
+-- With a ghost value the clauses of `requires` have no names: they stand in their order behind what is asked of lifetimes.
+
+pub open_life-requires : goal.open_life-requires
+open_life-requires g c =
+    let m = g.M.Media in
+    let l = g.M.Log.LogDisk in
+    let p = g.M.Pages.PageDisk in
+    let cluster = c.cluster_of.ensures.cluster in
+    let may = subst (λ (k : Cluster). (v : Volumes g.M.Log.T g.M.Pages.T) → MayMount (m.is_new c.args.media.now) (m.begins c.args.media.now) (m.gives c.args.media.now) k.banks v → MayBeginOver l p g.kept v) (sym c.cluster_of.ensures.is) (c.requires.may) in
+    search (rules, cluster, may)
+
 pub returns-in-Err-clause-stopped : goal.returns-in-Err-clause-stopped
 returns-in-Err-clause-stopped g c =
     let s = c.args.script.now in
@@ -67,7 +78,8 @@ returns-in-Last-clause-report g c =
     let part = c.next_part-part.result in
     let new = c.run_part.new in
     let w = rw c.in-Last.is at (c.in_ok-run_part.ensures.went h.banks h.start h.begun h.done h.lives h.running h.count) in
-    run_ends c.args.script.now (MayMount (m.is_new c.args.media.now) (m.begins c.args.media.now) (m.gives c.args.media.now)) g.kept m.falls (k.held c.args.sink.now) (k.held at.sink) at.items at.number at.life h part.0 part.1 part.2 c.next_part-part.ensures (k.held new.sink) w.1 w.2 w.3 (m.gives new.media) w.0 w.4 w.5
+    let e = run_ends c.args.script.now (MayMount (m.is_new c.args.media.now) (m.begins c.args.media.now) (m.gives c.args.media.now)) g.kept m.falls (k.held c.args.sink.now) (k.held at.sink) at.items at.number at.life h part.0 part.1 part.2 c.next_part-part.ensures (k.held new.sink) w.1 w.2 w.3 (m.gives new.media) w.0 w.4 w.5 in
+    (h.banks, h.start, e.0, e.1, e.2, e.3)
 
 pub returns-in-Last-clause-idle : goal.returns-in-Last-clause-idle
 returns-in-Last-clause-idle g c = (rw c.in-Last.is at c.in_ok-run_part.ensures.idle) tt

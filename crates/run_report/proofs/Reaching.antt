@@ -29,7 +29,7 @@ use Rattle.report_words.specs.Fits.{AreNames, FitsCheckpointReply, FitsDumpReply
 use Rattle.report_words.specs.Reading.{name_place}
 use Rattle.report_words.specs.Replies.{kind_of}
 use Rattle.report_words.proofs.Places.{place_again}
-use Rattle.report_lines.specs.Fits.{FitsCommand, FitsDump, FitsEvent, FitsLine, FitsMultiEvent, FitsRecord}
+use Rattle.report_lines.specs.Fits.{FitsCommand, FitsDump, FitsEvent, FitsLine, FitsMultiEvent}
 use Rattle.report_read.specs.Item.{Item}
 use Rattle.report_read.specs.Item as items
 use Rattle.report_read.specs.Grammar.{AreNamed, Follows, IsNamed, after, begins_step, is_round, may_speak, note, noted, session_of, steps_told}

@@ -1,4 +1,4 @@
-use Rattle.std.proofs.Common.{[], IsTrue, ap, arith, false, refl, rules, subst, sym, true, ◌+◌, ◌∙◌, ◌≡◌, ◌≤◌}
+use Rattle.std.proofs.Common.{[], IsTrue, ap, refl, rules, subst, sym, true, ◌+◌, ◌∙◌, ◌≤◌}
 use Rattle.wal_core.specs.LogViews.{log_disk}
 use Rattle.tx_core.specs.declared.entry.Start.{Start}
 use Rattle.tx_events.proofs.Membership.{contains_has}

@@ -1,5 +1,5 @@
 -- Which media may be handed to a run.
-use Rattle.std.proofs.Common.{Bool, IsTrue, List, None, [], ap, arith, false, length, refl, subst, sym, ℕ, ◌∙◌, ◌≡◌}
+use Rattle.std.proofs.Common.{Bool, IsTrue, List, None, [], ap, arith, false, length, refl, subst, sym, true, ℕ, ◌∙◌, ◌≡◌}
 use Rattle.std.proofs.lemmas.Bool.{false≢true}
 use Rattle.std.specs.Prelude.{IsSome, Option}
 use Rattle.disk_core.specs.declared.log_disk.LogDisk as logs
@@ -38,7 +38,7 @@ unfolding opened
 none_on_empty v same = ap history_on same
 
 no_some : {A : Type 0} (o : Option A) → o ≡ None → IsSome o → ⊥
-no_some o none some = let e = subst IsSome none some in absurd e
+no_some o none some = let e : false ≡ true = subst IsSome none some in false≢true e
 
 module _ {L P : Type 0} (l : logs.Ghosts L) (p : disks.Ghosts P) (kept : KeptLog) (n : ℕ) (v : Volumes L P) (has : HasBanks n v) where
   own_banks : HasBanks (length v.xact.items) v

@@ -38,6 +38,12 @@ pub told_base : (told : Bool) (kept : KeptLog) (n : ℕ) (counters : Counters) �
 told_base true kept n counters tells same = ap (λ (c : Counters). base_so c (behind true kept n)) same
 told_base false kept n counters tells same = absurd (false≢true tells)
 
+-- where volumes tell, what this log gives at a number from the flushed one to its end
+pub record IsBehind (kept : KeptLog) (c : Cluster) (b : Beginning) : Type 0 where
+  pub flushed : kept.flushed ≤ b.number
+  pub upto : b.number ≤ log_end kept
+  pub base : base_at kept b.number ≡ base_so c.base b
+
 module _ {L P : Type 0} {l : logs.Ghosts L} {p : disks.Ghosts P} where
   new_is_opened : (c : Cluster) (volumes : Volumes L P) (life : OpenLife L P l p) → (new : IsNewLife c volumes life) → IsOpened c nothing_before new.faults volumes life
   new_is_opened c volumes life new = record {
@@ -57,12 +63,6 @@ module _ {L P : Type 0} {l : logs.Ghosts L} {p : disks.Ghosts P} where
     right = goes.right;
     told = λ rec among told. told;
   }
-
-  -- where volumes tell, what this log gives at a number from the flushed one to its end
-  pub record IsBehind (kept : KeptLog) (c : Cluster) (b : Beginning) : Type 0 where
-    pub flushed : kept.flushed ≤ b.number
-    pub upto : b.number ≤ log_end kept
-    pub base : base_at kept b.number ≡ base_so c.base b
 
   -- How the life began: with what, over the banks of this cluster and with its sessions, and behind which records.
   pub record IsOpenedSo (kept : KeptLog) (c : Cluster) (volumes : Volumes L P) (life : OpenLife L P l p) : Type 0 where

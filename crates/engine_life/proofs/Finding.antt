@@ -1,6 +1,5 @@
 -- The log that was found on a volume: what a life begins with over it, and why none does.
-use Rattle.std.proofs.Common.{IsSome, IsTrue, None, Ok, Some, ap, arith, inl, inr, length, refl, subst, sym, ℕ, ◌∙◌, ◌≡◌, ◌≤◌}
-use Rattle.disk_core.specs.Faults.{HasRisen}
+use Rattle.std.proofs.Common.{IsSome, IsTrue, List, None, Ok, Some, ap, arith, inl, inr, length, refl, subst, sym, ℕ, ◌∙◌, ◌≡◌, ◌≤◌}
 use Rattle.disk_core.specs.Volume.{Volume}
 use Rattle.disk_core.specs.declared.log_disk.LogDisk as logs
 use Rattle.disk_core.specs.declared.page_disk.PageDisk as disks
@@ -36,7 +35,7 @@ use Rattle.engine_life.specs.Reopening.{LeavesLog, OpensUpTo, volumes_over}
 use Rattle.engine_life.proofs.Reopened.{as_read, left_as_read}
 
 -- it is a new one to the engine
-pub new_log : {D : Type 0} {g : logs.Ghosts D} (disk : D) (log : WalLog D g) → IsFoundNew disk log → engines.IsNewLog log
+pub new_log : {D : Type 0} {g : logs.Ghosts D} (disk : D) (log : WalLog D g) → IsFoundNew disk log → engines.IsEmptyLog log
 new_log disk log found = record {
   recs = found.recs;
   next = found.next;
@@ -72,10 +71,14 @@ module _ {L P : Type 0} (l : logs.Ghosts L) (p : disks.Ghosts P) where
   counted_since disk disk' volumes faults up k = record { log = (let more = k.log in omega (arith, up, more)); banks = k.banks }
 
   -- volumes that a life may begin over fit the log, where records were found
-  pub may_go_on : (kept : KeptLog) (volumes : Volumes L P) (found : Found L l) → IsFound volumes.log found → MayBeginOver l p kept volumes → MayGoOn l p kept volumes
+  may_go_on : (kept : KeptLog) (volumes : Volumes L P) (found : Found L l) → IsFound volumes.log found → MayBeginOver l p kept volumes → MayGoOn l p kept volumes
   may_go_on kept volumes found is may told =
       let reads = may.tells told in
       (reads, may.fits told (subst IsSome (sym (ap history_in (is.opens reads))) refl))
+
+  pub found_there : (kept : KeptLog) (volumes : Volumes L P) (found : Found L l) → IsFound volumes.log found → MayBeginOver l p kept volumes
+      → (log : L) × IsFound log found × MayGoOn l p kept (volumes_over log (banks_of volumes))
+  found_there kept volumes found is may = (volumes.log, is, may_go_on kept volumes found is may)
 
   -- ---- why no life begins
 

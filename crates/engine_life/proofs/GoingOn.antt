@@ -1,5 +1,5 @@
 -- Volumes over which a life may go on, and those that come back where none does.
-use Rattle.std.proofs.Common.{IsTrue, inl, inr, length, subst, sym, ℕ}
+use Rattle.std.proofs.Common.{inl, inr, subst, sym, ℕ}
 use Rattle.disk_core.specs.declared.log_disk.LogDisk as logs
 use Rattle.disk_core.specs.declared.page_disk.PageDisk as disks
 use Rattle.disk_core.specs.declared.media.Volumes.{Volumes}

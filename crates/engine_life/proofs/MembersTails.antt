@@ -1,21 +1,21 @@
 -- The bytes behind the last slot of each page of members stay 0, by the bank's course.
-use Rattle.std.proofs.Common.{ℕ, zero, suc, Bool, true, false, MatchBool, ◌≡◌, ◌∙◌, ap, List, Option, IsTrue, subst, sym, ⊎_elim}
+use Rattle.std.proofs.Common.{ℕ, zero, suc, Bool, true, false, MatchBool, ◌∙◌, ap, List, IsTrue, subst, sym, ⊎_elim}
 use Rattle.std.specs.List.{slice_index}
-use Rattle.disk_core.specs.Pages.{Pages, page_bytes, zero_page}
+use Rattle.disk_core.specs.Pages.{Pages, zero_page}
 use Rattle.disk_core.specs.declared.page_disk.PageDisk as disks
 use Rattle.store_pages.specs.declared.page_rule.PageRule as rules
 use Rattle.slru_bank.specs.Bank.{PutsPage}
-use Rattle.slru_bank.specs.Crash.{CrashLeaves, IsMixtureOrGone, SameMap}
+use Rattle.slru_bank.specs.Crash.{SameMap}
 use Rattle.slru_bank.specs.declared.bank.SlruBank.{SlruBank}
 use Rattle.slru_bank.specs.Calls.{CrashKeeps, pages_of, volume_of}
 use Rattle.tx_core.specs.declared.entry.Entry.{Entry}
 use Rattle.tx_core.specs.declared.entry.Start.{Start}
 use Rattle.tx_core.specs.CleanMultis.{CleanMembers}
-use Rattle.tx_core.specs.StoredBytes.{HasZeroTails, StoredBytes}
+use Rattle.tx_core.specs.StoredBytes.{HasZeroTails}
 use Rattle.recoverable.specs.Bytes.{ImageHasZeroTails}
 use Rattle.bank_follows.specs.Tails.{KeepsTails}
 use Rattle.bank_follows.proofs.Tails.{keeps_tails}
-use Rattle.engine_parts.specs.BankCourse.{CameTo, CutBefore, IsMemberOn, IsOpenedOn, LookedAt, MadePage, NotedOnly, SetThem, StepsTo, SyncedAll, cuts_page, member_rack}
+use Rattle.engine_parts.specs.BankCourse.{CameTo, CutBefore, IsMemberOn, IsOpenedOn, LookedAt, MadePage, NotedOnly, SetThem, StepsTo, SyncedAll, member_rack}
 
 module _ {P : Type 0} (g : disks.Ghosts P) (told : IsTrue g.tells) (only_now : (d : P) (c : Pages) → g.left_at d (g.moment d) c → g.images d c) (start : Start) (bank : ℕ) where
   stays : KeepsTails g.images g.moment g.left_at

@@ -1,6 +1,6 @@
 -- Each image of the volume of a bank of offsets or of members follows the bank's list: by the bank's course, step by step.
 use Rattle.std.proofs.Common.{ℕ, zero, suc, ◌≡◌, ◌+◌, ◌<◌, ◌≤◌, ◌++◌, ◌∷◌, [], ◌^◌, ◌∙◌, Contains, List, None, Option, Some, IsTrue, ap, arith, inl, refl, subst, sym, ⊎_elim}
-use Rattle.std.specs.List.{filter_map, last_or, slice_index}
+use Rattle.std.specs.List.{last_or, slice_index}
 use Rattle.disk_core.specs.Pages.{Pages}
 use Rattle.disk_core.specs.declared.log_disk.LogDisk as logs
 use Rattle.disk_core.specs.declared.page_disk.PageDisk as disks
@@ -37,7 +37,7 @@ use Rattle.bank_follows.specs.Stores.{IsMemberAt, IsOffsetAt, member_cells, offs
 use Rattle.bank_follows.proofs.Moments.{member_moments, offset_moments}
 use Rattle.bank_follows.proofs.Near.{near_before, near_on_made}
 use Rattle.bank_follows.proofs.Standing.{banks_stand}
-use Rattle.engine_parts.specs.BankCourse.{CameTo, CutBefore, HasRoom, IsMemberOn, IsOffsetOn, IsOpenedOn, LookedAt, MadePage, MembersCame, NotedOnly, OffsetsCame, Rack, SetThem, StepsTo, SyncedAll, cuts_page, member_rack, offset_rack, set_of}
+use Rattle.engine_parts.specs.BankCourse.{CameTo, CutBefore, HasRoom, IsMemberOn, IsOffsetOn, IsOpenedOn, LookedAt, MadePage, MembersCame, NotedOnly, OffsetsCame, Rack, SetThem, StepsTo, SyncedAll, cuts_page, set_of}
 use Rattle.engine_parts.specs.Parts.{PartStands}
 use Rattle.engine_parts.specs.Shelf.{Shelf}
 use Rattle.engine_parts.specs.Shelves.{member_shelf, offset_shelf}

@@ -13,11 +13,13 @@ use Rattle.lives_law.specs.Lives.{GoOn, GoesBehind}
 use Rattle.lives_law.proofs.GoingOn.{behind_push}
 use Rattle.session_lang.specs.Rounds.{asked_of}
 use Rattle.run_law.specs.Lives.{AreLivesOf, LifePart, parts_of}
+use Rattle.recoverable.specs.Fit.{KeptLog}
 use Rattle.engine_life.specs.Lives.{FitsLog}
 use Rattle.session_run.specs.Again.{RunsGoOn}
 use Rattle.session_run.specs.Fits.{FitsLife}
 use Rattle.session_run.specs.Leaves.{LeavesVolumes}
 use Rattle.session_run.specs.Lives.{ComesTo, HasFallen}
+use Rattle.session_run.specs.Starts.{BeginsOver}
 use Rattle.session_run.proofs.GoingOn.{found_where, from_last, same_banks}
 
 -- the last of the lives is lawful
@@ -54,11 +56,12 @@ module _ {L P : Type 0} (l : logs.Ghosts L) (p : disks.Ghosts P) (falls : Crash 
       let mounted = comes_banks n h.before h.begun h.has_left.mounted h.has_left.comes (has h.begun h.began) in
       subst (HasBanks n) (sym (leaves.only v given)) (same_banks l p n h.has_left.mounted leaves.left mounted h.has_left.ended.same)
 
-module _ {L P : Type 0} (l : logs.Ghosts L) (p : disks.Ghosts P) where
-  pub runs_go_on : RunsGoOn l p
-  runs_go_on banks start s r first falls gives tells has is leaves =
+module _ {L P : Type 0} (l : logs.Ghosts L) (p : disks.Ghosts P) (may : ℕ → Volumes L P → Type 0) (falls : Crash → Volumes L P → Volumes L P → Type 0) (gives : Volumes L P → Type 0) where
+  pub runs_go_on : RunsGoOn l p may falls gives
+  runs_go_on old banks start s r begins is leaves =
       let h = leaves.have_left in
       let last = h.last in
+      let tells = (begins s.banks h.begun h.began.mounted).tells in
       let found = found_where p.tells l.tells (FitsLife l p last.life leaves.left) h.has_left.ended.fit in
       let kept = found.0 in
       let lawful = last_lawful p.tells banks (parts_of s.items) h.before last (subst (AreLivesOf p.tells banks (parts_of s.items)) h.lives_are is.lives.of) in
@@ -66,7 +69,7 @@ module _ {L P : Type 0} (l : logs.Ghosts L) (p : disks.Ghosts P) where
         kept = kept;
         may = λ v given. record {
           banks =
-              let many = left_banks l p falls first gives r.lives has leaves v given in
+              let many = left_banks l p falls (BeginsOver l p may old s banks start) gives r.lives (λ w began. (begins s.banks w began.mounted).banks) leaves v given in
               subst (λ n. HasBanks n v) (sym many.xact) many;
           tells = tells;
           fits = λ told some. subst (FitsLog l p kept) (sym (leaves.only v given)) (found.1 told (tells told)).fit;

@@ -1,5 +1,5 @@
 -- Which media may be handed to a run.
-use Rattle.std.proofs.Common.{Bool, IsTrue, None, [], ap, arith, false, length, refl, subst, sym, ℕ, ◌∙◌, ◌≡◌}
+use Rattle.std.proofs.Common.{Bool, IsTrue, List, None, [], ap, arith, false, length, refl, subst, sym, true, ℕ, ◌∙◌, ◌≡◌}
 use Rattle.std.proofs.lemmas.Bool.{false≢true}
 use Rattle.std.specs.Prelude.{IsSome, Option}
 use Rattle.disk_core.specs.declared.log_disk.LogDisk as logs
@@ -7,10 +7,17 @@ use Rattle.disk_core.specs.declared.page_disk.PageDisk as disks
 use Rattle.disk_core.specs.declared.media.Volumes.{Volumes}
 use Rattle.disk_core.specs.Media.{HasBanks}
 use Rattle.disk_core.specs.Volume.{Volume}
+use Rattle.disk_core.specs.MemLogViews.{written}
+use Rattle.disk_core.specs.MemMediaViews.{IsFirst, first_log, gives, is_new}
+use Rattle.disk_core.specs.declared.mem_log.MemLog.{MemLog}
+use Rattle.disk_core.specs.declared.mem_media.MemMedia.{MemMedia}
+use Rattle.disk_core.specs.declared.mem_pages.MemPages.{MemPages}
+use Rattle.disk_core.specs.contracts.mem_log.MemLogLogDisk.TheImpl as mem_log
+use Rattle.disk_core.specs.contracts.mem_pages.MemPagesPageDisk.TheImpl as mem_pages
 use Rattle.wal_core.specs.Log.{history_on}
 use Rattle.wal_core.specs.Opening.{opened}
 use Rattle.recoverable.specs.Fit.{KeptLog}
-use Rattle.engine_life.specs.FirstLives.{MayBeginOver}
+use Rattle.engine_life.specs.FirstLives.{MayBeginOver, MayMount}
 
 -- a log of which nothing is known
 pub no_log : KeptLog
@@ -31,7 +38,7 @@ unfolding opened
 none_on_empty v same = ap history_on same
 
 no_some : {A : Type 0} (o : Option A) → o ≡ None → IsSome o → ⊥
-no_some o none some = let e = subst IsSome none some in absurd e
+no_some o none some = let e : false ≡ true = subst IsSome none some in false≢true e
 
 module _ {L P : Type 0} (l : logs.Ghosts L) (p : disks.Ghosts P) (kept : KeptLog) (n : ℕ) (v : Volumes L P) (has : HasBanks n v) where
   own_banks : HasBanks (length v.xact.items) v
@@ -44,3 +51,9 @@ module _ {L P : Type 0} (l : logs.Ghosts L) (p : disks.Ghosts P) (kept : KeptLog
   -- over pages that tell nothing
   pub silent_may_begin : p.tells ≡ false → MayBeginOver l p kept v
   silent_may_begin silent = record { banks = own_banks; tells = λ told. absurd (false≢true (sym silent ∙ told)); fits = λ told some. absurd (false≢true (sym silent ∙ told)) }
+
+-- a media in memory on which nothing was written
+pub mem_may_begin : (kept : KeptLog) (m : MemMedia) → first_log m ≡ [] → IsTrue (is_new m) → (banks : ℕ) (v : Volumes MemLog MemPages) → MayMount (is_new m) (λ n. IsFirst (first_log m) n) (gives m) banks v → MayBeginOver mem_log.ghosts mem_pages.ghosts kept v
+mem_may_begin kept m empty new banks v mounted =
+    let first = mounted.first new in
+    new_may_begin mem_log.ghosts mem_pages.ghosts kept banks v first.0 (λ told. refl) (λ told. none_on_empty (written v.log) (first.1.log_written ∙ ap (λ (bytes : List ℕ). record { start = 0; bytes = bytes }) empty))

@@ -25,7 +25,6 @@ use Rattle.recoverable.specs.Fit.{KeptLog}
 use Rattle.engine_life.specs.declared.life.OpenLife.{OpenLife}
 use Rattle.engine_life.specs.declared.refusal.NoLife.{NoLife}
 use Rattle.engine_life.specs.declared.refusal.NoLife.TheVariants as no_lives
-use Rattle.engine_life.specs.Refusals.{IsUnopened}
 use Rattle.session_run.specs.declared.stop.Stopped.{Stopped}
 use Rattle.session_run.specs.declared.stop.Stopped.TheVariants as stops
 use Rattle.session_run.specs.Going.{IsCrashed, IsPartTold, IsRunning, PartWent, part_of}
@@ -34,7 +33,7 @@ use Rattle.session_run.specs.Lives.{ComesTo, HasFallen}
 use Rattle.session_run.specs.Parts.{IsTakenPart}
 use Rattle.session_run.specs.Runs.{IsTaken, cluster_of}
 use Rattle.session_run.specs.Starts.{BeginsOver}
-use Rattle.session_run.specs.Stops.{IsStopped, IsTextOfRun, IsUndamaged, Stops, StopsBehind}
+use Rattle.session_run.specs.Stops.{IsStopped, IsTextOfRun, IsUndamaged, IsUnopenedFirst, Stops, StopsBehind}
 use Rattle.session_run.proofs.GoingOn.{since}
 use Rattle.session_run.proofs.Opening.{IsFirst, start_so}
 use Rattle.session_run.proofs.Running.{comes_push, run_told, so_whole}
@@ -61,31 +60,31 @@ module _ {L P : Type 0} (l : logs.Ghosts L) (p : disks.Ghosts P) (falls : Crash 
       let k = last_left r lives c.1 mounted c.4 in
       (q ∷ k.0, k.1, ap (λ (t : List LifeReport). q ∷ t) k.2, k.3, record { mounted = k.4.mounted; comes = (c.0, c.1, c.2, c.3, k.4.comes); ended = k.4.ended })
 
-module _ {L P : Type 0} (l : logs.Ghosts L) (p : disks.Ghosts P) (s : Script) (first : ℕ → Volumes L P → Type 0) (kept : KeptLog) (falls : Crash → Volumes L P → Volumes L P → Type 0) (before now : ℕ) (gives : Volumes L P → Type 0) where
+module _ {L P : Type 0} (l : logs.Ghosts L) (p : disks.Ghosts P) (s : Script) (first : ℕ → Volumes L P → Type 0) (kept : KeptLog) (used : Type 0) (falls : Crash → Volumes L P → Volumes L P → Type 0) (before now : ℕ) (gives : Volumes L P → Type 0) where
   memory_undamaged : IsUndamaged l p no_lives.Memory
   memory_undamaged at same lt pt = absurd (let q : no_lives.Memory ≡ no_lives.Damaged at = same in cc)
 
   abbrev Stopped_by : ℕ → RunStart → List LifeReport → NoLife → Type 0
-  Stopped_by banks start lives refusal = Stops l p first kept falls before now gives s banks start lives refusal
+  Stopped_by banks start lives refusal = Stops l p first kept used falls before now gives s banks start lives refusal
 
-  stops_behind : (banks : ℕ) (start : RunStart) (lives : List LifeReport) (r : LifeReport) (refusal : NoLife) → StopsBehind l p first kept falls before now gives s banks start (lives ++ r ∷ []) refusal → Stopped_by banks start (lives ++ r ∷ []) refusal
+  stops_behind : (banks : ℕ) (start : RunStart) (lives : List LifeReport) (r : LifeReport) (refusal : NoLife) → StopsBehind l p first kept used falls before now gives s banks start (lives ++ r ∷ []) refusal → Stopped_by banks start (lives ++ r ∷ []) refusal
   stops_behind banks start [] r refusal u = u
   stops_behind banks start (q ∷ lives) r refusal u = u
 
   -- memory was wanting for the text of a life
   memory_stops : (banks : ℕ) (start : RunStart) (lives : List LifeReport) (begun mounted : Volumes L P) → BeginsOver l p first kept s banks start begun → ComesTo l p falls lives begun mounted → Stopped_by banks start lives no_lives.Memory
-  memory_stops banks start [] begun mounted began comes = tt
+  memory_stops banks start [] begun mounted began comes = (tt, λ was told other. absurd (other refl))
   memory_stops banks start (q ∷ lives) begun mounted began comes =
       let k = last_left l p falls q lives begun mounted comes in
       (k.3, record { before = k.0; last = k.1; lives_are = k.2; begun = begun; began = began; has_left = k.4 }, tt, memory_undamaged)
 
   -- or for the line that tells of another stop
   pub then_memory : (banks : ℕ) (start : RunStart) (lives : List LifeReport) (refusal : NoLife) → Stopped_by banks start lives refusal → Stopped_by banks start lives no_lives.Memory
-  then_memory banks start [] refusal u = tt
+  then_memory banks start [] refusal u = (tt, λ was told other. absurd (other refl))
   then_memory banks start (q ∷ lives) refusal u = (u.0, u.1, tt, memory_undamaged)
 
   -- the first life wasn't opened
-  pub unopened_stops : (held : Option (List ℕ)) (faults faults' : ℕ) (refusal : NoLife) → IsUnopened l p (cluster_of s) first before now gives refusal → IsStopped l p first kept falls before now gives s held held faults faults' (stops.NoLife refusal)
+  pub unopened_stops : (held : Option (List ℕ)) (faults faults' : ℕ) (refusal : NoLife) → IsUnopenedFirst l p first kept used falls before now gives s refusal → IsStopped l p first kept used falls before now gives s held held faults faults' (stops.NoLife refusal)
   unopened_stops held faults faults' refusal u = (s.banks, new_start s, [], none_before p.tells s.banks (new_start s) s, Appends-nil held, u)
 
 -- the text of a part that stands behind those of the lives before
@@ -98,7 +97,7 @@ text_ends tells banks start few s done lives items its (Some how) rest r parts f
     let split : parts_of s.items ≡ (done ++ part_of its (Some how) ∷ []) ++ parts_of rest = parts ∙ (ap (λ (ps : List LifePart). done ++ ps) (next_parts items its (Some how) rest f how refl) ∙ sym (append_assoc done (part_of its (Some how) ∷ []) (parts_of rest))) in
     inr (record { done = done ++ part_of its (Some how) ∷ []; rest = parts_of rest; split = split; more = parts_some [] rest; are = are }, append-nil (text_so_far s.names (lives ++ r ∷ [])))
 
-module _ {L P : Type 0} {l : logs.Ghosts L} {p : disks.Ghosts P} (s : Script) (first : ℕ → Volumes L P → Type 0) (kept : KeptLog) (falls : Crash → Volumes L P → Volumes L P → Type 0) where
+module _ {L P : Type 0} {l : logs.Ghosts L} {p : disks.Ghosts P} (s : Script) (first : ℕ → Volumes L P → Type 0) (kept : KeptLog) (used : Type 0) (falls : Crash → Volumes L P → Volumes L P → Type 0) where
   -- How far a run has come: the next life is open, and these items are left to it and to those behind it. What was written
   -- is the text of the lives before.
   pub record HasCome (held held' : Option (List ℕ)) (items : List Item) (number : ℕ) (life : OpenLife L P l p) : Type 0 where
@@ -220,7 +219,7 @@ module _ {L P : Type 0} {l : logs.Ghosts L} {p : disks.Ghosts P} (s : Script) (f
 
       -- it crashed, and no life goes on
       crash_stops : (gives : Volumes L P → Type 0) (faults count now : ℕ) (how : How) (refusal : NoLife) → faults ≤ count → crash ≡ Some how → IsCrashed l p (cluster_of s) falls how count now left gives refusal
-          → StopsBehind l p first kept falls faults now gives s h.banks h.start (h.lives ++ r ∷ []) refusal
+          → StopsBehind l p first kept used falls faults now gives s h.banks h.start (h.lives ++ r ∷ []) refusal
       crash_stops gives faults count now how refusal later some none = (
         left,
         have_left,
@@ -244,7 +243,7 @@ module _ {L P : Type 0} {l : logs.Ghosts L} {p : disks.Ghosts P} (s : Script) (f
         × (told : IsPartTold l p s h.banks h.start h.begun falls h.done h.lives (part_of its crash) r left) × Appends mid held' told.text
         × IsCrashed l p (cluster_of s) falls how between now left gives refusal
 
-    pub part_stops : (stop : Stopped) → went stop → IsStopped l p first kept falls before now gives s held held' faults faults' stop
+    pub part_stops : (stop : Stopped) → went stop → IsStopped l p first kept used falls before now gives s held held' faults faults' stop
     part_stops stops.Sink w =
         let front = text_so_far s.names h.lives in
         let told = w.3 in (
@@ -267,7 +266,7 @@ module _ {L P : Type 0} {l : logs.Ghosts L} {p : disks.Ghosts P} (s : Script) (f
           h.lives,
           record { done = h.done; rest = parts_of items; split = h.parts; more = parts_some [] items; are = h.running.are },
           subst (Appends held held') (append-nil (text_so_far s.names h.lives)) (Appends-trans held mid held' (text_so_far s.names h.lives) [] h.wrote a.1),
-          subst (Stops l p first kept falls before now gives s h.banks h.start h.lives) (sym a.0) (memory_stops l p s first kept falls before now gives h.banks h.start h.lives h.begun h.running.mounted h.began h.running.comes),
+          subst (Stops l p first kept used falls before now gives s h.banks h.start h.lives) (sym a.0) (memory_stops l p s first kept used falls before now gives h.banks h.start h.lives h.begun h.running.mounted h.began h.running.comes),
         ))
         (λ (b : fell refusal). (
           h.banks,
@@ -275,5 +274,5 @@ module _ {L P : Type 0} {l : logs.Ghosts L} {p : disks.Ghosts P} (s : Script) (f
           h.lives ++ b.2 ∷ [],
           lives_before held mid items number life h its crash rest f b.0 b.2 b.1 b.4.are,
           wrote held mid items number life h its crash rest f held' b.2 b.3 b.4 b.0 b.1 b.5,
-          stops_behind l p s first kept falls before now gives h.banks h.start h.lives b.2 refusal (crash_stops held mid items number life h its crash rest f held' b.2 b.3 b.4 gives before between now b.0 refusal later b.1 b.6),
+          stops_behind l p s first kept used falls before now gives h.banks h.start h.lives b.2 refusal (crash_stops held mid items number life h its crash rest f held' b.2 b.3 b.4 gives before between now b.0 refusal later b.1 b.6),
         )) w

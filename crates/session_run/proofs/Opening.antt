@@ -3,6 +3,7 @@ use Rattle.std.proofs.Common.{Bool, IsTrue, List, [], ap, false, inl, inr, lengt
 use Rattle.std.proofs.lemmas.Bool.{false≢true}
 use Rattle.disk_core.specs.declared.log_disk.LogDisk as logs
 use Rattle.disk_core.specs.declared.page_disk.PageDisk as disks
+use Rattle.disk_core.specs.declared.media.Crash.{Crash}
 use Rattle.disk_core.specs.declared.media.Volumes.{Volumes}
 use Rattle.disk_core.specs.Media.{HasBanks}
 use Rattle.tx_events.specs.declared.record.Counters.{Counters}
@@ -14,13 +15,16 @@ use Rattle.run_law.specs.Lives.{RunStart}
 use Rattle.engine_host.specs.declared.cluster.Cluster.{Cluster}
 use Rattle.engine_host.specs.Opening.{Beginning, nothing_before}
 use Rattle.engine_life.specs.declared.life.OpenLife.{OpenLife}
-use Rattle.engine_life.specs.FirstLives.{BeginsNew, IsFirstLife, MayBeginOver, with_banks}
+use Rattle.engine_life.specs.FirstLives.{BeginsNew, IsFirstLife, MayBeginOver, MayMount, with_banks}
 use Rattle.engine_life.specs.Lives.{FitsLog, IsNewLife}
-use Rattle.engine_life.specs.NextLives.{GoesOnLife}
+use Rattle.engine_life.specs.declared.refusal.NoLife.{NoLife}
+use Rattle.engine_life.specs.NextLives.{GoesOnLife, StayFit, WhenRefused}
+use Rattle.engine_life.specs.Refusals.{IsUnopened}
 use Rattle.engine_life.specs.Reopening.{behind}
 use Rattle.session_run.specs.OneLife.{IsOpened}
 use Rattle.session_run.specs.Runs.{cluster_of}
 use Rattle.session_run.specs.Starts.{BeginsOver, OpensFor, StartsOver}
+use Rattle.session_run.specs.Stops.{IsUnopenedFirst}
 
 -- what a life begins with
 abbrev pub base_so : Counters → Beginning → LifeBase
@@ -33,6 +37,12 @@ start_so c b = record { number = b.number; base = base_so c.base b }
 pub told_base : (told : Bool) (kept : KeptLog) (n : ℕ) (counters : Counters) → IsTrue told → (base_at kept n).counters ≡ counters → base_at kept n ≡ base_so counters (behind told kept n)
 told_base true kept n counters tells same = ap (λ (c : Counters). base_so c (behind true kept n)) same
 told_base false kept n counters tells same = absurd (false≢true tells)
+
+-- where volumes tell, what this log gives at a number from the flushed one to its end
+pub record IsBehind (kept : KeptLog) (c : Cluster) (b : Beginning) : Type 0 where
+  pub flushed : kept.flushed ≤ b.number
+  pub upto : b.number ≤ log_end kept
+  pub base : base_at kept b.number ≡ base_so c.base b
 
 module _ {L P : Type 0} {l : logs.Ghosts L} {p : disks.Ghosts P} where
   new_is_opened : (c : Cluster) (volumes : Volumes L P) (life : OpenLife L P l p) → (new : IsNewLife c volumes life) → IsOpened c nothing_before new.faults volumes life
@@ -53,12 +63,6 @@ module _ {L P : Type 0} {l : logs.Ghosts L} {p : disks.Ghosts P} where
     right = goes.right;
     told = λ rec among told. told;
   }
-
-  -- where volumes tell, what this log gives at a number from the flushed one to its end
-  pub record IsBehind (kept : KeptLog) (c : Cluster) (b : Beginning) : Type 0 where
-    pub flushed : kept.flushed ≤ b.number
-    pub upto : b.number ≤ log_end kept
-    pub base : base_at kept b.number ≡ base_so c.base b
 
   -- How the life began: with what, over the banks of this cluster and with its sessions, and behind which records.
   pub record IsOpenedSo (kept : KeptLog) (c : Cluster) (volumes : Volumes L P) (life : OpenLife L P l p) : Type 0 where
@@ -130,3 +134,18 @@ module _ {L P : Type 0} (l : logs.Ghosts L) (p : disks.Ghosts P) (s : Script) (m
         so = so;
         began = record { mounted = mounted; banks_are = so.banks; starts = so.starts s (length v.xact.items) refl };
       }
+
+module _ {L P : Type 0} (l : logs.Ghosts L) (p : disks.Ghosts P) (s : Script) (kept : KeptLog) (is_new : Bool) (begins : ℕ → Volumes L P → Type 0) (gave : Volumes L P → Type 0) (falls : Crash → Volumes L P → Volumes L P → Type 0) (before now : ℕ) (gives : Volumes L P → Type 0) where
+  -- none was opened
+  pub unopened_first : (c : Cluster) (refusal : NoLife) → c ≡ cluster_of s → IsUnopened l p c (MayMount is_new begins gave) before now gives refusal
+      → (is_new ≡ false → IsTrue p.tells → StayFit l p kept gave gives refusal) → IsUnopenedFirst l p (MayMount is_new begins gave) kept (is_new ≡ false) falls before now gives s refusal
+  unopened_first c refusal same none stay = (
+    subst (λ (k : Cluster). IsUnopened l p k (MayMount is_new begins gave) before now gives refusal) same none,
+    λ was told other new given. ⊎_elim
+        (λ (again : gave new). inl (may was new again))
+        (λ (k : (old : Volumes L P) × gave old × (FitsLog l p kept old → WhenRefused l p kept old new refusal)). inr (k.0, may was k.0 k.1, k.2))
+        (stay was told new given),
+  )
+    where
+      may : is_new ≡ false → (v : Volumes L P) → gave v → MayMount is_new begins gave s.banks v
+      may was v given = record { first = λ new. absurd (false≢true (sym was ∙ new)); again = λ e. given }

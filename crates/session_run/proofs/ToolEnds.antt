@@ -176,9 +176,9 @@ module _ (held held' : Option (List ℕ)) (faults faults' : ℕ) (written : List
       (λ (a : (status ≡ status_of e) × Whole). subst (λ n. (n ≤ 9) × (n ≢ 8)) (sym a.0) (known_status e))
       (λ (b : (status ≡ 4) × Rose faults faults'). subst (λ n. (n ≤ 9) × (n ≢ 8)) (sym b.0) (omega arith, λ q. omega (arith, q))) told
 
-module _ {L P : Type 0} (l : logs.Ghosts L) (p : disks.Ghosts P) (words : List (List ℕ)) (task : Task) (is : IsTask words task) (left left' held held' : Option (List ℕ)) (faults faults' sink sink' : ℕ) (first : ℕ → Volumes L P → Type 0) (kept : KeptLog) (falls : Crash → Volumes L P → Volumes L P → Type 0) (before now : ℕ) (gives : Volumes L P → Type 0) (written : List ℕ) where
+module _ {L P : Type 0} (l : logs.Ghosts L) (p : disks.Ghosts P) (words : List (List ℕ)) (task : Task) (is : IsTask words task) (left left' held held' : Option (List ℕ)) (faults faults' sink sink' : ℕ) (first : ℕ → Volumes L P → Type 0) (kept : KeptLog) (used : Type 0) (falls : Crash → Volumes L P → Volumes L P → Type 0) (before now : ℕ) (gives : Volumes L P → Type 0) (written : List ℕ) where
   abbrev Ended : Ending → Type 0
-  Ended e = Ends l p task left left' faults faults' first kept falls before now gives written e
+  Ended e = Ends l p task left left' faults faults' first kept used falls before now gives written e
 
   abbrev Wrote : Ending → Type 0
   Wrote e = HasWritten held held' sink sink' (written ++ text_of e) e
@@ -194,7 +194,7 @@ module _ {L P : Type 0} (l : logs.Ghosts L) (p : disks.Ghosts P) (words : List (
       × LeavesVolumes l p (BeginsOver l p first kept (generated seed size) sum.counts.banks sum.counts.start) falls gives sum.counts.report.lives
 
   abbrev Unrun : NoLife → List ℕ → Type 0
-  Unrun refusal line = IsUnrunBy l p words left left' first kept falls before now gives held held' refusal line
+  Unrun refusal line = IsUnrunBy l p words left left' first kept used falls before now gives held held' refusal line
 
   -- what the ending of each status says
   pub record Says (status : ℕ) (e : Ending) : Type 0 where
@@ -205,7 +205,7 @@ module _ {L P : Type 0} (l : logs.Ghosts L) (p : disks.Ghosts P) (words : List (
     pub read : status ≡ 3 → IsRun words × Rose faults faults' × Appends held held' (codes "read-fault" ++ 10 ∷ [])
     pub write : status ≡ 4 → Rose sink sink'
     pub device : status ≡ 5 → Unrun no_lives.Device (codes "device" ++ 10 ∷ [])
-    pub memory : status ≡ 6 → IsMemoryLast l p words left left' first kept falls before now gives held held'
+    pub memory : status ≡ 6 → IsMemoryLast l p words left left' first kept used falls before now gives held held'
     pub damaged : status ≡ 7 → (at : ℕ) × Unrun (no_lives.Damaged at) (damage_text at)
     pub full : status ≡ 9 → Unrun no_lives.Full (codes "log-full" ++ 10 ∷ [])
     pub statuses : (status ≤ 9) × (status ≢ 8)
@@ -237,10 +237,10 @@ module _ {L P : Type 0} (l : logs.Ghosts L) (p : disks.Ghosts P) (words : List (
   device endings.Device k w = (task, is, written, k, w.1)
   device e k w = absurd (omega (arith, w.0))
 
-  memory : (e : Ending) → Ended e → (status_of e ≡ 6) × Wrote e → IsMemoryLast l p words left left' first kept falls before now gives held held'
+  memory : (e : Ending) → Ended e → (status_of e ≡ 6) × Wrote e → IsMemoryLast l p words left left' first kept used falls before now gives held held'
   memory endings.Memory k w = ⊎_elim
       (λ (none : written ≡ []). inl (none_before (codes "memory" ++ 10 ∷ []) none w.1))
-      (λ (u : IsUnrun l p task left left' first kept falls before now gives written no_lives.Memory). inr (task, is, written, u, w.1)) k
+      (λ (u : IsUnrun l p task left left' first kept used falls before now gives written no_lives.Memory). inr (task, is, written, u, w.1)) k
   memory e k w = absurd (omega (arith, w.0))
 
   damaged : (e : Ending) → Ended e → (status_of e ≡ 7) × Wrote e → (at : ℕ) × Unrun (no_lives.Damaged at) (damage_text at)

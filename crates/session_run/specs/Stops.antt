@@ -14,6 +14,7 @@ use Rattle.run_law.specs.Tool.{IsReportOf}
 use Rattle.recoverable.specs.Fit.{KeptLog}
 use Rattle.engine_life.specs.declared.refusal.NoLife.{NoLife}
 use Rattle.engine_life.specs.declared.refusal.NoLife.TheVariants as no_lives
+use Rattle.engine_life.specs.NextLives.{StayFit}
 use Rattle.engine_life.specs.Refusals.{IsOfVolumes, IsUnopened}
 use Rattle.tx_io.specs.Causes.{Rose}
 use Rattle.session_run.specs.declared.stop.Stopped.{Stopped}
@@ -27,7 +28,7 @@ use Rattle.session_run.specs.Starts.{BeginsOver}
 abbrev pub IsUndamaged : {L P : Type 0} → logs.Ghosts L → disks.Ghosts P → NoLife → Type 0
 IsUndamaged l p refusal = (at : ℕ) → refusal ≡ no_lives.Damaged at → IsTrue l.tells → IsTrue p.tells → ⊥
 
-module _ {L P : Type 0} (l : logs.Ghosts L) (p : disks.Ghosts P) (first : ℕ → Volumes L P → Type 0) (kept : KeptLog) (falls : Crash → Volumes L P → Volumes L P → Type 0) (before now : ℕ) (gives : Volumes L P → Type 0) where
+module _ {L P : Type 0} (l : logs.Ghosts L) (p : disks.Ghosts P) (first : ℕ → Volumes L P → Type 0) (kept : KeptLog) (used : Type 0) (falls : Crash → Volumes L P → Volumes L P → Type 0) (before now : ℕ) (gives : Volumes L P → Type 0) where
   -- Behind these lives, which left those volumes, memory was wanting, the media failed, or no life was opened over the volumes
   -- to which they came: their log isn't damaged if all tell what they hold.
   abbrev pub StopsBehind : Script → ℕ → RunStart → List LifeReport → NoLife → Type 0
@@ -36,9 +37,16 @@ module _ {L P : Type 0} (l : logs.Ghosts L) (p : disks.Ghosts P) (first : ℕ �
       × IsUnopened l p (cluster_of s) (λ banks volumes. ComesTo l p falls lives by.begun volumes) before now gives refusal
       × IsUndamaged l p refusal
 
+  -- Before the first life: why none was opened. If the media was used before, and its pages tell what they hold, it gives
+  -- volumes that it gave, or such as fit the log if those did, but where memory was wanting.
+  abbrev pub IsUnopenedFirst : Script → NoLife → Type 0
+  IsUnopenedFirst s refusal =
+      IsUnopened l p (cluster_of s) first before now gives refusal
+      × (used → IsTrue p.tells → (refusal ≡ no_lives.Memory → ⊥) → StayFit l p kept (first s.banks) gives refusal)
+
   -- why a run of the script stopped behind these lives
   abbrev pub Stops : Script → ℕ → RunStart → List LifeReport → NoLife → Type 0
-  Stops s banks start [] refusal = IsUnopened l p (cluster_of s) first before now gives refusal
+  Stops s banks start [] refusal = IsUnopenedFirst s refusal
   Stops s banks start (r ∷ lives) refusal = StopsBehind s banks start (r ∷ lives) refusal
 
 -- The text of these lives of a run of the script, in whole lines: its report, or that as far as they come.
@@ -61,7 +69,7 @@ abbrev pub MountsFirst : Stopped → Type 0
 MountsFirst stops.Sink = Unit {0}
 MountsFirst (stops.NoLife refusal) = IsOfVolumes refusal
 
-module _ {L P : Type 0} (l : logs.Ghosts L) (p : disks.Ghosts P) (first : ℕ → Volumes L P → Type 0) (kept : KeptLog) (falls : Crash → Volumes L P → Volumes L P → Type 0) (before now : ℕ) (gives : Volumes L P → Type 0) where
+module _ {L P : Type 0} (l : logs.Ghosts L) (p : disks.Ghosts P) (first : ℕ → Volumes L P → Type 0) (kept : KeptLog) (used : Type 0) (falls : Crash → Volumes L P → Volumes L P → Type 0) (before now : ℕ) (gives : Volumes L P → Type 0) where
   -- Why a run stopped, and what the sink holds more then: a front of the text of the run where the sink failed, with these
   -- counts of its faults, and else that of the lives before.
   abbrev pub IsStopped : Script → Option (List ℕ) → Option (List ℕ) → ℕ → ℕ → Stopped → Type 0
@@ -70,4 +78,4 @@ module _ {L P : Type 0} (l : logs.Ghosts L) (p : disks.Ghosts P) (first : ℕ �
   IsStopped s held held' faults faults' (stops.NoLife refusal) =
       (banks : ℕ) × (start : RunStart) × (lives : List LifeReport) × AreLivesBefore p.tells banks start s lives
       × Appends held held' (text_so_far s.names lives)
-      × Stops l p first kept falls before now gives s banks start lives refusal
+      × Stops l p first kept used falls before now gives s banks start lives refusal

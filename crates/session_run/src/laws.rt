@@ -1,9 +1,10 @@
 //! The laws by which a life goes on over one lock table, round by round, and a run behind an earlier one. The functions do
 //! nothing; their contracts are the laws.
+ghost use Rattle.engine_life.specs.FirstLives.{MayMount};
 ghost use Rattle.session_run.specs.Again.{RunsGoOn};
 ghost use Rattle.session_run.specs.GoesOn.{LifeBegins, LifeEnds, LifeGoesOn};
 
-use disk_core::{LogDisk, PageDisk};
+use disk_core::{LogDisk, Media, PageDisk};
 use engine_parts::EngineLaw;
 use hall::Hall;
 
@@ -22,7 +23,9 @@ pub fn life_ends<L: LogDisk, P: PageDisk>(hall: &Hall<EngineLaw<L, P>>)
     ensures { LifeEnds hall.now }
 {}
 
-/// A media that a run left with status 0 may be handed to a next one, whose lives go on from its own: all are of one log.
-pub fn runs_go_on<L: LogDisk, P: PageDisk>()
-    ensures { RunsGoOn L.LogDisk P.PageDisk }
+/// A media that a run found so and left so with status 0 (`run_tool`'s clause `done`) may be handed to a next one, whose lives
+/// go on from its own: all are of one log.
+pub fn runs_go_on<M: Media>(_before: &M, _after: &M)
+    ensures { RunsGoOn M.Log.LogDisk M.Pages.PageDisk
+        (MayMount (M.is_new _before.now) (M.begins _before.now) (M.gives _before.now)) M.falls (M.gives _after.now) }
 {}

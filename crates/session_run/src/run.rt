@@ -14,7 +14,7 @@ ghost use Rattle.engine_host.specs.declared.cluster.Cluster.{Cluster as Clustere
 ghost use Rattle.engine_host.specs.Opening.{Beginning, IsCluster};
 ghost use Rattle.engine_life.specs.FirstLives.{MayBeginOver, MayMount};
 ghost use Rattle.engine_life.specs.Lives.{FitsLog};
-ghost use Rattle.engine_life.specs.Refusals.{IsOfVolumes, IsUnopened};
+ghost use Rattle.engine_life.specs.Refusals.{IsOfVolumes};
 ghost use Rattle.session_run.specs.OneLife.{IsOpened, MayRunIn};
 ghost use Rattle.session_run.specs.Parts.{IsTakenPart};
 ghost use Rattle.session_run.specs.Going.{EndsIdle, HasGoneOn, IsCrashed, IsRunning, IsToldLife, PartWent, part_of};
@@ -22,7 +22,7 @@ ghost use Rattle.session_run.specs.Lives.{crash_of};
 ghost use Rattle.session_run.specs.Leaves.{LeavesVolumes};
 ghost use Rattle.session_run.specs.Runs.{IsTaken, IsTakenAlone, cluster_of};
 ghost use Rattle.session_run.specs.Starts.{BeginsOver};
-ghost use Rattle.session_run.specs.Stops.{IsStopped, MountsFirst};
+ghost use Rattle.session_run.specs.Stops.{IsStopped, IsUnopenedFirst, MountsFirst};
 
 use crate::ended::{Ended, FittedLog, log_left};
 use crate::life::run_life;
@@ -236,7 +236,7 @@ where
     ensures used { OnOk result (M.is_new media.new ≡ false) }
     ensures used_so { IfErr result (λ stop. MountsFirst stop → M.is_new media.new ≡ false) }
     ensures stopped { IfErr result (IsStopped M.Log.LogDisk M.Pages.PageDisk
-        (MayMount (M.is_new media.old) (M.begins media.old) (M.gives media.old)) kept M.falls
+        (MayMount (M.is_new media.old) (M.begins media.old) (M.gives media.old)) kept (M.is_new media.old ≡ false) M.falls
         (M.faults media.old) (M.faults media.new) (M.gives media.new) script.now (K.held sink.old) (K.held sink.new)
         (K.faults sink.old) (K.faults sink.new)) }
     ensures sink { K.faults sink.old ≤ K.faults sink.new }
@@ -287,9 +287,9 @@ where
     ensures count { M.faults media.old ≤ M.faults media.new }
     ensures used { OnOk result (M.is_new media.new ≡ false) }
     ensures used_so { IfErr result (λ refusal. IsOfVolumes refusal → M.is_new media.new ≡ false) }
-    ensures refused { IfErr result (λ refusal. IsUnopened M.Log.LogDisk M.Pages.PageDisk (cluster_of script.now)
-        (MayMount (M.is_new media.old) (M.begins media.old) (M.gives media.old))
-        (M.faults media.old) (M.faults media.new) (M.gives media.new) refusal) }
+    ensures refused { IfErr result (IsUnopenedFirst M.Log.LogDisk M.Pages.PageDisk
+        (MayMount (M.is_new media.old) (M.begins media.old) (M.gives media.old)) kept (M.is_new media.old ≡ false) M.falls
+        (M.faults media.old) (M.faults media.new) (M.gives media.new) script.now) }
 {
     let life = open_life(alloc, media, cluster_of(script))?;
     have_full_multis(&life.host.cluster.base);

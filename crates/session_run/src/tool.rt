@@ -50,7 +50,7 @@ where
         → MayBeginOver M.Log.LogDisk M.Pages.PageDisk kept volumes }
     ensures ends { (written : List ℕ) × Ends M.Log.LogDisk M.Pages.PageDisk tasks.Run (S.left source.old) (S.left source.new)
         (S.faults source.old) (S.faults source.new)
-        (MayMount (M.is_new media.old) (M.begins media.old) (M.gives media.old)) kept M.falls
+        (MayMount (M.is_new media.old) (M.begins media.old) (M.gives media.old)) kept (M.is_new media.old ≡ false) M.falls
         (M.faults media.old) (M.faults media.new) (M.gives media.new) written result
         × HasWritten (K.held sink.old) (K.held sink.new) (K.faults sink.old) (K.faults sink.new) written result }
     ensures sink { K.faults sink.old ≤ K.faults sink.new }
@@ -91,7 +91,7 @@ where
         → MayMount (M.is_new media.old) (M.begins media.old) (M.gives media.old) banks volumes
         → MayBeginOver M.Log.LogDisk M.Pages.PageDisk kept volumes }
     ensures ends { (left : Option (List ℕ)) (faults : ℕ) → Ends M.Log.LogDisk M.Pages.PageDisk (tasks.Gen seed size)
-        left left faults faults (MayMount (M.is_new media.old) (M.begins media.old) (M.gives media.old)) kept M.falls
+        left left faults faults (MayMount (M.is_new media.old) (M.begins media.old) (M.gives media.old)) kept (M.is_new media.old ≡ false) M.falls
         (M.faults media.old) (M.faults media.new) (M.gives media.new) [] result }
     ensures written { WritesLast result }
     ensures idle { IsTrue (M.is_idle media.new) }
@@ -131,7 +131,7 @@ where
         → MayBeginOver M.Log.LogDisk M.Pages.PageDisk kept volumes }
     ensures ends { (written : List ℕ) × Ends M.Log.LogDisk M.Pages.PageDisk task (S.left source.old) (S.left source.new)
         (S.faults source.old) (S.faults source.new)
-        (MayMount (M.is_new media.old) (M.begins media.old) (M.gives media.old)) kept M.falls
+        (MayMount (M.is_new media.old) (M.begins media.old) (M.gives media.old)) kept (M.is_new media.old ≡ false) M.falls
         (M.faults media.old) (M.faults media.new) (M.gives media.new) written result
         × HasWritten (K.held sink.old) (K.held sink.new) (K.faults sink.old) (K.faults sink.new) written result }
     ensures sink { K.faults sink.old ≤ K.faults sink.new }
@@ -242,26 +242,26 @@ where
     ensures write { result ≡ 4 → Rose (K.faults sink.old) (K.faults sink.new) }
     ensures front { result ≡ 4 → HoldsFront M.Log.LogDisk M.Pages.PageDisk (map string_bytes words.now)
         (S.left source.old) (S.left source.new) (S.faults source.old) (S.faults source.new)
-        (MayMount (M.is_new media.old) (M.begins media.old) (M.gives media.old)) kept M.falls
+        (MayMount (M.is_new media.old) (M.begins media.old) (M.gives media.old)) kept (M.is_new media.old ≡ false) M.falls
         (M.faults media.old) (M.faults media.new) (M.gives media.new)
         (K.held sink.old) (K.held sink.new) }
     ensures device { result ≡ 5 → IsUnrunBy M.Log.LogDisk M.Pages.PageDisk (map string_bytes words.now)
         (S.left source.old) (S.left source.new)
-        (MayMount (M.is_new media.old) (M.begins media.old) (M.gives media.old)) kept M.falls
+        (MayMount (M.is_new media.old) (M.begins media.old) (M.gives media.old)) kept (M.is_new media.old ≡ false) M.falls
         (M.faults media.old) (M.faults media.new) (M.gives media.new) (K.held sink.old) (K.held sink.new)
         no_lives.Device (codes "device" ++ 10 ∷ []) }
     ensures memory { result ≡ 6 → IsMemoryLast M.Log.LogDisk M.Pages.PageDisk (map string_bytes words.now)
         (S.left source.old) (S.left source.new)
-        (MayMount (M.is_new media.old) (M.begins media.old) (M.gives media.old)) kept M.falls
+        (MayMount (M.is_new media.old) (M.begins media.old) (M.gives media.old)) kept (M.is_new media.old ≡ false) M.falls
         (M.faults media.old) (M.faults media.new) (M.gives media.new) (K.held sink.old) (K.held sink.new) }
     ensures damaged { result ≡ 7 → (at : ℕ)
         × IsUnrunBy M.Log.LogDisk M.Pages.PageDisk (map string_bytes words.now) (S.left source.old) (S.left source.new)
-        (MayMount (M.is_new media.old) (M.begins media.old) (M.gives media.old)) kept M.falls
+        (MayMount (M.is_new media.old) (M.begins media.old) (M.gives media.old)) kept (M.is_new media.old ≡ false) M.falls
         (M.faults media.old) (M.faults media.new) (M.gives media.new)
         (K.held sink.old) (K.held sink.new) (no_lives.Damaged at) (damage_text at) }
     ensures full { result ≡ 9 → IsUnrunBy M.Log.LogDisk M.Pages.PageDisk (map string_bytes words.now)
         (S.left source.old) (S.left source.new)
-        (MayMount (M.is_new media.old) (M.begins media.old) (M.gives media.old)) kept M.falls
+        (MayMount (M.is_new media.old) (M.begins media.old) (M.gives media.old)) kept (M.is_new media.old ≡ false) M.falls
         (M.faults media.old) (M.faults media.new) (M.gives media.new) (K.held sink.old) (K.held sink.new)
         no_lives.Full (codes "log-full" ++ 10 ∷ []) }
     ensures statuses { (result ≤ 9) × (result ≢ 8) }

@@ -1,6 +1,5 @@
-use Rattle.std.proofs.Common.{IsTrue, ap, false, subst, sym, ◌∙◌, ◌≡◌}
+use Rattle.std.proofs.Common.{ap, false, subst, sym, ◌∙◌, ◌≡◌}
 use Rattle.slru_bank.specs.Calls.{IsDurable, pages_of, volume_of}
-use Rattle.slru_bank.specs.declared.bank.SlruBank.{SlruBank}
 use Rattle.engine_host.proofs.Starting.{bytes_are, opened_durable}
 use Rattle.engine_host.proofs.banks.open_bank.Goals as goal
 

@@ -1,8 +1,8 @@
-use Rattle.std.proofs.Common.{IsTrue, ap, arith, false, refl, rules, subst, sym, ◌++◌, ◌∙◌, ◌≡◌, ◌≤◌}
+use Rattle.std.proofs.Common.{ap, arith, refl, rules, subst, sym, ◌++◌, ◌∙◌}
 use Rattle.tx_core.specs.declared.entry.Start.{Start}
 use Rattle.wal_core.specs.LogViews.{log_disk}
 use Rattle.engine_host.specs.Opening.{IsBegunLog}
-use Rattle.engine_host.specs.Stores.{Store, volumes_in}
+use Rattle.engine_host.specs.Stores.{volumes_in}
 use Rattle.engine_host.proofs.Counting.{all_counted}
 use Rattle.engine_host.proofs.Refusing.{none_long, room_left}
 use Rattle.engine_host.proofs.begun_parts.open_begun.Goals as goal

@@ -1,11 +1,10 @@
-use Rattle.std.proofs.Common.{◌+◌, ◌++◌, ◌∷◌, ◌≡◌, ◌≤◌, ◌∙◌, [], IsTrue, Some, ap, false, refl, rules, subst, sym, ⊎_elim}
+use Rattle.std.proofs.Common.{◌++◌, ◌∷◌, ◌≡◌, ◌≤◌, ◌∙◌, [], IsTrue, Some, false, refl, rules, subst, sym, ⊎_elim}
 use Rattle.std.specs.List.{slice_get}
 use Rattle.engine_parts.specs.declared.part.Part.TheVariants as parts
 use Rattle.slru_bank.specs.Calls.{faults_of, volume_of}
 use Rattle.engine_host.specs.Opening.{AllOnDisk, AllShow, AreNew, ShowMembers, ShowOffsets}
-use Rattle.engine_host.specs.Refused.{HaveDisks}
 use Rattle.engine_host.specs.declared.cluster.BankVolumes.{BankVolumes}
-use Rattle.engine_host.specs.Stores.{Store, disk_in, disks_in, of_members, of_offsets, of_subtrans, of_xact, volumes_in}
+use Rattle.engine_host.specs.Stores.{disk_in, disks_in, of_members, of_offsets, of_subtrans, of_xact, volumes_in}
 use Rattle.engine_host.proofs.Counting.{bank_counts}
 use Rattle.engine_host.proofs.Refusing.{by_store, disks_more, each_store, four_more, kept_one, pushed_four}
 use Rattle.engine_host.proofs.Starting.{bank_new}

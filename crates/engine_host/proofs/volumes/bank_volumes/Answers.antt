@@ -1,4 +1,4 @@
-use Rattle.std.proofs.Common.{ℕ, None, Some, ◌∷◌, ◌∙◌, ◌+◌, ◌++◌, ◌≡◌, ◌≤◌, ap, arith, length, refl, vec_capacity}
+use Rattle.std.proofs.Common.{None, ◌∷◌, ◌∙◌, ◌+◌, ◌++◌, ◌≡◌, ◌≤◌, ap, arith, length, vec_capacity}
 use Rattle.slru_bank.specs.Calls.{volume_of}
 use Rattle.engine_host.specs.Stores.{Store, disk_in, disks_in, of_members, of_offsets, of_subtrans, of_xact, volumes_in}
 use Rattle.engine_host.proofs.Refusing.{each_store, moved, moved_length, passed, still_room}

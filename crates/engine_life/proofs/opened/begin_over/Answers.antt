@@ -1,13 +1,12 @@
-use Rattle.std.proofs.Common.{ap, arith, inl, inr, length, rules, subst, sym, ◌∙◌, ◌≡◌, ◌≤◌}
+use Rattle.std.proofs.Common.{inl, inr, length, rules, subst, sym}
 use Rattle.std.proofs.lemmas.Result.{IfOk-weaker}
 use Rattle.replay_core.specs.Opened.{IsFound, IsFoundLog, IsFoundNew}
 use Rattle.replay_core.specs.Refused.{IsOpenRefusal}
 use Rattle.engine_host.specs.Stores.{HaveEach, banks_of}
 use Rattle.engine_life.specs.declared.refusal.NoLife.{NoLife}
-use Rattle.engine_life.specs.NextLives.{WhenRefused}
 use Rattle.engine_life.specs.Refusals.{IsNoLife}
 use Rattle.engine_life.specs.Reopening.{LeavesLog}
-use Rattle.engine_life.proofs.Finding.{may_go_on, new_opens, none_fits, not_found, together, unopened_fits}
+use Rattle.engine_life.proofs.Finding.{found_there, new_opens, none_fits, not_found, together, unopened_fits}
 use Rattle.engine_life.proofs.GoingOn.{when_fits}
 use Rattle.engine_life.proofs.Living.{of_err}
 use Rattle.engine_life.proofs.Reopened.{each_store}
@@ -30,7 +29,7 @@ begin_old-requires g c =
     let few = may.banks.few in
     let as_many : HaveEach (length v.xact.items) (banks_of v) = each_store _ may.banks.xact may.banks.subtrans may.banks.offsets may.banks.members in
     let sessions = c.requires.1.1.0.sessions in
-    let fits = (v.log, found, may_go_on g.L.LogDisk g.P.PageDisk g.kept v c.in-Old.found found may) in
+    let fits = found_there g.L.LogDisk g.P.PageDisk g.kept v c.in-Old.found found may in
     search (rules, some, few, as_many, sessions, fits)
 
 -- the log wasn't opened

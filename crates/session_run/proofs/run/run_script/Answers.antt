@@ -4,9 +4,8 @@ use Rattle.session_lang.specs.declared.script.Item.{Item}
 use Rattle.run_law.proofs.Lives.{rest_shorter}
 use Rattle.engine_host.specs.declared.cluster.Cluster.{Cluster}
 use Rattle.engine_life.specs.FirstLives.{MayMount}
-use Rattle.engine_life.specs.Refusals.{IsUnopened}
 use Rattle.session_run.proofs.LivesRun.{HasCome, come_first, come_on, part_stops, part_taken, run_ends, unopened_stops}
-use Rattle.session_run.proofs.Opening.{is_first}
+use Rattle.session_run.proofs.Opening.{is_first, unopened_first}
 use Rattle.session_run.proofs.run.run_script.Goals as goal
 
 -- With a ghost value the clauses of `requires` have no names: they stand in their order behind what is asked of lifetimes.
@@ -31,8 +30,9 @@ returns-in-Err-clause-stopped g c =
     let before = m.faults c.args.media.now in
     let now = m.faults c.open_life.new.media in
     let gives = m.gives c.open_life.new.media in
-    unopened_stops l p s first g.kept m.falls before now gives (k.held c.args.sink.now) (k.faults c.args.sink.now) (k.faults c.args.sink.now) c.in-Err.refusal
-    (subst (λ (cluster : Cluster). IsUnopened l p cluster first before now gives c.in-Err.refusal) c.cluster_of.ensures.is c.in-Err.ensures.refused)
+    unopened_stops l p s first g.kept (m.is_new c.args.media.now ≡ false) m.falls before now gives (k.held c.args.sink.now) (k.faults c.args.sink.now) (k.faults c.args.sink.now) c.in-Err.refusal
+    (unopened_first l p s g.kept (m.is_new c.args.media.now) (m.begins c.args.media.now) (m.gives c.args.media.now) m.falls before now gives c.cluster_of.result c.in-Err.refusal c.cluster_of.ensures.is c.in-Err.ensures.refused
+    (λ was told. c.in-Err.ensures.again told was))
 
 pub loop-next-init : goal.loop-next-init
 loop-next-init g c =
@@ -42,7 +42,7 @@ loop-next-init g c =
     let first = MayMount (m.is_new c.args.media.now) (m.begins c.args.media.now) (m.gives c.args.media.now) in
     let life = c.in-Ok.life in
     let is = is_first g.M.Log.LogDisk g.M.Pages.PageDisk s first g.kept c.cluster_of.result life c.cluster_of.ensures.is (may g c) c.in-Ok.ensures.life in (
-      subst (λ (its : List Item). HasCome {l = g.M.Log.LogDisk} {p = g.M.Pages.PageDisk} s first g.kept m.falls held held its 1 life) (sym c.items-items.ensures) (come_first s first g.kept m.falls held life (taken g c) is),
+      subst (λ (its : List Item). HasCome {l = g.M.Log.LogDisk} {p = g.M.Pages.PageDisk} s first g.kept (m.is_new c.args.media.now ≡ false) m.falls held held its 1 life) (sym c.items-items.ensures) (come_first s first g.kept (m.is_new c.args.media.now ≡ false) m.falls held life (taken g c) is),
       c.in-Ok.ensures.count,
       omega arith,
     )
@@ -53,7 +53,7 @@ run_part-requires-clause-part g c κs within =
     let k = g.K.Sink in
     let at = c.loop-next in
     let part = c.next_part-part.result in
-    part_taken c.args.script.now (MayMount (m.is_new c.args.media.now) (m.begins c.args.media.now) (m.gives c.args.media.now)) g.kept m.falls (k.held c.args.sink.now) (k.held at.sink) at.items at.number at.life at.invariant.0 part.0 part.1 part.2 c.next_part-part.ensures (taken g c)
+    part_taken c.args.script.now (MayMount (m.is_new c.args.media.now) (m.begins c.args.media.now) (m.gives c.args.media.now)) g.kept (m.is_new c.args.media.now ≡ false) m.falls (k.held c.args.sink.now) (k.held at.sink) at.items at.number at.life at.invariant.0 part.0 part.1 part.2 c.next_part-part.ensures (taken g c)
 
 pub returns-in_err-run_part-clause-stopped : goal.returns-in_err-run_part-clause-stopped
 returns-in_err-run_part-clause-stopped g c =
@@ -64,7 +64,7 @@ returns-in_err-run_part-clause-stopped g c =
     let part = c.next_part-part.result in
     let new = c.run_part.new in
     let ran = c.in_err-run_part.ensures in
-    let stopped = part_stops c.args.script.now (MayMount (m.is_new c.args.media.now) (m.begins c.args.media.now) (m.gives c.args.media.now)) g.kept m.falls (k.held c.args.sink.now) (k.held at.sink) (k.held new.sink) at.items at.number at.life h part.0 part.1 part.2 c.next_part-part.ensures
+    let stopped = part_stops c.args.script.now (MayMount (m.is_new c.args.media.now) (m.begins c.args.media.now) (m.gives c.args.media.now)) g.kept (m.is_new c.args.media.now ≡ false) m.falls (k.held c.args.sink.now) (k.held at.sink) (k.held new.sink) at.items at.number at.life h part.0 part.1 part.2 c.next_part-part.ensures
     (m.faults c.args.media.now) (m.faults at.media) (m.faults new.media) (m.gives new.media) (k.faults c.args.sink.now) (k.faults at.sink) (k.faults new.sink) at.invariant.1 at.invariant.2 c.in_err-run_part.field-0.0 (ran.went h.banks h.start h.begun h.done h.lives h.running h.count) in
     let err = err_from_is_err_and c.from_residual.result c.from_residual.ensures.1 in
     rw (err.1, err.2) stopped
@@ -78,7 +78,7 @@ returns-in-Last-clause-report g c =
     let part = c.next_part-part.result in
     let new = c.run_part.new in
     let w = rw c.in-Last.is at (c.in_ok-run_part.ensures.went h.banks h.start h.begun h.done h.lives h.running h.count) in
-    let e = run_ends c.args.script.now (MayMount (m.is_new c.args.media.now) (m.begins c.args.media.now) (m.gives c.args.media.now)) g.kept m.falls (k.held c.args.sink.now) (k.held at.sink) at.items at.number at.life h part.0 part.1 part.2 c.next_part-part.ensures (k.held new.sink) w.1 w.2 w.3 (m.gives new.media) w.0 w.4 w.5 in
+    let e = run_ends c.args.script.now (MayMount (m.is_new c.args.media.now) (m.begins c.args.media.now) (m.gives c.args.media.now)) g.kept (m.is_new c.args.media.now ≡ false) m.falls (k.held c.args.sink.now) (k.held at.sink) at.items at.number at.life h part.0 part.1 part.2 c.next_part-part.ensures (k.held new.sink) w.1 w.2 w.3 (m.gives new.media) w.0 w.4 w.5 in
     (h.banks, h.start, e.0, e.1, e.2, e.3)
 
 pub returns-in-Last-clause-idle : goal.returns-in-Last-clause-idle
@@ -109,7 +109,7 @@ loop-next-preserved g c =
     let sink = at.invariant.2 in
     let faults = ran.count in
     let later = ran.sink in (
-      come_on c.args.script.now (MayMount (m.is_new c.args.media.now) (m.begins c.args.media.now) (m.gives c.args.media.now)) g.kept m.falls (k.held c.args.sink.now) (k.held at.sink) at.items at.number at.life h part.0 part.1 part.2 c.next_part-part.ensures (k.held new.sink) w.2 w.3 w.4 w.0 c.in-Next.next w.1 w.5 w.6,
+      come_on c.args.script.now (MayMount (m.is_new c.args.media.now) (m.begins c.args.media.now) (m.gives c.args.media.now)) g.kept (m.is_new c.args.media.now ≡ false) m.falls (k.held c.args.sink.now) (k.held at.sink) at.items at.number at.life h part.0 part.1 part.2 c.next_part-part.ensures (k.held new.sink) w.2 w.3 w.4 w.0 c.in-Next.next w.1 w.5 w.6,
       omega (arith, media, faults),
       omega (arith, sink, later),
     )

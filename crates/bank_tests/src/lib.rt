@@ -3,16 +3,12 @@
 #![tactic(auto)]
 
 #[cfg(test)]
+mod bank_tests;
+#[cfg(test)]
 mod banks;
 #[cfg(test)]
 mod counted;
 #[cfg(test)]
-mod member_tests;
+mod lines;
 #[cfg(test)]
-mod offset_tests;
-#[cfg(test)]
-mod slru_tests;
-#[cfg(test)]
-mod subtrans_tests;
-#[cfg(test)]
-mod xact_tests;
+mod stores;

@@ -3,10 +3,12 @@
 #![tactic(auto)]
 
 #[cfg(test)]
-mod multi_driver;
+mod lines;
 #[cfg(test)]
 mod multi_tests;
 #[cfg(test)]
 mod proc_driver;
 #[cfg(test)]
 mod proc_tests;
+#[cfg(test)]
+mod tables;

@@ -4,11 +4,11 @@ ghost use Rattle.std.specs.List.{All};
 ghost use Rattle.tx_events.specs.Events.{by_of};
 ghost use Rattle.proc_table.specs.Table.{InTurn};
 
+use crate::lines::told;
 use proc_table::{Asked, Given, ProcTable};
-use std::process::Abort;
-use tx_events::{
-    By, Counters, FullMulti, FullXid, Memory, Name, Refusal, SnapData, XactEnd, is_base,
-};
+use std::alloc::Global;
+use std::test::Fail;
+use tx_events::{By, Counters, FullMulti, FullXid, IdList, Name, Refusal, XactEnd, is_base};
 
 /// From here on commands have one number.
 const MOST_COMMANDS: u64 = 1_000_000;
@@ -23,6 +23,15 @@ fn next_command(command: u64) -> u64
     }
 }
 
+/// The ids as numbers.
+fn numbers(alloc: Global, ids: &IdList) -> Result<Vec<u64>, Fail> {
+    let mut numbers = Vec::new(alloc);
+    for id in ids.items() {
+        numbers.push(id.number())?;
+    }
+    Ok(numbers)
+}
+
 /// A table for three sessions, called with ever higher command numbers and only where the conditions hold.
 #[derive(Drop)]
 pub struct Driver {
@@ -34,19 +43,21 @@ pub struct Driver {
 
 impl Driver {
     /// A table of a life that starts with these ids.
-    pub fn new<R: Abort + AllocGlobal>(rt: &R, next: u64, oldest: u64) -> Driver {
-        let multi = FullMulti::new(1).expect(rt, "a multixact id");
+    pub fn new(alloc: Global, next: FullXid, oldest: FullXid) -> Result<Driver, Fail> {
+        let multi = FullMulti::new(1).ok_or("no multixact")?;
         let base = Counters {
-            next: FullXid::new(next).expect(rt, "a full id"),
-            oldest: FullXid::new(oldest).expect(rt, "a full id"),
+            next,
+            oldest,
             multi,
             offset: 1,
             oldest_multi: multi,
             oldest_offset: 1,
         };
-        assert!(rt; is_base(&base));
-        let table = ProcTable::new(rt.alloc(), base, 3).expect(rt, "memory");
-        Driver { table, command: 0 }
+        if !is_base(&base) {
+            return Err("no base".into());
+        }
+        let table = ProcTable::new(alloc, base, 3)?;
+        Ok(Driver { table, command: 0 })
     }
 
     /// The session's next command.
@@ -88,26 +99,34 @@ impl Driver {
         }
     }
 
-    /// A snapshot under a name that isn't in use.
-    pub fn snap<R: Abort>(&mut self, rt: &R, session: u32, name: &Name) -> Result<SnapData, Memory>
+    /// A snapshot under a name that isn't in use: its xmin and xmax, tops and subids, and whether it overflowed.
+    pub fn snap(&mut self, alloc: Global, session: u32, name: &Name) -> Result<String, Fail>
         requires { session < 3 }
     {
         let by = self.by(session);
         if self.table.is_live(session, name) {
-            panic!(rt; "the name is in use");
+            return Err("the name is in use".into());
         }
-        self.table.snapshot(by, name)
+        let snap = self.table.snapshot(by, name)?;
+        let tops = numbers(alloc, &snap.xip)?;
+        let subs = numbers(alloc, &snap.subxip)?;
+        let limits = (snap.xmin.number(), snap.xmax.number());
+        told(
+            alloc,
+            &(limits, tops.as_slice(), subs.as_slice(), snap.overflowed),
+        )
     }
 
     /// The drop of a live snapshot.
-    pub fn drop_snap<R: Abort>(&mut self, rt: &R, session: u32, name: &Name)
+    pub fn drop_snap(&mut self, session: u32, name: &Name) -> Result<(), Fail>
         requires { session < 3 }
     {
         let by = self.by(session);
         if !self.table.is_live(session, name) {
-            panic!(rt; "there is no such snapshot");
+            return Err("there is no such snapshot".into());
         }
         self.table.drop_snapshot(by, name);
+        Ok(())
     }
 
     pub fn raise(&mut self, session: u32, oldest: FullXid) -> Result<(), Refusal>
@@ -118,11 +137,13 @@ impl Driver {
     }
 
     /// How a full id stands.
-    pub fn ask<R: Abort>(&mut self, rt: &R, session: u32, x: FullXid) -> Result<Asked, Memory>
+    pub fn ask(&mut self, session: u32, x: FullXid) -> Result<Asked, Fail>
         requires { session < 3 }
     {
-        assert!(rt; x.number() >= 3);
+        if x.number() < 3 {
+            return Err("no full id".into());
+        }
         let by = self.by(session);
-        self.table.ask(by, x)
+        Ok(self.table.ask(by, x)?)
     }
 }

@@ -1,171 +1,128 @@
 // What a log leaves at each of its device calls: four to open a new log, four for each flush, one to forget.
-use crate::test_disk::TestDisk;
-use crate::test_log::{TestLog, checkpoint, commit, later_checkpoint, later_counters, log_bytes};
-use disk_core::Crash;
-use std::alloc::Global;
+use crate::lines::check_rows;
 use std::test::Fail;
-use wal_core::LogRefusal;
 
-const HOWS: [Crash; 3] = [Crash::Lost, Crash::Kept, Crash::Torn];
-
-// Over a volume that passes so many calls: a flushed checkpoint, and a commit of 3 whose flush is begun.
-fn write_commit(alloc: Global, passes: u64) -> Result<TestLog, Fail> {
-    let mut log = TestLog::open(alloc, TestDisk::passing(alloc, passes))?;
-    log.add_flushed(&checkpoint(0))?;
-    log.add(&commit(alloc, 3)?)?;
-    let _ = log.flush();
-    Ok(log)
-}
-
-// The same, and a second checkpoint, before which the log is forgotten.
-fn write_and_forget(alloc: Global, passes: u64) -> Result<TestLog, Fail> {
-    let mut log = write_commit(alloc, passes)?;
-    log.add_flushed(&later_checkpoint(2)?)?;
-    if log.forget()?.is_ok() {
-        // Nothing stands before it now, so there is no call that could fail.
-        log.forget()??;
-    }
-    Ok(log)
-}
-
-#[test]
-fn a_new_log_is_opened_by_four_calls(rt: HostRuntime) -> Result<(), Fail> {
-    let alloc = rt.alloc();
-    for passes in 0..6 {
-        let opens = TestLog::open(alloc, TestDisk::passing(alloc, passes)).is_ok();
-        assert_eq!(rt; opens, passes >= 4, "{passes} calls");
-    }
-    Ok(())
-}
-
-#[test]
-fn a_commit_is_found_from_its_last_sync_on(rt: HostRuntime) -> Result<(), Fail> {
-    let alloc = rt.alloc();
-    for passes in 8..13 {
-        for how in HOWS {
-            let want = match (passes, how) {
-                (12, _) | (11, Crash::Kept) => 2,
-                _ => 1,
-            };
-            let log = write_commit(alloc, passes)?.reopen_after(alloc, how)?;
-            assert_eq!(rt; log.found(), (want, 0), "{passes} calls, {how:?}");
-        }
-    }
-    Ok(())
-}
-
-#[test]
-fn a_log_that_was_forgotten_begins_with_its_checkpoint(rt: HostRuntime) -> Result<(), Fail> {
-    let alloc = rt.alloc();
-    for passes in 16..20 {
-        for how in HOWS {
-            let want = match (passes, how) {
-                (16, _) | (_, Crash::Lost) => (3, 0),
-                _ => (1, 2),
-            };
-            let log = write_and_forget(alloc, passes)?.reopen_after(alloc, how)?;
-            assert_eq!(rt; log.found(), want, "{passes} calls, {how:?}");
-        }
-    }
-    Ok(())
-}
-
-// Over a volume that passes so many calls: whether a checkpoint is flushed, a commit appended, and it flushed; where the
-// log ends then, and what a further flush answers.
-fn flushes(
-    alloc: Global,
-    passes: u64,
-) -> Result<([bool; 3], (u64, u64, u64), Result<(), LogRefusal>), Fail> {
-    let mut log = TestLog::open(alloc, TestDisk::passing(alloc, passes))?;
-    // Nothing is pending, so there is no call.
-    log.flush()?;
-    log.add(&checkpoint(0))?;
-    let first = log.flush().is_ok();
-    let appends = log.append(&commit(alloc, 3)?)?.is_ok();
-    let second = log.flush().is_ok();
-    Ok(([first, appends, second], log.ends(), log.flush()))
-}
-
-#[test]
-fn each_flush_makes_four_calls_and_a_fault_puts_the_log_down(rt: HostRuntime) -> Result<(), Fail> {
-    let alloc = rt.alloc();
-    for passes in 4..14 {
-        let want = match passes {
-            4..=7 => (
-                [false, false, false],
-                (1, 0, 0),
-                Err(LogRefusal::LogDown { at: 0 }),
-            ),
-            8..=11 => (
-                [true, true, false],
-                (2, 1, 62),
-                Err(LogRefusal::LogDown { at: 1 }),
-            ),
-            _ => ([true, true, true], (2, 2, 80), Ok(())),
-        };
-        assert_eq!(rt; flushes(alloc, passes)?, want, "{passes} calls");
-    }
-    Ok(())
-}
-
-// Whether what stands before the last batch may be forgotten: behind a checkpoint with a commit in its batch, and then
-// behind one alone whose counters are lower than the log's.
-fn may_forget_before(alloc: Global) -> Result<[bool; 2], Fail> {
-    let mut log = TestLog::new(alloc)?;
-    log.add(&checkpoint(0))?;
-    log.add_flushed(&commit(alloc, 3)?)?;
-    let first = log.may_forget();
-    log.add_flushed(&checkpoint(2))?;
-    Ok([first, log.may_forget()])
-}
-
-#[test]
-fn a_checkpoint_that_is_not_alone_or_lower_may_not_stand_first(
-    rt: HostRuntime,
-) -> Result<(), Fail> {
-    assert_eq!(rt; may_forget_before(rt.alloc())?, [false, false]);
-    Ok(())
-}
-
-// A log of a checkpoint alone, opened; with a commit behind it, opened again; with a second checkpoint, opened again; and
-// forgotten before it, opened again.
-fn opened_again(alloc: Global, lives: u64) -> Result<TestLog, Fail> {
-    let mut log = TestLog::open(alloc, TestDisk::of(alloc, log_bytes(alloc, 62)?))?;
-    for life in 0..lives {
-        match life {
-            0 => {
-                log.add_flushed(&commit(alloc, 3)?)?;
-            }
-            1 => {
-                log.add_flushed(&later_checkpoint(2)?)?;
-            }
-            _ => log.forget()??,
-        }
-        log = log.reopen(alloc)?;
-    }
-    Ok(log)
-}
+const ROWS: &str = "=== a_new_log_is_opened_by_four_calls
+new # -> WANTED
+--- 0 3 = LogFault
+--- 4 5 = ok
+=== a_commit_is_found_from_its_last_sync_on
+new # -> ok
+append checkpoint 0 3 -> Ok(0)
+flush -> Ok(())
+append commit 3 -> Ok(1)
+flush
+crash OTHER -> ok
+found -> WANTED
+--- 8 10 lost = (1, 0)
+--- 8 10 kept = (1, 0)
+--- 8 10 torn = (1, 0)
+--- 11 11 lost = (1, 0)
+--- 11 11 kept = (2, 0)
+--- 11 11 torn = (1, 0)
+--- 12 12 lost = (2, 0)
+--- 12 12 kept = (2, 0)
+--- 12 12 torn = (2, 0)
+=== a_log_that_was_forgotten_begins_with_its_checkpoint: forgetting fails
+new # -> ok
+append checkpoint 0 3 -> Ok(0)
+flush -> Ok(())
+append commit 3 -> Ok(1)
+flush
+append checkpoint 2 4 -> Ok(2)
+flush -> Ok(())
+forget -> Err(LogFault)
+crash OTHER -> ok
+found -> (3, 0)
+--- 16 16 lost
+--- 16 16 kept
+--- 16 16 torn
+=== a_log_that_was_forgotten_begins_with_its_checkpoint, and is forgotten again without a call
+new # -> ok
+append checkpoint 0 3 -> Ok(0)
+flush -> Ok(())
+append commit 3 -> Ok(1)
+flush
+append checkpoint 2 4 -> Ok(2)
+flush -> Ok(())
+forget -> Ok(())
+forget -> Ok(())
+crash OTHER -> ok
+found -> WANTED
+--- 17 19 lost = (3, 0)
+--- 17 19 kept = (1, 2)
+--- 17 19 torn = (1, 2)
+=== each_flush_makes_four_calls_and_a_fault_puts_the_log_down: the first flush
+new # -> ok
+flush -> Ok(())
+append checkpoint 0 3 -> Ok(0)
+flush -> Err(LogFault)
+append commit 3 -> Err(LogDown { at: 0 })
+flush -> Err(LogDown { at: 0 })
+ends -> (1, 0, 0)
+flush -> Err(LogDown { at: 0 })
+--- 4 7
+=== each_flush_makes_four_calls_and_a_fault_puts_the_log_down: the second flush
+new # -> ok
+flush -> Ok(())
+append checkpoint 0 3 -> Ok(0)
+flush -> Ok(())
+append commit 3 -> Ok(1)
+flush -> Err(LogFault)
+ends -> (2, 1, 62)
+flush -> Err(LogDown { at: 1 })
+--- 8 11
+=== each_flush_makes_four_calls_and_a_fault_puts_the_log_down: none
+new # -> ok
+flush -> Ok(())
+append checkpoint 0 3 -> Ok(0)
+flush -> Ok(())
+append commit 3 -> Ok(1)
+flush -> Ok(())
+ends -> (2, 2, 80)
+flush -> Ok(())
+--- 12 13
+=== a_checkpoint_that_is_not_alone_or_lower_may_not_stand_first
+new 100 -> ok
+append checkpoint 0 3 -> Ok(0)
+append commit 3 -> Ok(1)
+flush -> Ok(())
+may-forget -> false
+append checkpoint 2 3 -> Ok(2)
+flush -> Ok(())
+may-forget -> false
+=== a_log_that_ends_with_a_checkpoint_alone_is_forgotten_after_a_start
+open 62 0 -> ok
+found -> (1, 0)
+may-forget -> true
+append commit 3 -> Ok(1)
+flush -> Ok(())
+reopen -> ok
+found -> (2, 0)
+may-forget -> false
+append checkpoint 2 4 -> Ok(2)
+flush -> Ok(())
+reopen -> ok
+found -> (3, 0)
+may-forget -> true
+forget -> Ok(())
+reopen -> ok
+found -> (1, 2)
+may-forget -> true
+=== a_forgotten_log_is_its_checkpoint
+open 62 0 -> ok
+append commit 3 -> Ok(1)
+flush -> Ok(())
+reopen -> ok
+append checkpoint 2 4 -> Ok(2)
+flush -> Ok(())
+reopen -> ok
+forget -> Ok(())
+reopen -> ok
+found-checkpoint -> (2, Counters { next: FullXid { number: 4 }, oldest: FullXid { number: 3 }, multi: FullMulti { number: 1 }, offset: 1, oldest_multi: FullMulti { number: 1 }, oldest_offset: 1 })
+";
 
 #[test]
-fn a_log_that_ends_with_a_checkpoint_alone_is_forgotten_after_a_start(
-    rt: HostRuntime,
-) -> Result<(), Fail> {
-    let alloc = rt.alloc();
-    for (lives, found, may) in [
-        (0, (1, 0), true),
-        (1, (2, 0), false),
-        (2, (3, 0), true),
-        (3, (1, 2), true),
-    ] {
-        let log = opened_again(alloc, lives)?;
-        assert_eq!(rt; (log.found(), log.may_forget()), (found, may), "{lives}");
-    }
-    Ok(())
-}
-
-#[test]
-fn a_forgotten_log_is_its_checkpoint(rt: HostRuntime) -> Result<(), Fail> {
-    let found = opened_again(rt.alloc(), 3)?.found_checkpoint();
-    assert_eq!(rt; found, Some((2, later_counters()?)));
-    Ok(())
+fn what_a_log_leaves_at_each_call(rt: HostRuntime) -> Result<(), Fail> {
+    check_rows(&rt, ROWS)
 }

@@ -7,8 +7,12 @@ mod crash_tests;
 #[cfg(test)]
 mod format_tests;
 #[cfg(test)]
+mod lines;
+#[cfg(test)]
 mod record_tests;
 #[cfg(test)]
 mod test_disk;
 #[cfg(test)]
 mod test_log;
+#[cfg(test)]
+mod test_rec;

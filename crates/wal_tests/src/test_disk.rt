@@ -4,7 +4,6 @@ ghost use Rattle.disk_core.specs.Faults.{CountsFault};
 
 use disk_core::{Crash, Extent, Failed, LogDisk, MemLog};
 use std::alloc::Global;
-use std::test::Fail;
 
 /// A volume in memory, kept from the place `from` on, which passes so many calls and fails each later one without doing it.
 #[derive(Drop)]
@@ -16,26 +15,13 @@ pub struct TestDisk {
 }
 
 impl TestDisk {
-    /// A volume with these bytes from a place on.
-    pub fn far(alloc: Global, from: u64, bytes: Vec<u8>) -> TestDisk {
+    /// A volume with these bytes from a place on, which passes so many calls.
+    pub fn of(alloc: Global, from: u64, bytes: Vec<u8>, passes: u64) -> TestDisk {
         TestDisk {
             bytes: MemLog::of(alloc, bytes),
             from,
-            passes: u64::MAX,
-            faults: 0,
-        }
-    }
-
-    /// A volume with these bytes.
-    pub fn of(alloc: Global, bytes: Vec<u8>) -> TestDisk {
-        TestDisk::far(alloc, 0, bytes)
-    }
-
-    /// An empty volume that passes so many calls.
-    pub fn passing(alloc: Global, passes: u64) -> TestDisk {
-        TestDisk {
             passes,
-            ..TestDisk::of(alloc, Vec::new(alloc))
+            faults: 0,
         }
     }
 

@@ -7,7 +7,7 @@ use std::alloc::Global;
 use std::str::SplitWhitespace;
 use std::test::Fail;
 use tx_events::Rec;
-use wal_core::{Started, WalLog, read_log};
+use wal_core::{LogRefusal, Started, WalLog, read_log};
 
 /// A log, and what was read of it when it was opened.
 pub type OpenLog = Started<TestDisk>;
@@ -122,10 +122,16 @@ fn disk_of(
             let from = next_number(words)?;
             Ok(Some(TestDisk::of(alloc, from, bytes, u64::MAX)))
         }
-        Opens::Reopen => Ok(log.take().map(|open| open.log.into_disk())),
+        Opens::Reopen => match log.take() {
+            Some(open) => Ok(Some(open.log.into_disk())),
+            None => Ok(None),
+        },
         Opens::Crash => {
             let how = next_named(words, &CRASHES)?;
-            Ok(log.take().map(|open| open.log.into_disk().after_crash(how)))
+            match log.take() {
+                Some(open) => Ok(Some(open.log.into_disk().after_crash(how))),
+                None => Ok(None),
+            }
         }
     }
 }
@@ -155,7 +161,8 @@ fn bytes(alloc: Global, log: &mut WalLog<TestDisk>) -> Result<String, Fail> {
     bytes.resize(100, 7)?;
     let count = log.dump(0, &mut bytes)?;
     bytes.truncate(count);
-    if bytes.as_slice() == LOG.as_slice() {
+    let wanted = log_bytes(alloc, 81)?;
+    if bytes.as_slice() == wanted.as_slice() {
         Ok(String::from_str(alloc, "LOG")?)
     } else {
         told(alloc, &bytes.as_slice())
@@ -201,8 +208,10 @@ fn ask(
 
 /// How many records a log of these bytes has.
 fn count(alloc: Global, bytes: Vec<u8>) -> Result<String, Fail> {
-    let found = read_log(alloc, &mut TestDisk::of(alloc, 0, bytes, u64::MAX));
-    told(alloc, &found.map(|found| found.recs.items().len()))
+    match read_log(alloc, &mut TestDisk::of(alloc, 0, bytes, u64::MAX)) {
+        Ok(found) => told(alloc, &Ok::<usize, LogRefusal>(found.recs.items().len())),
+        Err(refusal) => told(alloc, &Err::<usize, LogRefusal>(refusal)),
+    }
 }
 
 /// What is read of bytes.
@@ -210,14 +219,14 @@ fn read(alloc: Global, reads: Reads, words: &mut SplitWhitespace<'_>) -> Result<
     match reads {
         Reads::Count => count(alloc, log_bytes(alloc, next_number(words)?)?),
         Reads::Changed => {
-            let mut bytes = LOG.to_vec(alloc)?;
+            let mut bytes = log_bytes(alloc, 81)?;
             let at = next_number(words)? as usize;
             let place = bytes.get_mut(at).ok_or("a byte of the log")?;
             *place = next_byte(words)?;
             count(alloc, bytes)
         }
         Reads::Contents => {
-            let mut disk = TestDisk::of(alloc, 0, LOG.to_vec(alloc)?, u64::MAX);
+            let mut disk = TestDisk::of(alloc, 0, log_bytes(alloc, 81)?, u64::MAX);
             let found = read_log(alloc, &mut disk)?;
             told(alloc, &(found.first, found.gate, found.counters))
         }

@@ -117,6 +117,9 @@ fn has_bytes(rec: &Rec, bytes: &[u8], alloc: Global) -> Result<bool, Fail> {
 /// The bytes of the record that the words name, where it is read from them again.
 pub fn spelled(alloc: Global, words: &mut SplitWhitespace<'_>) -> Result<String, Fail> {
     let rec = rec_of(alloc, words)?;
+    if !is_lawful(&rec) {
+        return Ok(String::from_str(alloc, "it isn't lawful")?);
+    }
     let mut bytes = Vec::new(alloc);
     write_rec(&rec, &mut bytes)?;
     if has_bytes(&rec, bytes.as_slice(), alloc)? {

@@ -134,10 +134,11 @@ fn new_bank(alloc: Global, kind: Kind, words: &mut SplitWhitespace<'_>) -> Resul
 fn next_place(words: &mut SplitWhitespace<'_>) -> Result<u32, Fail>
     ensures { IfOk result (λ at. at + 4 ≤ 8192) }
 {
-    match next_number(words)? {
-        at if at <= 8188 => Ok(at),
-        _ => Err("no place".into()),
+    let at = next_number(words)?;
+    if at > 8188 {
+        return Err("no place".into());
     }
+    Ok(at)
 }
 
 /// What a bank answers to a call about its pages.

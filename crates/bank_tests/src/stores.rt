@@ -79,7 +79,10 @@ pub fn of_xacts(
 pub fn step(alloc: Global, words: &mut SplitWhitespace<'_>) -> Result<String, Fail> {
     let top = next_id(words)?;
     let subs = [next_id(words)?];
-    told(alloc, &plan_step(top, &subs, u64::from(next_number(words)?)))
+    told(
+        alloc,
+        &plan_step(top, &subs, u64::from(next_number(words)?)),
+    )
 }
 
 pub fn of_parents(

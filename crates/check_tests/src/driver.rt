@@ -2,10 +2,9 @@
 ghost use Rattle.std.specs.Prelude.{◌≡◌, ◌<◌, length};
 ghost use Rattle.tx_events.specs.Events.{by_of};
 
-pub use crate::multi_driver::new_log;
 use history_check::HistoryReplay;
 use std::process::Abort;
-use tx_events::{By, Event, FullXid, Name, is_base};
+use tx_events::{By, Counters, Event, FullMulti, FullXid, Name, is_base};
 
 /// The replay of a life of two sessions that begins with id 3.
 #[derive(Drop)]
@@ -74,6 +73,19 @@ pub fn event_of<R: Abort>(rt: &R, by: By, act: Act) -> Event
             by,
             id: id(rt, number),
         },
+    }
+}
+
+/// What a new log begins with.
+pub fn new_log<R: Abort>(rt: &R) -> Counters {
+    let multi = FullMulti::new(1).expect(rt, "a multixact id");
+    Counters {
+        next: id(rt, 3),
+        oldest: id(rt, 3),
+        multi,
+        offset: 1,
+        oldest_multi: multi,
+        oldest_offset: 1,
     }
 }
 

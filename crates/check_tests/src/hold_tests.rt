@@ -1,22 +1,7 @@
 // What held the oldest multixact back, and where multixacts were given.
-use crate::multi_driver::{Act, event_of, multi, new_log};
+use crate::hold_driver::{Act, life_of, multi};
 use held_rules::{LimitAt, held_limits};
 use multi_gens::gen_place;
-use multi_places::MultiPlaces;
-use std::process::Abort;
-use tx_events::{Mode, is_base};
-
-/// The life of a new log, with these events of sessions.
-fn life_of<R: Abort + AllocGlobal>(rt: &R, acts: &[(u32, Act)]) -> MultiPlaces {
-    let base = new_log(rt);
-    assert!(rt; is_base(&base));
-    let mut places = MultiPlaces::new(rt.alloc(), base, Vec::new(rt.alloc())).expect(rt, "memory");
-    for (session, act) in acts {
-        let event = event_of(rt, *session, *act);
-        assert!(rt; places.add(&event).expect(rt, "memory"));
-    }
-    places
-}
 
 fn at(limit: u64, place: u64) -> LimitAt {
     LimitAt { limit, place }
@@ -35,8 +20,8 @@ fn a_pin_holds_back_until_it_is_let_go(rt: HostRuntime) {
     let life = life_of(
         &rt,
         &[
-            (0, Act::Gen(1, 1, 1, Mode::Sh)),
-            (0, Act::Gen(2, 2, 1, Mode::Sh)),
+            (0, Act::Gen(1, 1)),
+            (0, Act::Gen(2, 2)),
             (1, Act::Hold(1)),
             (1, Act::Unhold(1)),
         ],
@@ -52,8 +37,8 @@ fn the_least_of_several_pins_holds_back(rt: HostRuntime) {
     let life = life_of(
         &rt,
         &[
-            (0, Act::Gen(1, 1, 1, Mode::Sh)),
-            (0, Act::Gen(2, 2, 1, Mode::Sh)),
+            (0, Act::Gen(1, 1)),
+            (0, Act::Gen(2, 2)),
             (1, Act::Hold(2)),
             (2, Act::Hold(1)),
             (1, Act::Hold(2)),
@@ -80,9 +65,9 @@ fn a_multixact_is_given_by_one_event(rt: HostRuntime) {
     let life = life_of(
         &rt,
         &[
-            (0, Act::Gen(1, 1, 1, Mode::Sh)),
+            (0, Act::Gen(1, 1)),
             (1, Act::Hold(1)),
-            (0, Act::Gen(2, 2, 1, Mode::Sh)),
+            (0, Act::Gen(2, 2)),
             (1, Act::Unhold(1)),
         ],
     );

@@ -6,15 +6,13 @@
 #[cfg(test)]
 mod driver;
 #[cfg(test)]
+mod hold_driver;
+#[cfg(test)]
 mod hold_tests;
 #[cfg(test)]
 mod legal_tests;
 #[cfg(test)]
 mod line_tests;
-#[cfg(test)]
-mod lines;
-#[cfg(test)]
-mod lives;
 #[cfg(test)]
 mod mark_driver;
 #[cfg(test)]

@@ -1,10 +1,63 @@
 // A life by the events of a test.
 ghost use Rattle.std.specs.Prelude.{◌≡◌};
+ghost use Rattle.tx_events.specs.Events.{by_of};
 
-use crate::driver::{Act, event_of, new_log};
 use history_places::HistoryPlaces;
 use std::process::Abort;
-use tx_events::{By, Counters, is_base};
+use tx_events::{By, Counters, Event, FullMulti, FullXid, is_base};
+
+pub fn id<R: Abort>(rt: &R, number: u64) -> FullXid {
+    FullXid::new(number).expect(rt, "a full id")
+}
+
+pub fn multi<R: Abort>(rt: &R, number: u64) -> FullMulti {
+    FullMulti::new(number).expect(rt, "a full multixact")
+}
+
+/// What a new log begins with.
+pub fn new_log<R: Abort>(rt: &R) -> Counters {
+    Counters {
+        next: id(rt, 3),
+        oldest: id(rt, 3),
+        multi: multi(rt, 1),
+        offset: 1,
+        oldest_multi: multi(rt, 1),
+        oldest_offset: 1,
+    }
+}
+
+/// What the session does next.
+#[derive(Clone, Copy)]
+pub enum Act {
+    Id(u64),
+    Sub(u64, u64),
+    Undo(u64),
+    Commit(u64),
+}
+
+fn event_of<R: Abort>(rt: &R, by: By, act: Act) -> Event
+    ensures { by_of result ≡ by }
+{
+    match act {
+        Act::Id(number) => Event::Id {
+            by,
+            id: id(rt, number),
+        },
+        Act::Sub(parent, number) => Event::Sub {
+            by,
+            parent: id(rt, parent),
+            id: id(rt, number),
+        },
+        Act::Undo(number) => Event::Undo {
+            by,
+            id: id(rt, number),
+        },
+        Act::Commit(number) => Event::Commit {
+            by,
+            top: id(rt, number),
+        },
+    }
+}
 
 /// A life of one session.
 #[derive(Drop)]

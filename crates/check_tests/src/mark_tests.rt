@@ -1,7 +1,5 @@
 // What is kept of the ids and the cutoffs of a life.
-use crate::driver::{Act, id};
-use crate::mark_driver::Driver;
-use crate::multi_driver::multi;
+use crate::mark_driver::{Act, Driver, id, multi};
 use dump_rules::cuts_of;
 use life_marks::{IdMark, id_marks, was_running};
 use std::process::Abort;

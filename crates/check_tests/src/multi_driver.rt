@@ -1,12 +1,35 @@
-// A life's multixacts by the events of a test.
+// Drives a replay of multixacts by the events of a test.
+use multi_check::{add_multi, first_illegal_multi};
+use multi_store::MultiGen;
 use std::process::Abort;
-use tx_events::{By, Counters, FullMulti, FullXid, Member, MemberList, Mode, MultiEvent};
+use tx_events::{
+    By, Counters, FullMulti, FullXid, Member, MemberList, Memory, Mode, MultiEvent, is_base,
+};
+
+/// What comes next and what is oldest at the start of a life.
+#[derive(Clone, Copy)]
+pub struct Start {
+    pub multi: u64,
+    pub oldest_multi: u64,
+    pub offset: u64,
+    pub oldest_offset: u64,
+}
+
+/// A life that begins a log.
+pub fn new_log() -> Start {
+    Start {
+        multi: 1,
+        oldest_multi: 1,
+        offset: 1,
+        oldest_offset: 1,
+    }
+}
 
 /// What happens next to the multixacts.
 #[derive(Clone, Copy)]
 pub enum Act {
-    /// A multixact of this number is given at this offset, with so many members of a mode.
-    Gen(u64, u64, u64, Mode),
+    /// A multixact of this number is given at this offset, with so many members.
+    Gen(u64, u64, usize),
     Hold(u64),
     Unhold(u64),
     Raise(u64, u64),
@@ -17,7 +40,7 @@ pub fn multi<R: Abort>(rt: &R, number: u64) -> FullMulti {
 }
 
 /// So many members of this mode.
-fn members<R: Abort + AllocGlobal>(rt: &R, mode: Mode, count: u64) -> MemberList {
+pub fn members<R: Abort + AllocGlobal>(rt: &R, mode: Mode, count: usize) -> MemberList {
     let mut list = MemberList::new(rt.alloc());
     let id = FullXid::new(3).expect(rt, "a full id");
     for _n in 0..count {
@@ -33,11 +56,11 @@ pub fn event_of<R: Abort + AllocGlobal>(rt: &R, session: u32, act: Act) -> Multi
         command: 1,
     };
     match act {
-        Act::Gen(number, offset, count, mode) => MultiEvent::Gen {
+        Act::Gen(number, offset, count) => MultiEvent::Gen {
             by,
             multi: multi(rt, number),
             offset,
-            members: members(rt, mode, count),
+            members: members(rt, Mode::Sh, count),
         },
         Act::Hold(number) => MultiEvent::Hold {
             by,
@@ -55,20 +78,55 @@ pub fn event_of<R: Abort + AllocGlobal>(rt: &R, session: u32, act: Act) -> Multi
     }
 }
 
-/// What a life begins with: the next and the oldest multixact, and the next and the oldest offset.
-pub fn life<R: Abort>(rt: &R, [next, oldest, offset, oldest_offset]: [u64; 4]) -> Counters {
+fn base_of<R: Abort>(rt: &R, start: Start) -> Counters {
     let id = FullXid::new(3).expect(rt, "a full id");
     Counters {
         next: id,
         oldest: id,
-        multi: multi(rt, next),
-        offset,
-        oldest_multi: multi(rt, oldest),
-        oldest_offset,
+        multi: multi(rt, start.multi),
+        offset: start.offset,
+        oldest_multi: multi(rt, start.oldest_multi),
+        oldest_offset: start.oldest_offset,
     }
 }
 
-/// What a new log begins with.
-pub fn new_log<R: Abort>(rt: &R) -> Counters {
-    life(rt, [1, 1, 1, 1])
+/// The replay of a life.
+#[derive(Drop)]
+pub struct Driver {
+    multis: MultiGen,
+}
+
+impl Driver {
+    pub fn new<R: Abort + AllocGlobal>(rt: &R, start: Start) -> Driver {
+        let base = base_of(rt, start);
+        assert!(rt; is_base(&base));
+        Driver {
+            multis: MultiGen::new(rt.alloc(), base),
+        }
+    }
+
+    /// Whether the event may come, which is then added.
+    pub fn adds<R: Abort>(&mut self, rt: &R, event: &MultiEvent) -> bool {
+        add_multi(&mut self.multis, event).expect(rt, "memory")
+    }
+
+    /// Whether the session's event may come, which is then added.
+    pub fn may<R: Abort + AllocGlobal>(&mut self, rt: &R, session: u32, act: Act) -> bool {
+        let event = event_of(rt, session, act);
+        self.adds(rt, &event)
+    }
+}
+
+/// The place of the first event that may not come in a new log's life. All are of session 0.
+pub fn first_illegal<R: Abort + AllocGlobal>(
+    rt: &R,
+    acts: &[Act],
+) -> Result<Option<usize>, Memory> {
+    let base = base_of(rt, new_log());
+    assert!(rt; is_base(&base));
+    let mut events = Vec::new(rt.alloc());
+    for act in acts {
+        events.push(event_of(rt, 0, *act))?;
+    }
+    first_illegal_multi(rt.alloc(), base, events.as_slice())
 }

@@ -5,7 +5,7 @@ use history_places::HistoryPlaces;
 use multi_places::MultiPlaces;
 use own_places::{Own, own_places};
 use place_columns::column_of;
-use tx_events::{By, Mode, is_base};
+use tx_events::{By, is_base};
 
 #[test]
 fn a_column_begins_with_its_first_number(rt: HostRuntime) {
@@ -82,7 +82,7 @@ fn a_multixact_is_the_next_one_until_it_is_given(rt: HostRuntime) {
     assert!(rt; is_base(&base));
     let starts = Vec::new(rt.alloc());
     let mut places = MultiPlaces::new(rt.alloc(), base, starts).expect(&rt, "memory");
-    let event = multi_driver::event_of(&rt, 0, multi_driver::Act::Gen(1, 1, 2, Mode::Sh));
+    let event = multi_driver::event_of(&rt, 0, multi_driver::Act::Gen(1, 1, 2));
     assert!(rt; places.add(&event).expect(&rt, "memory"));
     let one = places.where_next(1);
     assert_eq!(rt; (one.from, one.end), (0, 1));

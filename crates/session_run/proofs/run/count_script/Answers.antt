@@ -1,5 +1,6 @@
 use mir.Syntax.{of_param}
 use Rattle.std.proofs.Common.{List, None, ap, arith, length, refl, subst, sym, ℕ, ◌<◌, ◌^◌, ◌∙◌, ◌≡◌, false, rules}
+use Rattle.std.proofs.lemmas.Result.{err_from_is_err_and}
 use Rattle.std.specs.List.{flat_map}
 use Rattle.disk_core.specs.Images.{Only}
 use Rattle.tx_events.specs.Base.{IsBase}
@@ -18,7 +19,7 @@ use Rattle.session_run.specs.OneLife.{life_of}
 use Rattle.session_run.specs.Parts.{HasLived, IsTakenPart, report_of}
 use Rattle.session_run.specs.Starts.{BeginsOver}
 use Rattle.session_run.proofs.Counted.{counts_told, left_alone, part_alone, verdicts_few}
-use Rattle.session_run.proofs.Opening.{is_first, may_over, start_so}
+use Rattle.session_run.proofs.Opening.{is_first, may_over, start_so, unopened_first}
 use Rattle.session_run.proofs.RoundSteps.{kept_lines}
 use Rattle.session_run.proofs.run.count_script.Goals as goal
 
@@ -34,6 +35,16 @@ open_life-requires g c κs within =
     let asked = own.1.1.1.1.1.1.1 in
     let may = may_over g.M.Log.LogDisk g.M.Pages.PageDisk c.args.script.now (MayMount (m.is_new c.args.media.now) (m.begins c.args.media.now) (m.gives c.args.media.now)) g.kept c.cluster_of.result c.cluster_of.ensures.is asked.1 in
     (search (rules, within), (search (rules, within), (search (rules, within), (record { owned = log.owned; leaving = λ k. log.leaving (λ a. k (of_param 1)) }, (record { owned = pages.owned; leaving = λ k. pages.leaving (λ a. k (of_param 2)) }, (cluster, (asked.0, may)))))))
+
+pub returns-in_err-life-clause-refused : goal.returns-in_err-life-clause-refused
+returns-in_err-life-clause-refused g c =
+    let m = g.M.Media in
+    let old = c.args.media.now in
+    let new = c.open_life.new.media in
+    let none = unopened_first g.M.Log.LogDisk g.M.Pages.PageDisk c.args.script.now g.kept (m.is_new old) (m.begins old) (m.gives old) m.falls (m.faults old) (m.faults new) (m.gives new) c.cluster_of.result c.in_err-life.field-0.0 c.cluster_of.ensures.is
+    c.in_err-life.ensures.refused (λ was told. c.in_err-life.ensures.again told was) in
+    let err = err_from_is_err_and c.from_residual.result c.from_residual.ensures.1 in
+    rw (err.1, err.2) none
 
 pub run_life-closed-requires-clause-taken : goal.run_life-closed-requires-clause-taken
 run_life-closed-requires-clause-taken g c κs within =

@@ -18,8 +18,7 @@ count_script-requires g c κs within =
     let paged = own.1.1.1.1.1.0 in
     let asked = own.1.1.1.1.1.1 in
     let taken = subst IsTakenAlone (sym c.in-Ok.ensures) (is_taken c.args.seed c.args.size (c.generated_scripts_run.ensures c.args.seed c.args.size asked.0)) in
-    let may = λ volumes mounted. asked.1.1 c.in-Ok.script.banks volumes mounted in
-    (search (rules, within), (search (rules, within), (search (rules, within), (search (rules, within), (search (rules, within), (record { owned = log.owned; leaving = λ k. log.leaving (λ a. k (of_param 3)) }, (record { owned = pages.owned; leaving = λ k. pages.leaving (λ a. k (of_param 4)) }, (record { shared = by.shared }, (record { shared = gate.shared }, (record { shared = logs.shared }, (record { shared = paged.shared }, (taken, (asked.1.0, may)))))))))))))
+    (search (rules, within), (search (rules, within), (search (rules, within), (search (rules, within), (search (rules, within), (record { owned = log.owned; leaving = λ k. log.leaving (λ a. k (of_param 3)) }, (record { owned = pages.owned; leaving = λ k. pages.leaving (λ a. k (of_param 4)) }, (record { shared = by.shared }, (record { shared = gate.shared }, (record { shared = logs.shared }, (record { shared = paged.shared }, (taken, (asked.1.0, λ volumes mounted. asked.1.1 c.in-Ok.script.banks volumes mounted)))))))))))))
 
 pub returns-in-Ok-count_script-clause-ends : goal.returns-in-Ok-count_script-clause-ends
 returns-in-Ok-count_script-clause-ends g c = λ left faults.

@@ -18,9 +18,7 @@ run_script-requires g c κs within =
     let logs = own.1.1.1.1.0 in
     let paged = own.1.1.1.1.1.0 in
     let asked = own.1.1.1.1.1.1 in
-    let taken = ? in
-    let may = λ volumes mounted. asked.1 c.in-Ok.script.banks volumes mounted in
-    (search (rules, within), (search (rules, within), (search (rules, within), (search (rules, within), (search (rules, within), (search (rules, within), (record { owned = log.owned; leaving = λ k. log.leaving (λ a. k (of_param 4)) }, (record { owned = pages.owned; leaving = λ k. pages.leaving (λ a. k (of_param 5)) }, (record { shared = by.shared }, (record { shared = gate.shared }, (record { shared = logs.shared }, (record { shared = paged.shared }, (taken, (asked.0, may))))))))))))))
+    (search (rules, within), (search (rules, within), (search (rules, within), (search (rules, within), (search (rules, within), (search (rules, within), (record { owned = log.owned; leaving = λ k. log.leaving (λ a. k (of_param 4)) }, (record { owned = pages.owned; leaving = λ k. pages.leaving (λ a. k (of_param 5)) }, (record { shared = by.shared }, (record { shared = gate.shared }, (record { shared = logs.shared }, (record { shared = paged.shared }, (record { runnable = c.in-Ok.ensures.script.runnable; banks = c.in-Ok.ensures.banks; few = c.in-Ok.ensures.few }, (asked.0, λ volumes mounted. asked.1 c.in-Ok.script.banks volumes mounted))))))))))))))
 
 pub returns-in-Err-clause-ends : goal.returns-in-Err-clause-ends
 returns-in-Err-clause-ends g c =

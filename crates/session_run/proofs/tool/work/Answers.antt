@@ -2,7 +2,7 @@ use mir.Syntax.{of_param}
 use Rattle.std.proofs.Common.{List, [], subst, sym, ℕ, false, ◌≡◌, rules}
 use Rattle.engine_life.specs.FirstLives.{MayMount}
 use Rattle.script_gen.specs.declared.task.Task.{Task}
-use Rattle.session_run.specs.Tool.{Ends, HasWritten}
+use Rattle.session_run.specs.Tool.{Ends, HasWritten, IsSized}
 use Rattle.session_run.proofs.Endings.{generated_is_read, last_written}
 use Rattle.session_run.proofs.tool.work.Goals as goal
 
@@ -16,7 +16,7 @@ run_generated-requires g c κs within =
     let logs = own.1.1.1.1.0 in
     let paged = own.1.1.1.1.1.0 in
     let asked = own.1.1.1.1.1.1 in
-    let few = ? in
+    let few = subst IsSized c.in-Gen.is asked.0 in
     (search (rules, within), (search (rules, within), (search (rules, within), (search (rules, within), (search (rules, within), (record { owned = log.owned; leaving = λ k. log.leaving (λ a. k (of_param 3)) }, (record { owned = pages.owned; leaving = λ k. pages.leaving (λ a. k (of_param 4)) }, (record { shared = by.shared }, (record { shared = gate.shared }, (record { shared = logs.shared }, (record { shared = paged.shared }, (few, (asked.1.0, asked.1.1)))))))))))))
 
 pub run_source-requires : goal.run_source-requires

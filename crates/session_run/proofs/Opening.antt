@@ -121,6 +121,10 @@ module _ {L P : Type 0} (l : logs.Ghosts L) (p : disks.Ghosts P) (s : Script) (m
     pub so : IsOpenedSo kept (with_banks (cluster_of s) (length volumes.xact.items)) volumes life
     pub began : BeginsOver l p may kept s so.cluster.banks (start_so so.cluster so.begins) volumes
 
+  -- so also of what the cluster's banks are
+  pub may_over : (c : Cluster) → c ≡ cluster_of s → ((v : Volumes L P) → may s.banks v → MayBeginOver l p kept v) → (v : Volumes L P) → may c.banks v → MayBeginOver l p kept v
+  may_over c same begins v mounted = begins v (subst (λ (d : Cluster). may d.banks v) same mounted)
+
   pub is_first : (c : Cluster) (life : OpenLife L P l p) → c ≡ cluster_of s → ((v : Volumes L P) → may s.banks v → MayBeginOver l p kept v)
       → (v : Volumes L P) × may c.banks v × IsFirstLife kept (with_banks c (length v.xact.items)) v life → IsFirst life
   is_first c life same begins k =

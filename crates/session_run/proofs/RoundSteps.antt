@@ -14,7 +14,6 @@ use Rattle.tx_model.specs.Asked.{Asked, rounds_in}
 use Rattle.tx_model.specs.Rounds.{AreSteps, lines_in}
 use Rattle.tx_model.specs.Lines.{AreLinesOf}
 use Rattle.report_text.specs.ReportText.{command_line, round_line, step_text}
-use Rattle.report_text.proofs.OneLife.{one_round}
 use Rattle.session_lang.specs.declared.script.Item.{Item}
 use Rattle.session_lang.specs.declared.script.Item.TheVariants as items
 use Rattle.session_lang.specs.Rounds.{asked_at, asked_in, asked_of, asked_round}
@@ -26,6 +25,11 @@ use Rattle.session_promise.specs.Told.{ToldRound, steps_of}
 use Rattle.session_run.specs.Parts.{with_steps}
 use Rattle.run_law.proofs.AllTurns.{Turns}
 use Rattle.session_run.proofs.RoundCounts.{AreRoundsOf}
+
+-- the text of a round's step
+one_round : (names : List (List ℕ)) (number : ℕ) (lines : List Line) → flat_map (step_text names) (steps.Round number lines ∷ []) ≡ round_line number ++ flat_map (command_line names) lines
+unfolding step_text
+one_round names number lines = append-nil (round_line number ++ flat_map (command_line names) lines)
 
 pub not_empty : {X : Type 0} (xs : List X) (b : Bool) → ((b ≡ true) ↔ (xs ≡ [])) → b ≡ false → 0 < length xs
 not_empty [] b k e = absurd (false≢true (sym e ∙ k.1 refl))

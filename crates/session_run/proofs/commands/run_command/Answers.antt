@@ -1,7 +1,6 @@
-use Rattle.std.proofs.Common.{◌≡◌, IsTrue, ap, subst, sym, ◌∙◌}
+use Rattle.std.proofs.Common.{◌≡◌, subst, sym, ◌∙◌}
 use Rattle.hall.specs.Calls.{start_of, view}
 use Rattle.tx_model.specs.declared.command.Command.{Command}
-use Rattle.tx_model.specs.declared.command.Command.TheVariants as commands
 use Rattle.tx_model.specs.declared.reply.Reply.{Reply}
 use Rattle.life_law.specs.Refused.{by_members, refused_by_members}
 use Rattle.engine_parts.specs.Calls.{next_command}

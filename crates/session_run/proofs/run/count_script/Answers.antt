@@ -1,4 +1,6 @@
-use Rattle.std.proofs.Common.{List, None, ap, arith, length, refl, subst, sym, ℕ, ◌<◌, ◌^◌, ◌∙◌, ◌≡◌}
+use mir.Syntax.{of_param}
+use Rattle.std.proofs.Common.{List, None, ap, arith, length, refl, subst, sym, ℕ, ◌<◌, ◌^◌, ◌∙◌, ◌≡◌, false, rules}
+use Rattle.std.proofs.lemmas.Result.{err_from_is_err_and}
 use Rattle.std.specs.List.{flat_map}
 use Rattle.disk_core.specs.Images.{Only}
 use Rattle.tx_events.specs.Base.{IsBase}
@@ -17,14 +19,37 @@ use Rattle.session_run.specs.OneLife.{life_of}
 use Rattle.session_run.specs.Parts.{HasLived, IsTakenPart, report_of}
 use Rattle.session_run.specs.Starts.{BeginsOver}
 use Rattle.session_run.proofs.Counted.{counts_told, left_alone, part_alone, verdicts_few}
-use Rattle.session_run.proofs.Opening.{is_first, start_so}
+use Rattle.session_run.proofs.Opening.{is_first, may_over, start_so, unopened_first}
 use Rattle.session_run.proofs.RoundSteps.{kept_lines}
 use Rattle.session_run.proofs.run.count_script.Goals as goal
+
+-- With a ghost value the clauses of `requires` have no names: they stand in their order behind what is asked of lifetimes.
+
+pub open_life-requires : goal.open_life-requires
+open_life-requires g c κs within =
+    let m = g.M.Media in
+    let own = c.requires.1.1.1.1.1 in
+    let log = own.0 in
+    let pages = own.1.0 in
+    let cluster = c.cluster_of.ensures.cluster in
+    let asked = own.1.1.1.1.1.1.1 in
+    let may = may_over g.M.Log.LogDisk g.M.Pages.PageDisk c.args.script.now (MayMount (m.is_new c.args.media.now) (m.begins c.args.media.now) (m.gives c.args.media.now)) g.kept c.cluster_of.result c.cluster_of.ensures.is asked.1 in
+    (search (rules, within), (search (rules, within), (search (rules, within), (record { owned = log.owned; leaving = λ k. log.leaving (λ a. k (of_param 1)) }, (record { owned = pages.owned; leaving = λ k. pages.leaving (λ a. k (of_param 2)) }, (cluster, (asked.0, may)))))))
+
+pub returns-in_err-life-clause-refused : goal.returns-in_err-life-clause-refused
+returns-in_err-life-clause-refused g c =
+    let m = g.M.Media in
+    let old = c.args.media.now in
+    let new = c.open_life.new.media in
+    let none = unopened_first g.M.Log.LogDisk g.M.Pages.PageDisk c.args.script.now g.kept (m.is_new old) (m.begins old) (m.gives old) m.falls (m.faults old) (m.faults new) (m.gives new) c.cluster_of.result c.in_err-life.field-0.0 c.cluster_of.ensures.is
+    c.in_err-life.ensures.refused (λ was told. c.in_err-life.ensures.again told was) in
+    let err = err_from_is_err_and c.from_residual.result c.from_residual.ensures.1 in
+    rw (err.1, err.2) none
 
 pub run_life-closed-requires-clause-taken : goal.run_life-closed-requires-clause-taken
 run_life-closed-requires-clause-taken g c κs within =
     let s = c.args.script.now in
-    subst (IsTakenPart (length s.names)) (sym c.items-items.ensures) (part_alone s (taken g c))
+    subst (IsTakenPart (length s.names)) (sym c.items-items.ensures) (part_alone s (c.requires.1.1.1.1.1.1.1.1.1.1.1.0))
 
 pub run_life-closed-requires-clause-may : goal.run_life-closed-requires-clause-may
 run_life-closed-requires-clause-may g c κs within =
@@ -32,7 +57,7 @@ run_life-closed-requires-clause-may g c κs within =
     let m = g.M.Media in
     let first = MayMount (m.is_new c.args.media.now) (m.begins c.args.media.now) (m.gives c.args.media.now) in
     let life = c.in_ok-life.life in
-    let is = is_first g.M.Log.LogDisk g.M.Pages.PageDisk s first g.kept c.cluster_of.result life c.cluster_of.ensures.is (may g c) c.in_ok-life.ensures.life in
+    let is = is_first g.M.Log.LogDisk g.M.Pages.PageDisk s first g.kept c.cluster_of.result life c.cluster_of.ensures.is (c.requires.1.1.1.1.1.1.1.1.1.1.1.1.1) c.in_ok-life.ensures.life in
     record {
       cluster = is.so.cluster;
       begins = is.so.begins;
@@ -53,7 +78,7 @@ returns-in-Ok-text-clause-counts g c =
     let closed = c.run_life-closed.result.0 in
     let tally = c.run_life-closed.new.kept in
     let gives = m.gives c.rest.new.self in
-    let is = is_first l p s first g.kept c.cluster_of.result life c.cluster_of.ensures.is (may g c) c.in_ok-life.ensures.life in
+    let is = is_first l p s first g.kept c.cluster_of.result life c.cluster_of.ensures.is (c.requires.1.1.1.1.1.1.1.1.1.1.1.1.1) c.in_ok-life.ensures.life in
     let so = is.so in
     let start = start_so so.cluster so.begins in
     let told = life_of so.cluster so.begins closed in
@@ -73,7 +98,7 @@ returns-in-Ok-text-clause-counts g c =
       multi = full.0;
       oldest_multi = full.1;
     } in
-    let counts = counts_told p.tells so.cluster.banks start s told ran.steps c.in-Ok-text.text.items c.commands.result c.verdicts.result so.opened.banks.few (taken g c) lived (record { from = refl; base = refl }) base commands verdicts exact in
+    let counts = counts_told p.tells so.cluster.banks start s told ran.steps c.in-Ok-text.text.items c.commands.result c.verdicts.result so.opened.banks.few (c.requires.1.1.1.1.1.1.1.1.1.1.1.0) lived (record { from = refl; base = refl }) base commands verdicts exact in
     let only = subst (λ volumes. Only volumes gives) c.into_volumes.ensures c.rest.ensures.same in (
       counts.0,
       subst (λ (x : ℕ × RunStart × List LifeReport). LeavesVolumes l p (BeginsOver l p first g.kept s x.0 x.1) m.falls gives x.2) (λ j. (sym counts.1 j, sym counts.2 j, sym counts.3 j))

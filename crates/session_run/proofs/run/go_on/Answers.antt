@@ -1,9 +1,9 @@
-use Rattle.std.proofs.Common.{length, rules, subst, sym}
+use Rattle.std.proofs.Common.{length, rules, subst}
 use Rattle.disk_core.specs.Media.{HasBanks}
 use Rattle.engine_life.specs.FirstLives.{IsFirstLife, MayMount, with_banks}
 use Rattle.engine_life.specs.Refusals.{IsUnopened}
 use Rattle.session_run.specs.Going.{HasGoneOn, IsCrashed}
-use Rattle.session_run.proofs.GoingOn.{crash_failed, err_so, may_go_on, mounts_again, none_goes_on, ok_so, same_banks}
+use Rattle.session_run.proofs.GoingOn.{crash_failed, err_so, may_go_on, mounts_again, none_goes_on, ok_so}
 use Rattle.session_run.proofs.run.go_on.Goals as goal
 
 -- With a ghost value the clauses of `requires` have no names: they stand in their order behind what is asked of lifetimes.

@@ -1,5 +1,5 @@
 use mir.Syntax.{of_param}
-use Rattle.std.proofs.Common.{IsTrue, inl, inr, length, rules, subst, sym, ℕ, ◌∙◌}
+use Rattle.std.proofs.Common.{IsTrue, inl, inr, length, refl, rules, subst, sym, ℕ, ◌∙◌}
 use Rattle.std.proofs.KnownBytes.{Appends-nil}
 use Rattle.disk_core.specs.Images.{Only}
 use Rattle.disk_core.specs.Media.{HasBanks}

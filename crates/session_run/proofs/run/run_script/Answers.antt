@@ -1,23 +1,26 @@
-use Rattle.std.proofs.Common.{List, arith, subst, sym}
+use mir.Syntax.{of_param}
+use Rattle.std.proofs.Common.{List, arith, subst, sym, false, ◌≡◌, rules}
 use Rattle.std.proofs.lemmas.Result.{err_from_is_err_and}
 use Rattle.session_lang.specs.declared.script.Item.{Item}
 use Rattle.run_law.proofs.Lives.{rest_shorter}
 use Rattle.engine_host.specs.declared.cluster.Cluster.{Cluster}
 use Rattle.engine_life.specs.FirstLives.{MayMount}
 use Rattle.session_run.proofs.LivesRun.{HasCome, come_first, come_on, part_stops, part_taken, run_ends, unopened_stops}
-use Rattle.session_run.proofs.Opening.{is_first, unopened_first}
+use Rattle.session_run.proofs.Opening.{is_first, may_over, unopened_first}
 use Rattle.session_run.proofs.run.run_script.Goals as goal
 
 -- With a ghost value the clauses of `requires` have no names: they stand in their order behind what is asked of lifetimes.
 
 pub open_life-requires : goal.open_life-requires
-open_life-requires g c =
+open_life-requires g c κs within =
     let m = g.M.Media in
-    let l = g.M.Log.LogDisk in
-    let p = g.M.Pages.PageDisk in
+    let own = c.requires.1.1.1.1.1.1 in
+    let log = own.0 in
+    let pages = own.1.0 in
     let cluster = c.cluster_of.ensures.cluster in
-    let may = subst (λ (k : Cluster). (v : Volumes g.M.Log.T g.M.Pages.T) → MayMount (m.is_new c.args.media.now) (m.begins c.args.media.now) (m.gives c.args.media.now) k.banks v → MayBeginOver l p g.kept v) (sym c.cluster_of.ensures.is) (c.requires.may) in
-    search (rules, cluster, may)
+    let asked = own.1.1.1.1.1.1.1 in
+    let may = may_over g.M.Log.LogDisk g.M.Pages.PageDisk c.args.script.now (MayMount (m.is_new c.args.media.now) (m.begins c.args.media.now) (m.gives c.args.media.now)) g.kept c.cluster_of.result c.cluster_of.ensures.is asked.1 in
+    (search (rules, within), (search (rules, within), (search (rules, within), (record { owned = log.owned; leaving = λ k. log.leaving (λ a. k (of_param 1)) }, (record { owned = pages.owned; leaving = λ k. pages.leaving (λ a. k (of_param 2)) }, (cluster, (asked.0, may)))))))
 
 pub returns-in-Err-clause-stopped : goal.returns-in-Err-clause-stopped
 returns-in-Err-clause-stopped g c =
@@ -41,8 +44,8 @@ loop-next-init g c =
     let held = g.K.Sink.held c.args.sink.now in
     let first = MayMount (m.is_new c.args.media.now) (m.begins c.args.media.now) (m.gives c.args.media.now) in
     let life = c.in-Ok.life in
-    let is = is_first g.M.Log.LogDisk g.M.Pages.PageDisk s first g.kept c.cluster_of.result life c.cluster_of.ensures.is (may g c) c.in-Ok.ensures.life in (
-      subst (λ (its : List Item). HasCome {l = g.M.Log.LogDisk} {p = g.M.Pages.PageDisk} s first g.kept (m.is_new c.args.media.now ≡ false) m.falls held held its 1 life) (sym c.items-items.ensures) (come_first s first g.kept (m.is_new c.args.media.now ≡ false) m.falls held life (taken g c) is),
+    let is = is_first g.M.Log.LogDisk g.M.Pages.PageDisk s first g.kept c.cluster_of.result life c.cluster_of.ensures.is (c.requires.1.1.1.1.1.1.1.1.1.1.1.1.1.1) c.in-Ok.ensures.life in (
+      subst (λ (its : List Item). HasCome {l = g.M.Log.LogDisk} {p = g.M.Pages.PageDisk} s first g.kept (m.is_new c.args.media.now ≡ false) m.falls held held its 1 life) (sym c.items-items.ensures) (come_first s first g.kept (m.is_new c.args.media.now ≡ false) m.falls held life (c.requires.1.1.1.1.1.1.1.1.1.1.1.1.0) is),
       c.in-Ok.ensures.count,
       omega arith,
     )
@@ -53,7 +56,7 @@ run_part-requires-clause-part g c κs within =
     let k = g.K.Sink in
     let at = c.loop-next in
     let part = c.next_part-part.result in
-    part_taken c.args.script.now (MayMount (m.is_new c.args.media.now) (m.begins c.args.media.now) (m.gives c.args.media.now)) g.kept (m.is_new c.args.media.now ≡ false) m.falls (k.held c.args.sink.now) (k.held at.sink) at.items at.number at.life at.invariant.0 part.0 part.1 part.2 c.next_part-part.ensures (taken g c)
+    part_taken c.args.script.now (MayMount (m.is_new c.args.media.now) (m.begins c.args.media.now) (m.gives c.args.media.now)) g.kept (m.is_new c.args.media.now ≡ false) m.falls (k.held c.args.sink.now) (k.held at.sink) at.items at.number at.life at.invariant.0 part.0 part.1 part.2 c.next_part-part.ensures (c.requires.1.1.1.1.1.1.1.1.1.1.1.1.0)
 
 pub returns-in_err-run_part-clause-stopped : goal.returns-in_err-run_part-clause-stopped
 returns-in_err-run_part-clause-stopped g c =

@@ -1,4 +1,4 @@
-use Rattle.std.proofs.Common.{length, ◌≤◌}
+use Rattle.std.proofs.Common.{false, length, ◌≡◌, ◌≤◌}
 use Rattle.engine_life.specs.FirstLives.{MayMount}
 use Rattle.session_run.proofs.LivesRun.{HasCome}
 use Rattle.session_run.proofs.run.run_script.Given as goal

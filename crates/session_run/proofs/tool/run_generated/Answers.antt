@@ -1,4 +1,5 @@
-use Rattle.std.proofs.Common.{refl, subst, sym}
+use mir.Syntax.{of_param}
+use Rattle.std.proofs.Common.{refl, subst, sym, false, ◌≡◌, rules}
 use Rattle.engine_life.specs.FirstLives.{MayMount}
 use Rattle.script_gen.specs.declared.task.Task.TheVariants as tasks
 use Rattle.session_run.specs.Runs.{IsTakenAlone}
@@ -6,9 +7,18 @@ use Rattle.session_run.proofs.Endings.{alone_ends, is_taken, refusal_last, summe
 use Rattle.session_run.proofs.ToolEnds.{refused_mounted}
 use Rattle.session_run.proofs.tool.run_generated.Goals as goal
 
-pub count_script-requires-clause-taken : goal.count_script-requires-clause-taken
-count_script-requires-clause-taken g c κs within =
-    subst IsTakenAlone (sym c.in-Ok.ensures) (is_taken c.args.seed c.args.size (c.generated_scripts_run.ensures c.args.seed c.args.size c.requires.few))
+pub count_script-requires : goal.count_script-requires
+count_script-requires g c κs within =
+    let own = c.requires.1.1.1.1.1 in
+    let log = own.0 in
+    let pages = own.1.0 in
+    let by = own.1.1.0 in
+    let gate = own.1.1.1.0 in
+    let logs = own.1.1.1.1.0 in
+    let paged = own.1.1.1.1.1.0 in
+    let asked = own.1.1.1.1.1.1 in
+    let taken = subst IsTakenAlone (sym c.in-Ok.ensures) (is_taken c.args.seed c.args.size (c.generated_scripts_run.ensures c.args.seed c.args.size asked.0)) in
+    (search (rules, within), (search (rules, within), (search (rules, within), (search (rules, within), (search (rules, within), (record { owned = log.owned; leaving = λ k. log.leaving (λ a. k (of_param 3)) }, (record { owned = pages.owned; leaving = λ k. pages.leaving (λ a. k (of_param 4)) }, (record { shared = by.shared }, (record { shared = gate.shared }, (record { shared = logs.shared }, (record { shared = paged.shared }, (taken, (asked.1.0, λ volumes mounted. asked.1.1 c.in-Ok.script.banks volumes mounted)))))))))))))
 
 pub returns-in-Ok-count_script-clause-ends : goal.returns-in-Ok-count_script-clause-ends
 returns-in-Ok-count_script-clause-ends g c = λ left faults.

@@ -1,4 +1,5 @@
-use Rattle.std.proofs.Common.{List, subst, sym, ℕ}
+use mir.Syntax.{of_param}
+use Rattle.std.proofs.Common.{List, subst, sym, ℕ, false, ◌≡◌, rules}
 use Rattle.engine_life.specs.FirstLives.{MayMount}
 use Rattle.session_run.specs.declared.ending.Ending.{Ending}
 use Rattle.script_gen.specs.declared.task.Task.TheVariants as tasks
@@ -6,6 +7,18 @@ use Rattle.session_run.specs.Tool.{Ends, HasMounted, HasWritten}
 use Rattle.session_run.proofs.Endings.{answers, stopped_ends, stopped_read, unread_ends}
 use Rattle.session_run.proofs.ToolEnds.{stopped_mounted, unread_unmounted}
 use Rattle.session_run.proofs.tool.run_source.Goals as goal
+
+pub run_script-requires : goal.run_script-requires
+run_script-requires g c κs within =
+    let own = c.requires.1.1.1.1.1.1.1 in
+    let log = own.0 in
+    let pages = own.1.0 in
+    let by = own.1.1.0 in
+    let gate = own.1.1.1.0 in
+    let logs = own.1.1.1.1.0 in
+    let paged = own.1.1.1.1.1.0 in
+    let asked = own.1.1.1.1.1.1 in
+    (search (rules, within), (search (rules, within), (search (rules, within), (search (rules, within), (search (rules, within), (search (rules, within), (record { owned = log.owned; leaving = λ k. log.leaving (λ a. k (of_param 4)) }, (record { owned = pages.owned; leaving = λ k. pages.leaving (λ a. k (of_param 5)) }, (record { shared = by.shared }, (record { shared = gate.shared }, (record { shared = logs.shared }, (record { shared = paged.shared }, (record { runnable = c.in-Ok.ensures.script.runnable; banks = c.in-Ok.ensures.banks; few = c.in-Ok.ensures.few }, (asked.0, λ volumes mounted. asked.1 c.in-Ok.script.banks volumes mounted))))))))))))))
 
 pub returns-in-Err-clause-ends : goal.returns-in-Err-clause-ends
 returns-in-Err-clause-ends g c =

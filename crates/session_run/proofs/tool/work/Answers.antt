@@ -1,9 +1,35 @@
-use Rattle.std.proofs.Common.{List, [], subst, sym, ℕ}
+use mir.Syntax.{of_param}
+use Rattle.std.proofs.Common.{List, [], subst, sym, ℕ, false, ◌≡◌, rules}
 use Rattle.engine_life.specs.FirstLives.{MayMount}
 use Rattle.script_gen.specs.declared.task.Task.{Task}
-use Rattle.session_run.specs.Tool.{Ends, HasWritten}
+use Rattle.session_run.specs.Tool.{Ends, HasWritten, IsSized}
 use Rattle.session_run.proofs.Endings.{generated_is_read, last_written}
 use Rattle.session_run.proofs.tool.work.Goals as goal
+
+pub run_generated-requires : goal.run_generated-requires
+run_generated-requires g c κs within =
+    let own = c.requires.1.1.1.1.1.1.1 in
+    let log = own.0 in
+    let pages = own.1.0 in
+    let by = own.1.1.0 in
+    let gate = own.1.1.1.0 in
+    let logs = own.1.1.1.1.0 in
+    let paged = own.1.1.1.1.1.0 in
+    let asked = own.1.1.1.1.1.1 in
+    let few = subst IsSized c.in-Gen.is asked.0 in
+    (search (rules, within), (search (rules, within), (search (rules, within), (search (rules, within), (search (rules, within), (record { owned = log.owned; leaving = λ k. log.leaving (λ a. k (of_param 3)) }, (record { owned = pages.owned; leaving = λ k. pages.leaving (λ a. k (of_param 4)) }, (record { shared = by.shared }, (record { shared = gate.shared }, (record { shared = logs.shared }, (record { shared = paged.shared }, (few, (asked.1.0, asked.1.1)))))))))))))
+
+pub run_source-requires : goal.run_source-requires
+run_source-requires g c κs within =
+    let own = c.requires.1.1.1.1.1.1.1 in
+    let log = own.0 in
+    let pages = own.1.0 in
+    let by = own.1.1.0 in
+    let gate = own.1.1.1.0 in
+    let logs = own.1.1.1.1.0 in
+    let paged = own.1.1.1.1.1.0 in
+    let asked = own.1.1.1.1.1.1 in
+    (search (rules, within), (search (rules, within), (search (rules, within), (search (rules, within), (search (rules, within), (search (rules, within), (search (rules, within), (record { owned = log.owned; leaving = λ k. log.leaving (λ a. k (of_param 5)) }, (record { owned = pages.owned; leaving = λ k. pages.leaving (λ a. k (of_param 6)) }, (record { shared = by.shared }, (record { shared = gate.shared }, (record { shared = logs.shared }, (record { shared = paged.shared }, (asked.1.0, asked.1.1))))))))))))))
 
 pub returns-in-Run-clause-ends : goal.returns-in-Run-clause-ends
 returns-in-Run-clause-ends g c =

@@ -299,7 +299,10 @@ fn check_turns(
     let report = report_past(rt, script.as_str(), RoundThreads::OneEach, &gate)?;
     let ran_out = gate.ran_out.load(Ordering::SeqCst);
     let is_well = holds(report.as_str(), texts) && is_lawful(rt.alloc(), report.as_str())?;
-    assert!(rt; is_well && !ran_out, "{name}, a session waited in vain: {ran_out}: {report}");
+    assert!(rt;
+        is_well && !ran_out,
+        "{name}, a session waited in vain: {ran_out}: {report}"
+    );
     Ok(())
 }
 

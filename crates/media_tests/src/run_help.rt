@@ -1,10 +1,5 @@
 //! Runs of the tool on a script in memory, over a media of the test's, and rows of text that they are held against.
-ghost use Rattle.std.specs.Prelude.{ℕ, IsTrue};
-ghost use Rattle.disk_core.specs.declared.media.Volumes.{Volumes as Mounted};
-ghost use Rattle.recoverable.specs.Fit.{KeptLog};
-ghost use Rattle.engine_life.specs.FirstLives.{MayBeginOver, MayMount};
-
-use disk_core::{Media, MemMedia, Which};
+use disk_core::{MemMedia, Which};
 use disk_folder::FolderMedia;
 use disk_fuse::Fuse;
 use engine_parts::OpenGate;
@@ -19,76 +14,93 @@ use std::thread::Threads;
 use std::{fs, io};
 use tx_io::{MemSink, MemSource};
 
-/// The tool over a media, without its contract, so that a test proves no more than that it is safe.
-fn status_over<M: Media>(
+/// The tool over a new media in memory, without its contract, so that a test proves no more than that it is safe.
+fn status_new(
     rt: &(impl AllocGlobal + Threads + Wait + Sync),
     words: &[String],
     source: &mut MemSource,
     sink: &mut MemSink,
-    media: &mut M,
     threads: RoundThreads,
-) -> u8
-where
-    M::Log: Sync,
-    M::Pages: Sync,
-    ghost kept: { KeptLog }
-    requires idle { IsTrue (M.is_idle media.old) }
-    requires may { (banks : ℕ) (volumes : Mounted M.Log M.Pages)
-        → MayMount (M.is_new media.old) (M.begins media.old) (M.gives media.old) banks volumes
-        → MayBeginOver M.Log.LogDisk M.Pages.PageDisk kept volumes }
-{
+) -> u8 {
+    let alloc = rt.alloc();
+    let mut media = MemMedia::new(alloc);
     run_tool(
-        rt,
-        rt.alloc(),
-        words,
-        source,
-        sink,
-        media,
-        threads,
-        &OpenGate,
+        rt, alloc, words, source, sink, &mut media, threads, &OpenGate,
     )
 }
 
-/// Runs the tool with these words on a script over a media, the sessions of a round on at most so many threads. Answers
-/// the status and what was written.
-pub fn run_over<M: Media>(
+/// The same over a new media of which this volume passes so many calls.
+fn status_fused(
     rt: &(impl AllocGlobal + Threads + Wait + Sync),
-    words: &str,
-    script: &str,
-    media: &mut M,
-    threads: usize,
-) -> Result<(u8, String), Fail>
-where
-    M::Log: Sync,
-    M::Pages: Sync,
-    ghost kept: { KeptLog }
-    requires idle { IsTrue (M.is_idle media.old) }
-    requires may { (banks : ℕ) (volumes : Mounted M.Log M.Pages)
-        → MayMount (M.is_new media.old) (M.begins media.old) (M.gives media.old) banks volumes
-        → MayBeginOver M.Log.LogDisk M.Pages.PageDisk kept volumes }
-{
+    words: &[String],
+    source: &mut MemSource,
+    sink: &mut MemSink,
+    at: Which,
+    passes: u64,
+    threads: RoundThreads,
+) -> u8 {
     let alloc = rt.alloc();
-    let mut source = MemSource::new(Vec::from_slice(alloc, script.as_bytes())?, Vec::new(alloc));
-    let mut sink = MemSink::new(alloc, 4_000_000, Vec::new(alloc))?;
+    let inner = MemMedia::new(alloc);
+    let mut media = Fuse::new(alloc, inner, at, passes);
+    run_tool(
+        rt, alloc, words, source, sink, &mut media, threads, &OpenGate,
+    )
+}
+
+/// The same over a folder, by a media of its own.
+fn status_in(
+    rt: &(impl AllocGlobal + Threads + Wait + Sync),
+    files: HostRuntime,
+    folder: String,
+    words: &[String],
+    source: &mut MemSource,
+    sink: &mut MemSink,
+    threads: RoundThreads,
+) -> u8 {
+    let alloc = rt.alloc();
+    let mut media = FolderMedia::new(files, alloc, folder);
+    run_tool(
+        rt, alloc, words, source, sink, &mut media, threads, &OpenGate,
+    )
+}
+
+fn words_of(alloc: Global, words: &str) -> Result<Vec<String>, Fail> {
     let mut all = Vec::new(alloc);
     for word in words.split_whitespace() {
         all.push(String::from_str(alloc, word)?)?;
     }
-    let threads = RoundThreads::AtMost(threads);
-    let status = status_over(rt, all.as_slice(), &mut source, &mut sink, media, threads);
-    let held = Vec::from_slice(alloc, sink.held())?;
-    let written = String::from_utf8(held).ok().ok_or("no text was written")?;
-    Ok((status, written))
+    Ok(all)
 }
 
-/// Runs a script over a new media in memory.
+fn source_of(alloc: Global, script: &str) -> Result<MemSource, Fail> {
+    let bytes = Vec::from_slice(alloc, script.as_bytes())?;
+    Ok(MemSource::new(bytes, Vec::new(alloc)))
+}
+
+fn new_sink(alloc: Global) -> Result<MemSink, Fail> {
+    Ok(MemSink::new(alloc, 4_000_000, Vec::new(alloc))?)
+}
+
+/// What was written, as text.
+fn written_to(alloc: Global, sink: &MemSink) -> Result<String, Fail> {
+    let held = Vec::from_slice(alloc, sink.held())?;
+    Ok(String::from_utf8(held).ok().ok_or("no text was written")?)
+}
+
+/// Runs a script over a new media in memory, the sessions of a round on at most so many threads. Answers the status and
+/// what was written.
 pub fn run_new(
     rt: &(impl AllocGlobal + Threads + Wait + Sync),
     script: &str,
     threads: usize,
 ) -> Result<(u8, String), Fail> {
-    let mut media = MemMedia::new(rt.alloc());
-    run_over(rt, "run", script, &mut media, threads)
+    let alloc = rt.alloc();
+    let words = words_of(alloc, "run")?;
+    let mut source = source_of(alloc, script)?;
+    let mut sink = new_sink(alloc)?;
+    let threads = RoundThreads::AtMost(threads);
+    let status = status_new(rt, words.as_slice(), &mut source, &mut sink, threads);
+    Ok((status, written_to(alloc, &sink)?))
 }
 
 /// Runs the tool with these words over a media of which this volume passes so many calls.
@@ -101,8 +113,13 @@ pub fn run_fused(
     threads: usize,
 ) -> Result<(u8, String), Fail> {
     let alloc = rt.alloc();
-    let mut media = Fuse::new(alloc, MemMedia::new(alloc), at, passes);
-    run_over(rt, words, script, &mut media, threads)
+    let words = words_of(alloc, words)?;
+    let mut source = source_of(alloc, script)?;
+    let mut sink = new_sink(alloc)?;
+    let threads = RoundThreads::AtMost(threads);
+    let words = words.as_slice();
+    let status = status_fused(rt, words, &mut source, &mut sink, at, passes, threads);
+    Ok((status, written_to(alloc, &sink)?))
 }
 
 /// Runs a script over a folder, by a media of its own.
@@ -112,9 +129,15 @@ pub fn run_in(
     folder: &str,
     script: &str,
 ) -> Result<(u8, String), Fail> {
-    let alloc: Global = rt.alloc();
-    let mut media = FolderMedia::new(files, alloc, String::from_str(alloc, folder)?);
-    run_over(rt, "run", script, &mut media, 2)
+    let alloc = rt.alloc();
+    let words = words_of(alloc, "run")?;
+    let mut source = source_of(alloc, script)?;
+    let mut sink = new_sink(alloc)?;
+    let threads = RoundThreads::AtMost(2);
+    let folder = String::from_str(alloc, folder)?;
+    let words = words.as_slice();
+    let status = status_in(rt, files, folder, words, &mut source, &mut sink, threads);
+    Ok((status, written_to(alloc, &sink)?))
 }
 
 /// Takes away a folder that an earlier run of a test left.

@@ -18,19 +18,7 @@ use Rattle.wal_core.specs.Log.{history_on}
 use Rattle.wal_core.specs.Opening.{opened}
 use Rattle.recoverable.specs.Fit.{KeptLog}
 use Rattle.engine_life.specs.FirstLives.{MayBeginOver, MayMount}
-
--- a log of which nothing is known
-pub no_log : KeptLog
-no_log = record {
-  base = record {
-    counters = record { next = 0; oldest = 0; multi = 0; offset = 0; oldest_multi = 0; oldest_offset = 0 };
-    committed = [];
-    recorded = [];
-  };
-  first = 0;
-  recs = [];
-  flushed = 0;
-}
+pub use Rattle.session_run.specs.Unknown.{no_log}
 
 -- nothing was written on the log
 pub none_on_empty : (v : Volume) → v ≡ record { start = 0; bytes = [] } → history_on v ≡ None

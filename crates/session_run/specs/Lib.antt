@@ -14,3 +14,4 @@ pub mod Stops
 pub mod Going
 pub mod Tool
 pub mod Again
+pub mod Unknown

@@ -15,4 +15,4 @@ mod stop;
 mod text;
 mod tool;
 
-pub use tool::{run_tool, say_out_of_memory};
+pub use tool::{run_tool, run_tool_behind, say_out_of_memory};

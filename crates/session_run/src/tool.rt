@@ -14,6 +14,7 @@ ghost use Rattle.script_gen.specs.Words.{IsGen};
 ghost use Rattle.script_gen.specs.declared.task.Task.TheVariants as tasks;
 ghost use Rattle.session_run.specs.Leaves.{LeavesVolumes};
 ghost use Rattle.session_run.specs.Starts.{BeginsOver};
+ghost use Rattle.session_run.specs.Unknown.{no_log};
 ghost use Rattle.session_run.specs.Tool.{Ends, HasMounted, HasWritten, HoldsFront, IsAccepted, IsMemoryLast, IsSized, IsUnread, IsUnrunBy, IsWholeSummary, WritesLast, damage_text, status_of, text_of};
 
 use crate::ending::{Ending, stopped, unopened, unread};
@@ -183,21 +184,9 @@ pub fn say_out_of_memory<K: Sink>(sink: &mut K) -> u8
     finish(sink, b"memory\n", 6)
 }
 
-/// Runs the tool over the words of its command line, and answers its status: 0 done, 1 the source's bytes are no
-/// script, or have a line that the run doesn't do yet, and the line `script LINE KIND` is written, 2 the words are
-/// refused, 3 the source failed, 4 the sink failed, 5 the media or a volume failed before a life began, or at a crash,
-/// 6 out of memory, 7 the log is damaged, and the line `damaged AT` is written, 9 the log has no room for a life's first
-/// checkpoint. Before the last line of 5, 6, 7 and 9 the text of the lives before may stand.
-///
-/// A log that has records is gone on from: it is recovered, and the first life begins behind the last of them. Where pages
-/// tell what they hold, the volumes then fit a log, which contracts alone see (`kept`).
-///
-/// The words are `run`, or `gen SEED SIZE`, SEED being 1 to 10 decimal digits, from 1 to 2147483646, and SIZE as many,
-/// from 1 to 100,000. `run` reads at most 16,777,217 bytes of the source; for other words none is read.
-///
-/// Each session of a round passes the gate before each critical section of a command, and may be held there. Where a gate
-/// waits for another session of the round, each needs a thread of its own. What is promised holds for every gate.
-pub fn run_tool<R: Threads + Wait + Sync, S: Source, K: Sink, M: Media, G: Gate + Sync>(
+/// As `run_tool`, over a media whose volumes fit a log that is known (`kept`, which contracts alone see), as those do that
+/// a run left: a log that has records is recovered, and the first life begins behind the last of them.
+pub fn run_tool_behind<R: Threads + Wait + Sync, S: Source, K: Sink, M: Media, G: Gate + Sync>(
     rt: &R,
     alloc: Global,
     words: &[String],
@@ -285,4 +274,101 @@ where
         }
         None => finish(sink, b"words\n", 2),
     }
+}
+
+/// Runs the tool over the words of its command line, and answers its status: 0 done, 1 the source's bytes are no
+/// script, or have a line that the run doesn't do yet, and the line `script LINE KIND` is written, 2 the words are
+/// refused, 3 the source failed, 4 the sink failed, 5 the media or a volume failed before a life began, or at a crash,
+/// 6 out of memory, 7 the log is damaged, and the line `damaged AT` is written, 9 the log has no room for a life's first
+/// checkpoint. Before the last line of 5, 6, 7 and 9 the text of the lives before may stand.
+///
+/// A log that has records is gone on from: it is recovered, and the first life begins behind the last of them. Of no media
+/// whose pages tell what they hold is a log known here (`no_log`); of one that a run left `run_tool_behind` knows it.
+///
+/// The words are `run`, or `gen SEED SIZE`, SEED being 1 to 10 decimal digits, from 1 to 2147483646, and SIZE as many,
+/// from 1 to 100,000. `run` reads at most 16,777,217 bytes of the source; for other words none is read.
+///
+/// Each session of a round passes the gate before each critical section of a command, and may be held there. Where a gate
+/// waits for another session of the round, each needs a thread of its own. What is promised holds for every gate.
+pub fn run_tool<R: Threads + Wait + Sync, S: Source, K: Sink, M: Media, G: Gate + Sync>(
+    rt: &R,
+    alloc: Global,
+    words: &[String],
+    source: &mut S,
+    sink: &mut K,
+    media: &mut M,
+    threads: RoundThreads,
+    gate: &G,
+) -> u8
+where
+    M::Log: Sync,
+    M::Pages: Sync,
+    requires idle { IsTrue (M.is_idle media.old) }
+    requires may { (banks : ℕ) (volumes : Mounted M.Log M.Pages)
+        → MayMount (M.is_new media.old) (M.begins media.old) (M.gives media.old) banks volumes
+        → MayBeginOver M.Log.LogDisk M.Pages.PageDisk no_log volumes }
+
+    // The main guarantee, for `run`: the bytes written report one legal history, each command once and in order, and
+    // each reply lawful. The media holds a log with the records that the report tells, and no session's commands are told
+    // of more faults of a volume than it has counted.
+    ensures done { result ≡ 0 → IsRun (map string_bytes words.now)
+        → (run : IsWholeRun M.Pages.tells (S.left source.old) (S.left source.new) (K.held sink.old) (K.held sink.new))
+        × LeavesVolumes M.Log.LogDisk M.Pages.PageDisk
+        (BeginsOver M.Log.LogDisk M.Pages.PageDisk (MayMount (M.is_new media.old) (M.begins media.old) (M.gives media.old)) no_log
+        run.answer.script run.answer.banks run.answer.start) M.falls (M.gives media.new) run.answer.report.lives }
+
+    // And for `gen`: the line written has the counts of such a report of the generated script.
+    ensures counted { result ≡ 0 → (IsRun (map string_bytes words.now) → ⊥) → (seed size : ℕ)
+        × IsGen (map string_bytes words.now) seed size
+        × (sum : IsWholeSummary M.Pages.tells seed size (K.held sink.old) (K.held sink.new))
+        × LeavesVolumes M.Log.LogDisk M.Pages.PageDisk
+        (BeginsOver M.Log.LogDisk M.Pages.PageDisk (MayMount (M.is_new media.old) (M.begins media.old) (M.gives media.old)) no_log
+        (generated seed size) sum.counts.banks sum.counts.start) M.falls (M.gives media.new) sum.counts.report.lives }
+
+    // Why it ends otherwise.
+    ensures script { result ≡ 1 → IsRun (map string_bytes words.now)
+        × IsRefused (S.left source.old) (S.left source.new) (K.held sink.old) (K.held sink.new) }
+    ensures words { result ≡ 2 → IsAccepted (map string_bytes words.now) → ⊥ }
+    ensures words_only { (IsAccepted (map string_bytes words.now) → ⊥) → (result ≡ 2) ⊎ (result ≡ 4) }
+    ensures read { result ≡ 3 → IsRun (map string_bytes words.now) × Rose (S.faults source.old) (S.faults source.new) }
+    ensures write { result ≡ 4 → Rose (K.faults sink.old) (K.faults sink.new) }
+    ensures front { result ≡ 4 → HoldsFront M.Log.LogDisk M.Pages.PageDisk (map string_bytes words.now)
+        (S.left source.old) (S.left source.new) (S.faults source.old) (S.faults source.new)
+        (MayMount (M.is_new media.old) (M.begins media.old) (M.gives media.old)) no_log (M.is_new media.old ≡ false) M.falls
+        (M.faults media.old) (M.faults media.new) (M.gives media.new)
+        (K.held sink.old) (K.held sink.new) }
+    ensures device { result ≡ 5 → IsUnrunBy M.Log.LogDisk M.Pages.PageDisk (map string_bytes words.now)
+        (S.left source.old) (S.left source.new)
+        (MayMount (M.is_new media.old) (M.begins media.old) (M.gives media.old)) no_log (M.is_new media.old ≡ false) M.falls
+        (M.faults media.old) (M.faults media.new) (M.gives media.new) (K.held sink.old) (K.held sink.new)
+        no_lives.Device (codes "device" ++ 10 ∷ []) }
+    ensures memory { result ≡ 6 → IsMemoryLast M.Log.LogDisk M.Pages.PageDisk (map string_bytes words.now)
+        (S.left source.old) (S.left source.new)
+        (MayMount (M.is_new media.old) (M.begins media.old) (M.gives media.old)) no_log (M.is_new media.old ≡ false) M.falls
+        (M.faults media.old) (M.faults media.new) (M.gives media.new) (K.held sink.old) (K.held sink.new) }
+    ensures damaged { result ≡ 7 → (at : ℕ)
+        × IsUnrunBy M.Log.LogDisk M.Pages.PageDisk (map string_bytes words.now) (S.left source.old) (S.left source.new)
+        (MayMount (M.is_new media.old) (M.begins media.old) (M.gives media.old)) no_log (M.is_new media.old ≡ false) M.falls
+        (M.faults media.old) (M.faults media.new) (M.gives media.new)
+        (K.held sink.old) (K.held sink.new) (no_lives.Damaged at) (damage_text at) }
+    ensures full { result ≡ 9 → IsUnrunBy M.Log.LogDisk M.Pages.PageDisk (map string_bytes words.now)
+        (S.left source.old) (S.left source.new)
+        (MayMount (M.is_new media.old) (M.begins media.old) (M.gives media.old)) no_log (M.is_new media.old ≡ false) M.falls
+        (M.faults media.old) (M.faults media.new) (M.gives media.new) (K.held sink.old) (K.held sink.new)
+        no_lives.Full (codes "log-full" ++ 10 ∷ []) }
+    ensures statuses { (result ≤ 9) × (result ≢ 8) }
+
+    // What it reads, and how it leaves the media.
+    ensures amount { ReadsUpTo most_read (S.left source.old) (S.left source.new) }
+    ensures untouched { (IsRun (map string_bytes words.now) → ⊥) → source.new ≡ source.old }
+    ensures unused { (IsAccepted (map string_bytes words.now) → ⊥) → media.new ≡ media.old }
+    ensures unmounted { (result ≡ 1) ⊎ (result ≡ 3) → media.new ≡ media.old }
+    ensures rested { IsTrue (M.is_idle media.new) }
+    ensures used { (result ≡ 0) ⊎ ((result ≡ 7) ⊎ (result ≡ 9)) → M.is_new media.new ≡ false }
+
+    // And the line that it then writes, where no life ran.
+    ensures no_words { result ≡ 2 → Appends (K.held sink.old) (K.held sink.new) (codes "words" ++ 10 ∷ []) }
+    ensures read_fault { result ≡ 3 → Appends (K.held sink.old) (K.held sink.new) (codes "read-fault" ++ 10 ∷ []) }
+{
+    run_tool_behind(rt, alloc, words, source, sink, media, threads, gate)
 }

@@ -9,10 +9,12 @@ use engine_parts::OpenGate;
 use report_check::check_tool;
 use script_rounds::RoundThreads;
 use session_run::{run_tool, say_out_of_memory};
+use std::alloc::AllocGlobal;
 use std::process::ExitCode;
+use std::sync::Wait;
 use std::thread::{Threads, available_parallelism};
 use std::{env, io};
-use tx_io::{StdSink, StdSource};
+use tx_io::{Sink, Source, StdSink, StdSource};
 
 /// The sessions of a round share at most one thread for each processor.
 fn threads(rt: &impl Threads) -> RoundThreads {
@@ -48,6 +50,38 @@ fn is_check(words: &[String]) -> bool {
     }
 }
 
+/// Runs the tool over volumes in memory.
+fn run_in_memory<S: Source, K: Sink>(
+    rt: &(impl AllocGlobal + Threads + Wait + Sync),
+    words: &[String],
+    source: &mut S,
+    sink: &mut K,
+) -> u8 {
+    let alloc = rt.alloc();
+    let mut media = MemMedia::new(alloc);
+    let threads = threads(rt);
+    run_tool(
+        rt, alloc, words, source, sink, &mut media, threads, &OpenGate,
+    )
+}
+
+/// The same over volumes in this folder.
+fn run_in_folder<S: Source, K: Sink>(
+    rt: &(impl AllocGlobal + Threads + Wait + Sync),
+    files: HostRuntime,
+    folder: String,
+    words: &[String],
+    source: &mut S,
+    sink: &mut K,
+) -> u8 {
+    let alloc = rt.alloc();
+    let mut media = FolderMedia::new(files, alloc, folder);
+    let threads = threads(rt);
+    run_tool(
+        rt, alloc, words, source, sink, &mut media, threads, &OpenGate,
+    )
+}
+
 fn main(rt: HostRuntime) -> ExitCode {
     let mut sink = StdSink::new(rt.stdout());
     let mut words = match words(&rt) {
@@ -63,26 +97,8 @@ fn main(rt: HostRuntime) -> ExitCode {
         return ExitCode::from(check_tool(rt.alloc(), &mut source, &mut sink));
     }
     let status = match take_folder(&mut words) {
-        Some(path) => run_tool(
-            &rt,
-            rt.alloc(),
-            words.as_slice(),
-            &mut source,
-            &mut sink,
-            &mut FolderMedia::new(rt, rt.alloc(), path),
-            threads(&rt),
-            &OpenGate,
-        ),
-        None => run_tool(
-            &rt,
-            rt.alloc(),
-            words.as_slice(),
-            &mut source,
-            &mut sink,
-            &mut MemMedia::new(rt.alloc()),
-            threads(&rt),
-            &OpenGate,
-        ),
+        Some(path) => run_in_folder(&rt, rt, path, words.as_slice(), &mut source, &mut sink),
+        None => run_in_memory(&rt, words.as_slice(), &mut source, &mut sink),
     };
     ExitCode::from(status)
 }

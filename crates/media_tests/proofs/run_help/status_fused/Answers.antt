@@ -21,10 +21,10 @@ none_within inner empty at passes refused banks v begins =
     none_on_empty (written v.log.inner) (ap (λ (f : FusedLog MemLog). written f.inner) begins.2.log ∙ begins.1.log_written ∙ ap (λ (bytes : List ℕ). record { start = 0; bytes = bytes }) empty)
 
 pub run_tool-requires-clause-idle : goal.run_tool-requires-clause-idle
-run_tool-requires-clause-idle g c = subst (λ (b : Bool). IsTrue (not b)) (sym c.new-media.ensures.idle) refl
+run_tool-requires-clause-idle g c κs within = subst (λ (b : Bool). IsTrue (not b)) (sym c.new-media.ensures.idle) refl
 
 pub run_tool-requires-clause-may : goal.run_tool-requires-clause-may
-run_tool-requires-clause-may g c = λ banks v mounted.
+run_tool-requires-clause-may g c κs within = λ banks v mounted.
     let m = c.new-media.result in
     let made = c.new-media.ensures in
     let inner = c.new-inner.ensures in

@@ -5,6 +5,6 @@ use Rattle.session_run.proofs.Handed.{silent_may_begin}
 use Rattle.media_tests.proofs.run_help.status_in.Goals as goal
 
 pub run_tool-requires-clause-may : goal.run_tool-requires-clause-may
-run_tool-requires-clause-may g c = λ banks v mounted.
+run_tool-requires-clause-may g c κs within = λ banks v mounted.
     let f = subst (λ o. given_by o v) c.new-media.ensures.first (mounted.again refl) in
     silent_may_begin _ _ no_log f.0 v f.1.has refl

@@ -173,6 +173,48 @@ log flushed 1 end 62
 0 checkpoint next 3 oldest 3 multi 1 offset 1 oldest-multi 1 oldest-offset 1
 1 commit 3
 end
+=== a_multixact_is_pending_while_the_log_is_down
+# The first command takes a number and can't append the record; the second goes on with it, and no second number is
+# taken. Its offset doesn't stand, and a commit is pending.
+a begin
+a write
+a commit
+a commit
+a abort
+.round
+b multi 3:sh
+b multi 3:sh
+.round
+c snap s
+c seemulti s 1
+.checkpoint
+--- log 0 8 11 0 report -
+txid report 1
+life 1 from 0 next 3 oldest 3 multi 1 offset 1 oldest-multi 1 oldest-offset 1
+round 1
+a 1 begin -> ok
+a 2 write -> ok 3
+a 3 commit -> log-fault
+a 4 commit -> log-down 1
+a 5 abort -> commit-pending
+round 2
+b 1 multi 3:sh -> log-down 1
+b 2 multi 3:sh -> log-down 1
+round 3
+c 1 snap s -> ok xmin 3 xmax 3 xip - sub - overflow no
+c 2 seemulti s 1 -> not-yet 1
+checkpoint -> commit-pending a
+history
+id a 2 3
+snap c 1 s
+multis
+gen b 1 1 1 3:sh
+hold c 2 1
+unhold c 2 1
+log flushed 1 end 62
+0 checkpoint next 3 oldest 3 multi 1 offset 1 oldest-multi 1 oldest-offset 1
+1 commit 3
+end
 === a_dump_over_a_log_that_fails
 # A dump that met a fault doesn't put the log down: the commit behind it is told of a fault, and not that the
 # log is down.

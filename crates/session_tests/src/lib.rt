@@ -33,3 +33,5 @@ mod status_tests;
 mod stream_tests;
 #[cfg(test)]
 mod test_help;
+#[cfg(test)]
+mod turn_tests;

@@ -81,7 +81,7 @@ pub fn is_lawful(alloc: Global, report: &str) -> Result<bool, Fail> {
 }
 
 /// The script of a row behind these lines, with a line `N times LINE` written out.
-fn written_out(alloc: Global, front: &str, script: &str) -> Result<String, Fail> {
+pub fn written_out(alloc: Global, front: &str, script: &str) -> Result<String, Fail> {
     let mut text = String::from_str(alloc, front)?;
     for line in script.split_inclusive("\n") {
         let Some((count, line)) = line.split_once(" times ") else {
@@ -103,7 +103,7 @@ fn has_lines(text: &str, lines: &str) -> bool {
 }
 
 /// Whether the report is what the row's texts say, or has it.
-fn holds(report: &str, texts: &str) -> bool {
+pub fn holds(report: &str, texts: &str) -> bool {
     for part in texts.split("--- ") {
         let Some((kind, text)) = part.split_once("\n") else {
             return false;

@@ -1,5 +1,5 @@
 //! Single calls of a session, and several one after another.
-ghost use Rattle.std.specs.Prelude.{cond};
+ghost use Rattle.std.specs.Prelude.{◌+◌, ◌≤◌, cond};
 ghost use Rattle.engine_parts.specs.Calls.{MayRun};
 ghost use Rattle.engine_bench.specs.Going.{GoesOn};
 
@@ -57,6 +57,16 @@ pub fn run<R: Passing, L: LogDisk, P: PageDisk>(
     }
 }
 
+fn one_more(done: u64, is_done: bool) -> u64
+    ensures { result ≤ done + cond is_done 1 0 }
+{
+    if is_done {
+        done.saturating_add(1)
+    } else {
+        done
+    }
+}
+
 /// Runs calls of a session, so often one after another. Answers how many of them were done.
 pub fn run_all<R: Passing, L: LogDisk, P: PageDisk>(
     rt: &R,
@@ -74,9 +84,7 @@ pub fn run_all<R: Passing, L: LogDisk, P: PageDisk>(
     let mut done = 0u64;
     for _ in 0..times {
         for call in calls {
-            if run(rt, hall, caller, banks, alloc, name, *call) {
-                done = done.saturating_add(1);
-            }
+            done = one_more(done, run(rt, hall, caller, banks, alloc, name, *call));
         }
     }
     done

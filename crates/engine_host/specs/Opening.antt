@@ -64,7 +64,7 @@ abbrev pub life_of : Cluster → List ℕ → Start
 life_of c faults = life_from c nothing_before faults
 
 -- a log without a record
-pub record IsNewLog {D : Type 0} {g : logs.Ghosts D} (log : WalLog D g) : Type 0 where
+pub record IsEmptyLog {D : Type 0} {g : logs.Ghosts D} (log : WalLog D g) : Type 0 where
   pub recs : log_recs log ≡ []
   pub next : log_next log ≡ 0
   pub first : log_first log ≡ 0

@@ -4,7 +4,7 @@ ghost use Rattle.tx_events.specs.Base.{IsBase};
 ghost use Rattle.tx_events.specs.declared.record.Rec.TheVariants as records;
 ghost use Rattle.wal_core.specs.LogViews.{log_disk};
 ghost use Rattle.wal_records.specs.Spelling.{AreCounters};
-ghost use Rattle.engine_host.specs.Opening.{HasFirst, IsBegunLog, IsNewLog, nothing_before};
+ghost use Rattle.engine_host.specs.Opening.{HasFirst, IsBegunLog, IsEmptyLog, nothing_before};
 ghost use Rattle.engine_host.specs.Refused.{IsBeginRefusal};
 
 use crate::cluster::Cluster;
@@ -30,7 +30,7 @@ pub(crate) fn begin_log<L: LogDisk>(
     log: &mut WalLog<L>,
     cluster: &Cluster,
 ) -> Result<(), OpenRefusal>
-    requires new { IsNewLog log.old }
+    requires new { IsEmptyLog log.old }
     requires base { IsBase cluster.now.base }
     ensures begun { OnOk result (IsBegunLog cluster.now nothing_before log.new) }
     ensures count { L.faults (log_disk log.old) ≤ L.faults (log_disk log.new) }

@@ -2,7 +2,7 @@
 ghost use Rattle.std.specs.Prelude.{◌≡◌, IfErr, IfOk};
 ghost use Rattle.wal_core.specs.LogViews.{log_disk};
 ghost use Rattle.engine_host.specs.Counted.{AreCounted};
-ghost use Rattle.engine_host.specs.Opening.{AreParts, IsCluster, IsNewLog, new_life, nothing_before};
+ghost use Rattle.engine_host.specs.Opening.{AreParts, IsCluster, IsEmptyLog, new_life, nothing_before};
 ghost use Rattle.engine_host.specs.Refused.{IsRefusal};
 ghost use Rattle.engine_host.specs.Stores.{HaveEach};
 
@@ -30,7 +30,7 @@ pub fn open_new<L: LogDisk + Drop, P: PageDisk + Drop>(
 ) -> Result<Parts<L, P>, (Volumes<L, P>, OpenRefusal)>
     requires cluster { IsCluster cluster }
     requires volumes { HaveEach cluster.banks volumes }
-    requires new { IsNewLog log }
+    requires new { IsEmptyLog log }
     ensures cluster { IfOk result (λ parts. parts.cluster ≡ cluster) }
     ensures parts { IfOk result (λ parts. AreParts parts) }
     ensures start { IfOk result (λ parts. parts.start.value ≡ new_life cluster nothing_before parts.locks.items) }

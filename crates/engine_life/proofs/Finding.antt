@@ -36,7 +36,7 @@ use Rattle.engine_life.specs.Reopening.{LeavesLog, OpensUpTo, volumes_over}
 use Rattle.engine_life.proofs.Reopened.{as_read, left_as_read}
 
 -- it is a new one to the engine
-pub new_log : {D : Type 0} {g : logs.Ghosts D} (disk : D) (log : WalLog D g) → IsFoundNew disk log → engines.IsNewLog log
+pub new_log : {D : Type 0} {g : logs.Ghosts D} (disk : D) (log : WalLog D g) → IsFoundNew disk log → engines.IsEmptyLog log
 new_log disk log found = record {
   recs = found.recs;
   next = found.next;

@@ -32,8 +32,8 @@ module _ {L P : Type 0} (l : logs.Ghosts L) (p : disks.Ghosts P) where
   WhenRefused kept old new no_lives.Memory = Unit {0}
   WhenRefused kept old new refusal = LeavesLog l p old new kept
 
-  -- So of a media, which gave these volumes and gives those, if those that were mounted fitted the log. Where none were
-  -- it gives what it gave.
+  -- So of a media, which gave these volumes and gives those: it gives what it gave, or what became of volumes that were
+  -- mounted, if these fitted the log.
   abbrev pub StayFit : KeptLog → (Volumes L P → Type 0) → (Volumes L P → Type 0) → NoLife → Type 0
   StayFit kept gave gives refusal = (new : Volumes L P) → gives new
       → gave new ⊎ ((old : Volumes L P) × gave old × (FitsLog l p kept old → WhenRefused kept old new refusal))

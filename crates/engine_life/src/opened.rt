@@ -110,8 +110,9 @@ fn with_banks(cluster: &Cluster, banks: usize) -> Cluster
 /// Where pages tell what they hold and the log has records, the volumes fit a log, which contracts alone see: from its base
 /// at a number, from the flushed one to its end, the life goes on, so what was committed below that number is committed.
 ///
-/// After an error the media holds its volumes again: pages may be removed then, and a checkpoint written. If they fitted
-/// the log they do still, or fit what a later recovery may go on from; where memory was wanting nothing is said of that.
+/// After an error the media holds its volumes again: pages may be removed then, and a checkpoint written. Those of a media
+/// that was used before, if they fitted the log, do still, or fit what a later recovery may go on from; where memory was
+/// wanting nothing is said of that.
 pub fn open_life<M: Media>(
     alloc: Global,
     media: &mut M,

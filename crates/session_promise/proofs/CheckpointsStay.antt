@@ -7,7 +7,6 @@ use Rattle.std.proofs.lemmas.List.Sums.{sum_by-append, sum_by-cons}
 use Rattle.std.proofs.lemmas.Option.{slice_get_within}
 use Rattle.notes.specs.Lists.{Grows, at, own}
 use Rattle.notes.proofs.Growing.{begins_same}
-use Rattle.tx_events.specs.declared.event.By.{By}
 use Rattle.tx_events.specs.declared.event.Event.{Event}
 use Rattle.tx_events.specs.declared.multi.MultiEvent.{MultiEvent}
 use Rattle.life_law.specs.MultiStanding as making
@@ -26,14 +25,14 @@ use Rattle.tx_model.specs.declared.reply.Reply.TheVariants as replies
 use Rattle.tx_model.specs.declared.report.Step.{Step}
 use Rattle.tx_model.specs.declared.report.Step.TheVariants as steps
 use Rattle.tx_model.specs.Rounds.{is_round}
-use Rattle.life_law.specs.Checkpoints.{checkpoint_in, checkpoints_in}
+use Rattle.life_law.specs.Checkpoints.{checkpoints_in}
 use Rattle.life_law.specs.Facts.{is_checkpoint_fault, is_log_fault}
 use Rattle.life_law.specs.LifeLog.{counters_behind}
 use Rattle.life_law.specs.Pending.{pending}
 use Rattle.tx_core.specs.declared.entry.Entry.{Entry}
 use Rattle.tx_core.specs.declared.entry.Kind.TheVariants as kinds
 use Rattle.tx_core.specs.declared.entry.Start.{Start}
-use Rattle.tx_core.specs.Entries.{appended, history, records_in, recs_in, session_of}
+use Rattle.tx_core.specs.Entries.{history, recs_in, session_of}
 use Rattle.tx_core.specs.Locks.{log_lock}
 use Rattle.tx_core.proofs.Growing.{contains_begins}
 use Rattle.tx_core.proofs.Lasting.{history_grows}
@@ -219,6 +218,7 @@ so_far_checkpoint tells start before after sessions rounds reply so_far went = r
       through_idle tells start before after n (told_by n rounds) s went.kept (went.idle n low) (so_far.each n s e);
   places = subst (λ (h : List Event). Follow in_events 0 rounds (length h)) (sym went.same_history) so_far.places;
   multi_places = subst (λ (h : List MultiEvent). Follow in_multis 0 rounds (length h)) (sym went.same_multis) so_far.multi_places;
+  made = so_far.made;
   lines = so_far.lines;
 }
 

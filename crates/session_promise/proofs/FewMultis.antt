@@ -1,5 +1,5 @@
 -- A life gives no more multixacts than its commands asked for.
-use Rattle.std.proofs.Common.{List, None, Option, Some, [], ap, arith, cond, length, refl, subst, sym, ℕ, ⊎_elim, ◌+◌, ◌<◌, ◌==◌, ◌≡◌, ◌≤◌, ◌∷◌}
+use Rattle.std.proofs.Common.{List, None, Option, Some, [], arith, cond, length, refl, subst, sym, ℕ, ⊎_elim, ◌+◌, ◌<◌, ◌==◌, ◌≡◌, ◌≤◌, ◌∷◌}
 use Rattle.std.specs.List.{cons_option, count_by, filter, sum_by}
 use Rattle.std.proofs.lemmas.List.Sums.{sum_by-cons}
 use Rattle.notes.specs.Lists.{at}

@@ -1,8 +1,7 @@
 -- Behind its next command a session promises of one line more.
-use Rattle.std.proofs.Common.{Bool, true, Contains, IsTrue, List, [], drop, eqb-true, nat_lt, ap, append-nil, append_assoc, arith, cond, eq-eqb, get_or, inl, inr, length, refl, subst, sym, ℕ, ⊎_elim, ◌+◌, ◌++◌, ◌<◌, ◌==◌, ◌||◌, ◌≡◌, ◌≤◌, ◌∙◌, ◌∷◌, ◌⊎◌}
+use Rattle.std.proofs.Common.{Bool, Contains, IsTrue, List, [], eqb-true, nat_lt, ap, append-nil, append_assoc, arith, cond, eq-eqb, get_or, inl, inr, length, refl, subst, sym, ℕ, ⊎_elim, ◌+◌, ◌++◌, ◌<◌, ◌==◌, ◌||◌, ◌≡◌, ◌≤◌, ◌∙◌, ◌∷◌, ◌⊎◌}
 use Rattle.std.specs.List.{AllByRecursion, count_by, filter, slice_get}
 use Rattle.std.proofs.Math.Bool.{or-true}
-use Rattle.std.proofs.lemmas.Bool.{false≢true}
 use Rattle.std.proofs.lemmas.List.{append_cancel_left, length-append, length-map, map-append}
 use Rattle.std.proofs.lemmas.List.Elements.{Contains-append_left, Contains-push, filter-append, filter_map-append}
 use Rattle.std.proofs.lemmas.List.Sums.{sum_by-append}
@@ -14,8 +13,6 @@ use Rattle.tx_events.specs.declared.event.Event.{Event}
 use Rattle.tx_events.specs.declared.multi.MultiEvent.{MultiEvent}
 use Rattle.tx_events.specs.declared.multi.MultiEvent.TheVariants as multi_events
 use Rattle.tx_events.specs.Multis.{made, made_by, multi_by}
-use Rattle.tx_events.specs.declared.record.Rec.{Rec}
-use Rattle.tx_events.specs.declared.record.Rec.TheVariants as records
 use Rattle.tx_events.specs.Running.{open_ids}
 use Rattle.tx_events.specs.Events.{by_of, events_of, given, given_by, given_to, is_of, same_by}
 use Rattle.tx_events.proofs.ListSteps.{all_weaker, below_not, filter_all, filter_in_turn, filter_none, le_or_over, list_any-push}
@@ -23,16 +20,13 @@ use Rattle.tx_events.proofs.Membership.{Has, all_at, all_from, contains_has, fil
 use Rattle.tx_events.proofs.OwnEvents.{same_by_refl}
 use Rattle.tx_events.proofs.PlaceLemmas.{each_place_push, slice_get-grows}
 use Rattle.tx_model.specs.declared.command.Command.{Command}
-use Rattle.tx_model.specs.declared.command.Command.TheVariants as commands
 use Rattle.tx_model.specs.declared.reply.Reply.{Reply}
-use Rattle.tx_model.specs.declared.reply.Reply.TheVariants as replies
 use Rattle.tx_model.specs.declared.report.Line.{Line}
 use Rattle.tx_model.specs.CommandEvents.{HasEvents}
 use Rattle.tx_model.specs.Lines.{has_line, stance}
 use Rattle.tx_model.specs.Replies.{alone}
 use Rattle.tx_model.specs.Stance.{Stance, after, lacking}
 use Rattle.tx_model.proofs.LineGrowth.{stance_push}
-use Rattle.life_law.specs.LawfulMultis.{is_ok_trim}
 use Rattle.life_law.specs.MultiLines.{HasMultiEvents}
 use Rattle.life_law.specs.MultiPlaces.{has_multi_line, multis_of}
 use Rattle.life_law.specs.MultiStanding.{Unfinished, unfinished, unfinished_behind}
@@ -52,17 +46,15 @@ use Rattle.tx_core.proofs.Asking.{has_all}
 use Rattle.tx_core.proofs.Rising.{multis_grow}
 use Rattle.tx_core.proofs.Lasting.{history_grows}
 use Rattle.engine_parts.specs.declared.session.Session.{Session}
-use Rattle.engine_parts.specs.declared.session.Stage.{Stage}
-use Rattle.engine_parts.specs.Adding.{AddsTo, IsAbortOf, IsCommitOf, IsOfMulti, IsRecordBy, IsTruncation, MayLeave}
-use Rattle.engine_parts.specs.Answers.{MayAnswerAny}
+use Rattle.engine_parts.specs.Adding.{AddsTo, MayLeave}
 use Rattle.engine_parts.specs.Holds.{Knowledge}
 use Rattle.engine_parts.specs.Sessions.{by_at, stance_of}
 use Rattle.engine_parts.specs.Stages.{pending_in}
 use Rattle.engine_parts.specs.Makings.{IsToldMaking, has_more_multis}
 use Rattle.session_promise.specs.Told.{IsNoLater, Place, Told, between, lines_of, place_of, told_in}
-use Rattle.session_promise.specs.Promise.{Answered, IsInRound, IsOfSession, IsRecordedIn, IsToldWell, MayAnswerIn, Promise, PromiseGoesOn, SaysLogFault, is_made_level, is_made_multi, recs_of}
+use Rattle.session_promise.specs.Promise.{Answered, IsInRound, IsMadeFor, IsRecordedIn, IsToldWell, MayAnswerIn, Promise, PromiseGoesOn, SaysLogFault, is_made_level, is_made_multi, recs_of}
 use Rattle.session_promise.specs.MultiGrowth.{IsLaterThan}
-use Rattle.session_promise.proofs.Growing.{all_lines_of, answer_stays, each_grows, IsUpTo, making_same, pending_same, stance_same}
+use Rattle.session_promise.proofs.Growing.{all_lines_of, all_places, answer_stays, each_grows, IsUpTo, making_same, pending_same, stance_same}
 use Rattle.session_promise.proofs.Known.{known_of}
 use Rattle.session_promise.proofs.PendingFollows.{IsKnownOf, by_reply}
 use Rattle.session_promise.proofs.PendingGrowth.{AreSettled}
@@ -73,50 +65,7 @@ use Rattle.session_promise.proofs.MultiStaying.{few_multis}
 use Rattle.session_promise.proofs.OwnNone.{entry_of}
 use Rattle.session_promise.proofs.Settling.{settled_of, up_to, within_all}
 use Rattle.session_promise.proofs.Widening.{AreWider, IsWithin, wider_both, wider_lines, wider_same, wider_to}
-
-all_front : {X : Type 0} (P : X → Type 0) (xs ys : List X) → AllByRecursion P (xs ++ ys) → AllByRecursion P xs
-all_front P [] ys a = tt
-all_front P (x ∷ xs) ys a = (a.0, all_front P xs ys a.1)
-
-all_back : {X : Type 0} (P : X → Type 0) (xs ys : List X) → AllByRecursion P (xs ++ ys) → AllByRecursion P ys
-all_back P [] ys a = a
-all_back P (x ∷ xs) ys a = all_back P xs ys a.1
-
--- the record that a command may append is of an end, of a multixact or of a truncation
-truncation_of : (rec : Rec) → IsTruncation rec → IsOfSession rec
-truncation_of (records.Truncate oldest multi offset) t = tt
-truncation_of rec t = absurd t
-
-multi_of_session : (rec : Rec) → IsOfMulti rec → IsOfSession rec
-multi_of_session (records.Multi multi offset members) m = tt
-multi_of_session (records.Truncate oldest multi offset) m = tt
-multi_of_session rec m = absurd m
-
-of_session : (command : Command) (s : Stance) (stage : Stage) (opened : List ℕ) (rec : Rec) → IsRecordBy command s stage opened rec → IsOfSession rec
-of_session commands.Commit s stage opened rec r = ⊎_elim (λ (c : IsCommitOf opened rec). subst IsOfSession (sym c.is) tt) (truncation_of rec) r.1
-of_session commands.Abort s stage opened rec r = ⊎_elim (λ (c : IsAbortOf opened rec). subst IsOfSession (sym c.is) tt) (truncation_of rec) r.1
-of_session (commands.Multi pairs) s stage opened rec r = multi_of_session rec r
-of_session commands.Trim s stage opened rec r = truncation_of rec r
-of_session command s stage opened rec r = absurd r
-
--- what a command was answered that ran alone
-answered_in : (tells : Bool) (start : Start) (begun lists : List (List Entry)) (by : By) (s : Stance) (stage : Stage) (command : Command) (reply : Reply)
-    → MayAnswerAny tells start begun lists by s stage command reply → MayAnswerIn tells start begun lists (between (place_of begun) (place_of lists)) by s stage command reply
-answered_in tells start begun lists by s stage (commands.Multi pairs) reply a = a
-answered_in tells start begun lists by s stage (commands.SeeMulti name m) reply a = a
-answered_in tells start begun lists by s stage (commands.MultiFreeze multi) reply a = a
-answered_in tells start begun lists by s stage commands.Trim reply a = a
-answered_in tells start begun lists by s stage command reply a = a
-
--- an `ok` trim is one
-trim_is : (by : By) (command : Command) (reply : Reply) → is_ok_trim (record { by = by; command = command; reply = reply }) ≡ true → (command ≡ commands.Trim) × (reply ≡ replies.Done)
-trim_is by commands.Trim replies.Done e = (refl, refl)
-trim_is by command reply e = absurd (false≢true e)
-
--- nothing stands behind all
-none_behind : {X : Type 0} (P : X → Type 0) (xs : List X) → AllByRecursion P (drop (length xs) xs)
-none_behind P [] = tt
-none_behind P (x ∷ xs) = none_behind P xs
+use Rattle.session_promise.proofs.OneCommand.{all_back, all_front, answered_in, none_behind, of_session, trim_is}
 
 -- the session's next command, and its line
 module _ (tells : Bool) (start : Start) (v w : Knowledge) (n : ℕ) (past : List Told) (from to : Place) (lines : List Line) (command : Command) (reply : Reply) (s s' : Session)
@@ -279,6 +228,18 @@ module _ (tells : Bool) (start : Start) (v w : Knowledge) (n : ℕ) (past : List
           let least : (multi_by e).command ≤ s.levels.commands = all_at (λ (e : MultiEvent). (multi_by e).command ≤ s.levels.commands) (filter (is_multi_of n) mv) e multi_turn (filter_has (is_multi_of n) mv e old (eq-eqb (multi_by e).session n (ap (λ (b : By). b.session) is))) in
           omega (arith, number, least)
 
+  -- the command has no multixact event before it
+  unheard_before : (e : MultiEvent) → Contains mv e → multi_by e ≡ by → ⊥
+  unheard_before e c is =
+      let own : (multi_by e).session ≡ n = ap (λ (b : By). b.session) is in
+      let number : (multi_by e).command ≡ s.levels.commands + 1 = ap (λ (b : By). b.command) is in
+      let least : (multi_by e).command ≤ s.levels.commands = all_at (λ (e : MultiEvent). (multi_by e).command ≤ s.levels.commands) (filter (is_multi_of n) mv) e multi_turn (filter_has (is_multi_of n) mv e (contains_has mv e c) (eq-eqb (multi_by e).session n own)) in
+      omega (arith, number, least)
+
+  -- and finds done what the session made before
+  made_before : AllByRecursion (λ (l : Line). IsMadeFor start v.seen n l.reply) (lines_of told)
+  made_before = all_lines_of (λ (l : Line). IsMadeFor start v.seen n l.reply) told (all_places (λ (t : Told). IsMadeFor start v.seen n t.line.reply) told (λ q t at. (p.each q t at).made))
+
   is_told : IsToldWell tells start w.seen n (lines_of told) t
   is_told = record {
     own = refl;
@@ -298,6 +259,7 @@ module _ (tells : Bool) (start : Start) (v w : Knowledge) (n : ℕ) (past : List
     standing = a.acted.standing ∙ ap (λ z. refused_by command z (pending_in s.stage)) (sym stance_before);
     members = a.members;
     begun = v.seen;
+    began = record { kept = a.might.ready.at.kept; in_round = low.grown; unheard = unheard_before; made = made_before };
     answer = subst (λ z. MayAnswerIn tells start v.seen w.seen (between from (place_of w.seen)) by z s.stage command reply) (sym stance_before)
         (answer_stays tells start v.seen w.seen w.seen (record { begins = λ q. begins_same (at w.seen q) }) (between (place_of v.seen) (place_of w.seen)) (between from (place_of w.seen)) by (stance_of s) s.stage
         (record { from = low.events; to = omega arith; within = omega arith; later = none_behind (λ e. IsLaterThan by (by_of e)) hw })

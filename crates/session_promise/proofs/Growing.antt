@@ -8,7 +8,7 @@ use Rattle.tx_events.specs.Events.{by_of, events_of}
 use Rattle.tx_events.specs.Places.{EachPlace}
 use Rattle.tx_events.proofs.ListSteps.{all_weaker}
 use Rattle.tx_events.proofs.Membership.{all_from, all_at, has_take, has_place, place_has}
-use Rattle.tx_events.proofs.OwnEvents.{AreLater, AreOthers, events_of_grows, later_are_others, not_other}
+use Rattle.tx_events.proofs.OwnEvents.{AreLater, AreOthers, events_of_grows, later_are_others}
 use Rattle.tx_events.proofs.PlaceLemmas.{slice_get-append_cases}
 use Rattle.tx_model.specs.declared.report.Line.{Line}
 use Rattle.tx_model.specs.CommandEvents.{HasEvents}
@@ -23,7 +23,7 @@ use Rattle.tx_core.proofs.Growing.{begins_filter_map, slice_get_begins}
 use Rattle.tx_core.proofs.Lasting.{history_grows, stands_grows}
 use Rattle.engine_parts.specs.Stages.{pending_in}
 use Rattle.engine_parts.proofs.Answering.{answer_grows}
-use Rattle.session_promise.specs.Told.{Place, Span, Told, lines_of, place_of}
+use Rattle.session_promise.specs.Told.{Span, Told, lines_of, place_of}
 use Rattle.session_promise.specs.MultiGrowth.{IsLaterThan, Widens}
 use Rattle.session_promise.proofs.MakingFollows.{unfinished_same}
 use Rattle.session_promise.proofs.MultiEvents.{events_grow}
@@ -50,7 +50,7 @@ use Rattle.engine_parts.specs.declared.session.Stage.{Stage}
 use Rattle.engine_parts.specs.MultiAnswers.{MayAnswerMulti}
 use Rattle.session_promise.specs.Promise.{HasTrimmed, IsInRound, IsMadeFor, IsToldWell, MayAnswerIn, recs_of}
 use Rattle.session_promise.proofs.PendingGrowth.{AreSettled, IsNotDown, pending_grows}
-use Rattle.session_promise.proofs.Widening.{AreWider, end_of, stretched, wider_at}
+use Rattle.session_promise.proofs.Widening.{AreWider, stretched, wider_at}
 
 -- what holds of the lines of all
 pub all_lines_of : (P : Line → Type 0) (told : List Told) → AllByRecursion (λ t. P t.line) told → AllByRecursion P (lines_of told)
@@ -83,7 +83,7 @@ module _ (tells : Bool) (start : Start) (begun lists more : List (List Entry)) (
   answer_stays commands.Trim reply a = multi_stays commands.Trim reply a
   answer_stays command reply a = answer_grows tells start lists more span.events wider.events by s stage command reply events.from events.to events.within g rest_later a
 
-made_stays : (start : Start) (lists more : List (List Entry)) (n : ℕ) (reply : Reply) → Grows lists more → IsMadeFor start lists n reply → IsMadeFor start more n reply
+pub made_stays : (start : Start) (lists more : List (List Entry)) (n : ℕ) (reply : Reply) → Grows lists more → IsMadeFor start lists n reply → IsMadeFor start more n reply
 made_stays start lists more n (replies.Multi multi offset warn) g m = (m.0, done_grows start lists more n multi offset m.0 g m.1)
 made_stays start lists more n reply g m = m
 
@@ -153,7 +153,7 @@ module _ (tells : Bool) (start : Start) (n number : ℕ) (lists more : List (Lis
           let least = past (ap (λ (b : By). b.session) same) in
           absurd (omega (arith, number, least))
 
-  line_grows : (before : List Line) (t : Told) (to : Place) → t.span.events.to ≤ to.events → to.events ≤ length (history more) → t.span.multis.to ≤ to.multis → to.multis ≤ length (multi_history more) → t.line.by.command ≤ number → AllByRecursion (IsUpTo n number) before → AreSettled (recs_of lists) (recs_of more) before
+  line_grows : (before : List Line) (t : Told) (to : Span) → t.span.events.to ≤ to.events.to → to.events.to ≤ length (history more) → t.span.multis.to ≤ to.multis.to → to.multis.to ≤ length (multi_history more) → t.line.by.command ≤ number → AllByRecursion (IsUpTo n number) before → AreSettled (recs_of lists) (recs_of more) before
       → IsToldWell tells start lists n before t → IsToldWell tells start more n before (record { line = t.line; span = stretched t.span to })
   line_grows before t to wide inside multi_wide multi_inside low up settled k =
       let l : Line = t.line in
@@ -170,10 +170,10 @@ module _ (tells : Bool) (start : Start) (n number : ℕ) (lists more : List (Lis
         events = subst (λ s. HasEvents l.by s l.command l.reply (events_of l.by (history more))) (sym same) (subst (λ x. HasEvents l.by (stance (history lists) before n) l.command l.reply x) (sym (events_same l.by k.own low)) k.events);
         multis = subst (λ (z : (List Event × List MultiEvent) × List MultiEvent). HasMultiEvents start.base z.0.0 wider.events z.0.1 l.by l.command l.reply z.1) (λ j. ((grown j, multi_grown j), sym (multis_same l.by k.own low) j))
             (events_grow start.base (history lists) es (multi_history lists) ms l.by t.span.events wider.events (omega arith) wide (k.within).1 l.command l.reply (multis_of l.by (multi_history lists)) k.multis);
-        place = subst (λ (h : List Event). IsInRound by_of h wider.events l.by) grown (place_grows by_of (history lists) es l.by t.span.events to.events wide beside k.place);
-        multi_place = subst (λ (h : List MultiEvent). IsInRound multi_by h wider.multis l.by) multi_grown (place_grows multi_by (multi_history lists) ms l.by t.span.multis to.multis multi_wide multi_beside k.multi_place);
-        behind = subst (λ (h : List Event). AllByRecursion (λ e. IsLaterThan l.by (by_of e)) (drop to.events h)) grown (behind_more (λ e. IsLaterThan l.by (by_of e)) (history lists) es t.span.events.to to.events (k.within).1 wide k.behind beside);
-        multi_behind = subst (λ (h : List MultiEvent). AllByRecursion (λ e. IsLaterThan l.by (multi_by e)) (drop to.multis h)) multi_grown (behind_more (λ e. IsLaterThan l.by (multi_by e)) (multi_history lists) ms t.span.multis.to to.multis (k.multi_within).1 multi_wide k.multi_behind multi_beside);
+        place = subst (λ (h : List Event). IsInRound by_of h wider.events l.by) grown (place_grows by_of (history lists) es l.by t.span.events to.events.to wide beside k.place);
+        multi_place = subst (λ (h : List MultiEvent). IsInRound multi_by h wider.multis l.by) multi_grown (place_grows multi_by (multi_history lists) ms l.by t.span.multis to.multis.to multi_wide multi_beside k.multi_place);
+        behind = subst (λ (h : List Event). AllByRecursion (λ e. IsLaterThan l.by (by_of e)) (drop to.events.to h)) grown (behind_more (λ e. IsLaterThan l.by (by_of e)) (history lists) es t.span.events.to to.events.to (k.within).1 wide k.behind beside);
+        multi_behind = subst (λ (h : List MultiEvent). AllByRecursion (λ e. IsLaterThan l.by (multi_by e)) (drop to.multis.to h)) multi_grown (behind_more (λ e. IsLaterThan l.by (multi_by e)) (multi_history lists) ms t.span.multis.to to.multis.to (k.multi_within).1 multi_wide k.multi_behind multi_beside);
         within = (let w = k.within in omega (arith, w.0, wide), inside);
         multi_within = (let w = k.multi_within in omega (arith, w.0, multi_wide), multi_inside);
         stage = k.stage;
@@ -181,6 +181,7 @@ module _ (tells : Bool) (start : Start) (n number : ℕ) (lists more : List (Lis
         standing = k.standing ∙ ap (λ s. refused_by l.command s (pending_in k.stage)) (sym same);
         members = k.members;
         begun = k.begun;
+        began = record { kept = k.began.kept; in_round = k.began.in_round; unheard = k.began.unheard; made = k.began.made };
         answer = subst (λ s. MayAnswerIn tells start k.begun more wider l.by s k.stage l.command l.reply) (sym same)
             (answer_stays tells start k.begun lists more g t.span wider l.by (stance (history lists) before n) k.stage
             (record { from = omega arith; to = wide; within = (k.within).1; later = past })
@@ -198,10 +199,10 @@ module _ (tells : Bool) (start : Start) (n number : ℕ) (lists more : List (Lis
       let t : Told = r.was in
       let front = all_take (λ t. IsUpTo n number t.line) p told up in
       let low : IsUpTo n number t.line = all_at (λ t. IsUpTo n number t.line) told t up (place_has told p t r.at) in
-      let now = line_grows (lines_of (take p told)) t (end_of u.span) r.is.to.0 r.is.to.1 r.is.multi_to.0 r.is.multi_to.1 low.1 (all_lines_of (IsUpTo n number) (take p told) front) (settled_front p told settled) (each p t r.at) in
+      let now = line_grows (lines_of (take p told)) t u.span r.is.to.0 r.is.to.1 r.is.multi_to.0 r.is.multi_to.1 low.1 (all_lines_of (IsUpTo n number) (take p told) front) (settled_front p told settled) (each p t r.at) in
       subst (λ (x : Told). IsToldWell tells start more n (lines_of (take p wider)) x)
-      (λ j. record { line = sym r.is.line j; span = record { events = record { from = sym r.is.from j; to = u.span.events.to }; multis = record { from = sym r.is.multi_from j; to = u.span.multis.to } } })
-      (subst (λ ls. IsToldWell tells start more n ls (record { line = t.line; span = stretched t.span (end_of u.span) })) (sym r.before) now)
+      (λ j. record { line = sym r.is.line j; span = record { begun = sym r.is.begun j; events = record { from = sym r.is.from j; to = u.span.events.to }; multis = record { from = sym r.is.multi_from j; to = u.span.multis.to } } })
+      (subst (λ ls. IsToldWell tells start more n ls (record { line = t.line; span = stretched t.span u.span })) (sym r.before) now)
     where
       settled_front : (p : ℕ) (told : List Told) → AreSettled (recs_of lists) (recs_of more) (lines_of told) → AreSettled (recs_of lists) (recs_of more) (lines_of (take p told))
       settled_front p told s = ⊎_elim inl (λ a. inr (front p told a)) s

@@ -1,5 +1,5 @@
 -- The promises of all sessions make lawful multixacts.
-use Rattle.std.proofs.Common.{Bool, Contains, IsTrue, List, None, Option, Some, [], ap, append-nil, arith, drop, eq-eqb, length, map, refl, subst, sym, take, true, zero, suc, ℕ, ⊎_elim, ◌+◌, ◌++◌, ◌-◌, ◌<◌, ◌==◌, ◌≡◌, ◌≤◌, ◌∙◌, ◌∷◌, ◌⊎◌, slice_get}
+use Rattle.std.proofs.Common.{Bool, Contains, IsTrue, List, None, Option, Some, [], ap, append-nil, arith, drop, eq-eqb, length, map, refl, subst, sym, take, zero, suc, ℕ, ⊎_elim, ◌+◌, ◌++◌, ◌-◌, ◌<◌, ◌==◌, ◌≡◌, ◌≤◌, ◌∙◌, ◌∷◌, slice_get}
 use Rattle.std.specs.List.{All, cons_option, filter, filter_map, flat_map}
 use Rattle.std.proofs.Math.Seq.{take-append_seam}
 use Rattle.std.proofs.lemmas.List.{take-append-drop}
@@ -12,20 +12,18 @@ use Rattle.tx_events.specs.declared.multi.MultiEvent.TheVariants as multi_events
 use Rattle.tx_events.specs.declared.record.Counters.{Counters}
 use Rattle.tx_events.specs.declared.record.Rec.{Rec}
 use Rattle.tx_events.specs.declared.record.Rec.TheVariants as records
-use Rattle.tx_events.specs.Multis.{AreLegalMultis, BaseOffset, InBase, MultiMayCome, multi_by}
+use Rattle.tx_events.specs.Multis.{AreLegalMultis, InBase, MultiMayCome, multi_by}
 use Rattle.tx_events.specs.Places.{EachPlace}
 use Rattle.tx_events.proofs.Membership.{Has, all_from, by_end, contains_has, filter_has, has_contains, has_filter_map, has_place, place_has}
 use Rattle.tx_events.proofs.PlaceLemmas.{each_place_none, each_place_push, last_at, slice_get-grows, take-grows}
-use Rattle.tx_model.specs.declared.report.LifeReport.{LifeReport}
 use Rattle.tx_model.specs.declared.report.Line.{Line}
 use Rattle.tx_model.specs.declared.report.Step.{Step}
 use Rattle.tx_model.specs.Rounds.{is_round, lines_in}
-use Rattle.life_law.specs.Checkpoints.{flushed_in}
 use Rattle.life_law.specs.Facts.{Facts}
 use Rattle.life_law.specs.LawfulLife.{facts_of}
-use Rattle.life_law.specs.LawfulMultis.{AreLawfulMultis, AreMultisInTurn, AreTrimsFlushed, HasTruncation, MultiComesInTurn, MultisStandFirst, is_ok_trim}
+use Rattle.life_law.specs.LawfulMultis.{AreMultisInTurn, AreTrimsFlushed, HasTruncation, MultiComesInTurn, MultisStandFirst}
 use Rattle.life_law.specs.MultiLines.{of_records}
-use Rattle.life_law.specs.MultiPlaces.{Recorded, has_multi_line, recorded_by}
+use Rattle.life_law.specs.MultiPlaces.{has_multi_line, recorded_by}
 use Rattle.tx_core.specs.declared.entry.Entry.{Entry}
 use Rattle.tx_core.specs.declared.entry.Start.{Start}
 use Rattle.tx_core.specs.EngineInvariant.{EngineInvariant}
@@ -37,10 +35,10 @@ use Rattle.tx_core.proofs.Asking.{has_all}
 use Rattle.tx_core.proofs.LogLaws.{flushes_rise}
 use Rattle.tx_core.proofs.Nearness.{multis_are_legal}
 use Rattle.engine_parts.specs.MultiAnswers.{recorded_in}
-use Rattle.session_promise.specs.Closing.{BeginsAt, IsOver, IsReportOf, PromisesMakeMultis}
+use Rattle.session_promise.specs.Closing.{BeginsAt, IsOver, PromisesMakeMultis}
 use Rattle.session_promise.specs.Promise.{HasTrimmed, IsRecordedIn, recs_of}
 use Rattle.session_promise.specs.Told.{Follow, ToldRound, all_lines, in_multis, steps_of}
-use Rattle.session_promise.proofs.Between.{filter_take, lines_of_rounds, step_lines}
+use Rattle.session_promise.proofs.Between.{filter_take, lines_of_rounds}
 use Rattle.session_promise.proofs.FewMultis.{lines_bound_multis, multi_known}
 use Rattle.session_promise.proofs.LawfulSteps.{report_lines, take_lines}
 use Rattle.session_promise.proofs.OwnNone.{multi_own, not_hosts}

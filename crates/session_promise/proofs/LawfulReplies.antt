@@ -1,39 +1,35 @@
 -- What may be answered in the lists at the end is lawful.
 use Rattle.engine_parts.specs.Stages.{pending_in}
-use Rattle.std.proofs.Common.{Bool, Contains, IsTrue, List, Some, subst, ◌<◌, [], append_assoc, arith, refl, sym, zero, suc, ℕ, ◌++◌, ◌-◌, ◌≡◌, ◌∙◌, ◌∷◌, is_some, false}
+use Rattle.std.proofs.Common.{Bool, IsTrue, List, [], append_assoc, arith, refl, sym, zero, suc, ℕ, ◌++◌, ◌-◌, ◌≡◌, ◌∙◌, ◌∷◌, is_some, false}
 use Rattle.std.specs.List.{flat_map}
 use Rattle.std.proofs.lemmas.Bool.{false≢true, or_left}
 use Rattle.notes.specs.Lists.{Begins, Grows, at}
 use Rattle.tx_events.specs.declared.event.By.{By}
 use Rattle.tx_events.specs.declared.event.Event.{Event}
-use Rattle.tx_events.specs.declared.multi.Member.{Member}
 use Rattle.tx_events.specs.declared.multi.MultiEvent.{MultiEvent}
-use Rattle.tx_events.specs.declared.multi.MultiEvent.TheVariants as multi_events
 use Rattle.tx_events.specs.declared.record.Counters.{Counters}
-use Rattle.tx_events.specs.declared.record.Rec.{Rec}
-use Rattle.tx_events.specs.declared.record.Rec.TheVariants as records
-use Rattle.tx_events.specs.Multis.{next_made}
 use Rattle.tx_events.specs.declared.refusal.Lock.{Lock}
 use Rattle.tx_events.specs.declared.refusal.Lock.TheVariants as locks
 use Rattle.tx_events.specs.declared.refusal.Refusal.TheVariants as refusals
-use Rattle.tx_events.proofs.Membership.{Has, contains_has, has_contains, has_filter_map}
+use Rattle.tx_events.proofs.Membership.{contains_has}
 use Rattle.tx_model.specs.declared.command.Command.{Command}
 use Rattle.tx_model.specs.declared.command.Command.TheVariants as commands
 use Rattle.tx_model.specs.declared.reply.Reply.{Reply}
 use Rattle.tx_model.specs.declared.reply.Reply.TheVariants as replies
+use Rattle.tx_model.specs.declared.report.Line.{Line}
 use Rattle.tx_model.specs.declared.report.Step.{Step}
 use Rattle.tx_model.specs.Rounds.{lines_in}
 use Rattle.tx_model.specs.Replies.{RoundSpan}
 use Rattle.tx_model.specs.Stance.{Stance, top_level}
 use Rattle.tx_model.proofs.Growth.{known_less}
-use Rattle.life_law.specs.Answering.{IsLawfulAnswer, IsLawfulMultiReply, IsUnrecorded}
+use Rattle.life_law.specs.Answering.{IsLawfulAnswer, IsLawfulMultiReply}
 use Rattle.life_law.specs.Facts.{Facts, has_failed_log}
 use Rattle.life_law.proofs.DidGrowth.{did_less}
-use Rattle.life_law.specs.MultiPlaces.{Recorded, recorded_by}
+use Rattle.life_law.specs.MultiLines.{IsNotYet}
+use Rattle.life_law.specs.MultiPlaces.{Recorded}
 use Rattle.life_law.specs.MultiReplies.{MayReplyMulti}
+use Rattle.life_law.specs.MultiStanding.{gave_multi}
 use Rattle.tx_core.specs.MultiEntries.{AreFewMultis, multi_history}
-use Rattle.tx_core.proofs.Growing.{slice_get_begins, take_begins}
-use Rattle.tx_core.proofs.Rising.{multis_grow}
 use Rattle.engine_parts.specs.MultiAnswers.{MayAnswerMulti, WasNotYet, recorded_in}
 use Rattle.life_law.specs.Replies.{IsBank, IsLawfulReply, may_append, may_ask, may_flush, may_lack_memory, may_need_log}
 use Rattle.tx_core.specs.declared.entry.Entry.{Entry}
@@ -145,30 +141,10 @@ down_flushed start lists down k d =
 -- where more is told, no more is asked
 reply_less : (told told' : Type 0) (NotYet NotYet' : ℕ → Type 0) (base : Counters) (committed : List ℕ) (recorded : List Recorded) (h : List Event) (all : List MultiEvent) (span multis : RoundSpan) (by : By) (s : Stance)
     → (told' → told) → ((multi : ℕ) → NotYet multi → NotYet' multi) → (command : Command) (reply : Reply) → MayReplyMulti told NotYet base committed recorded h all span multis by s command reply → MayReplyMulti told' NotYet' base committed recorded h all span multis by s command reply
-reply_less told told' NotYet NotYet' base committed recorded h all span multis by s up none (commands.SeeMulti name m) (replies.Verdicts verdicts) a = λ t. a (up t)
-reply_less told told' NotYet NotYet' base committed recorded h all span multis by s up none (commands.SeeMulti name m) (replies.Refused (refusals.NotYet multi)) a = λ t. none multi (a (up t))
-reply_less told told' NotYet NotYet' base committed recorded h all span multis by s up none (commands.MultiFreeze multi) (replies.Refused (refusals.NotYet next)) a = λ t. none next (a (up t))
+reply_less told told' NotYet NotYet' base committed recorded h all span multis by s up none (commands.SeeMulti name m) (replies.Verdicts verdicts) a = (a.0, λ t. a.1 (up t))
+reply_less told told' NotYet NotYet' base committed recorded h all span multis by s up none (commands.SeeMulti name m) (replies.Refused (refusals.NotYet multi)) a = (a.0, λ t. none multi (a.1 (up t)))
+reply_less told told' NotYet NotYet' base committed recorded h all span multis by s up none (commands.MultiFreeze multi) (replies.Refused (refusals.NotYet next)) a = (a.0, λ t. none next (a.1 (up t)))
 reply_less told told' NotYet NotYet' base committed recorded h all span multis by s up none command reply a = a
-
--- a multixact that the life began with is one of a record
-recorded_is : (rec : Rec) (multi offset : ℕ) (members : List Member) → recorded_by rec ≡ Some (multi, offset, members) → rec ≡ records.Multi multi offset members
-recorded_is (records.Multi m o ms) multi offset members e = let left : Recorded = (m, o, ms) in let right : Recorded = (multi, offset, members) in let same : left ≡ right = cc in λ j. records.Multi (same j).0 (same j).1 (same j).2
-recorded_is rec multi offset members e = absurd cc
-
-pub recorded_has : (start : Start) (multi offset : ℕ) (members : List Member) → Contains (recorded_in start) (multi, offset, members) → Contains start.recorded (records.Multi multi offset members)
-recorded_has start multi offset members c =
-    let f = has_filter_map recorded_by start.recorded (multi, offset, members) (contains_has (recorded_in start) (multi, offset, members) c) in
-    has_contains start.recorded (records.Multi multi offset members) (subst (λ (r : Rec). Has start.recorded r) (recorded_is f.0 multi offset members f.2) f.1)
-
-not_yet : (start : Start) (begun lists : List (List Entry)) (by : By) (multi : ℕ) → WasNotYet start begun lists by multi → IsUnrecorded start.base (recorded_in start) (multi_history lists) by multi
-not_yet start begun lists by multi n =
-    let b = multis_grow n.seen lists n.upto in record {
-      pinned = n.pinned;
-      asked = n.asked;
-      stands = slice_get_begins (multi_history n.seen) (multi_history lists) n.pinned (multi_events.Hold by n.asked) b n.stands;
-      below = subst (λ (h : List MultiEvent). multi < next_made start.base.multi h) (sym (take_begins (multi_history n.seen) (multi_history lists) n.pinned (multi_events.Hold by n.asked) b n.stands)) n.below;
-      unrecorded = λ low offset members c. n.unrecorded low offset members (recorded_has start multi offset members c);
-    }
 
 -- what the report of a life that is over is judged by
 module _ (tells : Bool) (start : Start) (lists : List (List Entry)) (rounds : List ToldRound) (over : IsOver tells start lists rounds) (few : AreFewIds lists) (few_multis : AreFewMultis lists) (told : List Step) (c : AreCheckpointsTold start lists rounds told) (lines : flat_map lines_in told ≡ all_lines rounds) where
@@ -203,19 +179,23 @@ module _ (tells : Bool) (start : Start) (lists : List (List Entry)) (rounds : Li
       did_less (IsTrue tells × AreFewIds lists) (IsTrue tells) start.base start.committed (history lists) (start.logged ++ recs_of lists) span by x.number answer (λ t. (t, few)) a
   lawful_reply span by s stage command reply f a = a
 
-  multi_reply : (begun : List (List Entry)) (span multis : RoundSpan) (by : By) (s : Stance) (stage : Stage) (command : Command) (reply : Reply) → MayAnswerMulti tells start begun lists span multis by s stage command reply → IsLawfulMultiReply facts span multis by s (pending_in stage) command reply
-  multi_reply begun span multis by s stage command (replies.Refused refusals.Memory) a = lacks command s stage a
-  multi_reply begun span multis by s stage command (replies.Refused refusals.Full) a = fills_log command s stage a
-  multi_reply begun span multis by s stage command (replies.Refused (refusals.DiskFault lock)) a = (asks command s stage lock a.0, fault_at start lists lock by over.kept a.1)
-  multi_reply begun span multis by s stage command (replies.Refused refusals.LogFault) a = logs command s stage a.0
-  multi_reply begun span multis by s stage command (replies.Refused (refusals.LogDown down)) a = (needs command s stage a.0, down_flushed start lists down over.kept a.1, failed tells start lists rounds over told c lines down a.1)
-  multi_reply begun span multis by s stage command reply a =
-      reply_less (IsTrue tells × AreFewIds lists × AreFewMultis lists) (IsTrue tells) (WasNotYet start begun lists by) (IsUnrecorded start.base (recorded_in start) (multi_history lists) by) start.base start.committed (recorded_in start)
-      (history lists) (multi_history lists) span multis by s (λ t. (t, few, few_multis)) (not_yet start begun lists by) command reply a
+  -- behind these lines, where no multixact is told as not yet there that is by them
+  module _ (begun : List (List Entry)) (span multis : RoundSpan) (by : By) (before : List Line) (none : (multi : ℕ) → WasNotYet start begun lists by multi → IsNotYet start.base (recorded_in start) (multi_history lists) multis (gave_multi before) by multi) where
+    multi_reply : (s : Stance) (stage : Stage) (command : Command) (reply : Reply) → MayAnswerMulti tells start begun lists span multis by s stage command reply → IsLawfulMultiReply facts before span multis by s (pending_in stage) command reply
+    multi_reply s stage command (replies.Refused refusals.Memory) a = lacks command s stage a
+    multi_reply s stage command (replies.Refused refusals.Full) a = fills_log command s stage a
+    multi_reply s stage command (replies.Refused (refusals.DiskFault lock)) a = (asks command s stage lock a.0, fault_at start lists lock by over.kept a.1)
+    multi_reply s stage command (replies.Refused refusals.LogFault) a = logs command s stage a.0
+    multi_reply s stage command (replies.Refused (refusals.LogDown down)) a = (needs command s stage a.0, down_flushed start lists down over.kept a.1, failed tells start lists rounds over told c lines down a.1)
+    multi_reply s stage command reply a =
+        reply_less (IsTrue tells × AreFewIds lists × AreFewMultis lists) (IsTrue tells) (WasNotYet start begun lists by) (IsNotYet start.base (recorded_in start) (multi_history lists) multis (gave_multi before) by)
+        start.base start.committed (recorded_in start) (history lists) (multi_history lists) span multis by s (λ t. (t, few, few_multis)) none command reply a
 
-  pub lawful_answer : (begun : List (List Entry)) (span : Span) (by : By) (s : Stance) (stage : Stage) (command : Command) (reply : Reply) → IsToAsker command reply → MayAnswerIn tells start begun lists span by s stage command reply → IsLawfulAnswer facts span.events span.multis by s (pending_in stage) command reply
-  lawful_answer begun span by s stage (commands.Multi pairs) reply f a = multi_reply begun span.events span.multis by s stage (commands.Multi pairs) reply a
-  lawful_answer begun span by s stage (commands.SeeMulti name m) reply f a = multi_reply begun span.events span.multis by s stage (commands.SeeMulti name m) reply a
-  lawful_answer begun span by s stage (commands.MultiFreeze multi) reply f a = multi_reply begun span.events span.multis by s stage (commands.MultiFreeze multi) reply a
-  lawful_answer begun span by s stage commands.Trim reply f a = multi_reply begun span.events span.multis by s stage commands.Trim reply a
-  lawful_answer begun span by s stage command reply f a = lawful_reply span.events by s stage command reply f a
+  pub lawful_answer : (begun : List (List Entry)) (span : Span) (by : By) (before : List Line) (s : Stance) (stage : Stage) (command : Command) (reply : Reply)
+      → ((multi : ℕ) → WasNotYet start begun lists by multi → IsNotYet start.base (recorded_in start) (multi_history lists) span.multis (gave_multi before) by multi)
+      → IsToAsker command reply → MayAnswerIn tells start begun lists span by s stage command reply → IsLawfulAnswer facts before span.events span.multis by s (pending_in stage) command reply
+  lawful_answer begun span by before s stage (commands.Multi pairs) reply none f a = multi_reply begun span.events span.multis by before none s stage (commands.Multi pairs) reply a
+  lawful_answer begun span by before s stage (commands.SeeMulti name m) reply none f a = multi_reply begun span.events span.multis by before none s stage (commands.SeeMulti name m) reply a
+  lawful_answer begun span by before s stage (commands.MultiFreeze multi) reply none f a = multi_reply begun span.events span.multis by before none s stage (commands.MultiFreeze multi) reply a
+  lawful_answer begun span by before s stage commands.Trim reply none f a = multi_reply begun span.events span.multis by before none s stage commands.Trim reply a
+  lawful_answer begun span by before s stage command reply none f a = lawful_reply span.events by s stage command reply f a

@@ -1,7 +1,8 @@
 -- The promises of all sessions make lawful lines, round by round.
-use Rattle.std.proofs.Common.{Bool, IsTrue, List, None, Option, Some, [], ap, append-nil, append_assoc, arith, cond, drop, length, refl, subst, sym, take, true, zero, suc, ℕ, ◌+◌, ◌++◌, ◌-◌, ◌<◌, ◌≡◌, ◌∙◌, ◌∷◌}
+use Rattle.std.proofs.Common.{Bool, IsTrue, eq-eqb, eqb-true, false, inl, inr, ⊎_elim, ◌==◌, ◌≢◌, ◌⊎◌, List, None, Option, Some, [], ap, append-nil, append_assoc, arith, cond, drop, length, refl, subst, sym, take, true, zero, suc, ℕ, ◌+◌, ◌++◌, ◌-◌, ◌<◌, ◌≡◌, ◌∙◌, ◌∷◌}
 use Rattle.std.specs.List.{All, count_by, filter, filter_map, flat_map, slice_get}
 use Rattle.std.proofs.Math.Seq.{take-append_seam}
+use Rattle.std.proofs.lemmas.Bool.{false≢true}
 use Rattle.std.proofs.lemmas.Grind.{flat_map-append}
 use Rattle.std.proofs.lemmas.List.{map-append, take-append-drop}
 use Rattle.std.proofs.lemmas.List.Elements.{All-from_recursion, filter-append}
@@ -15,9 +16,10 @@ use Rattle.tx_events.specs.declared.refusal.Lock.TheVariants as locks
 use Rattle.tx_events.specs.declared.refusal.Refusal.{Refusal}
 use Rattle.tx_events.specs.declared.refusal.Refusal.TheVariants as refusals
 use Rattle.tx_events.specs.Events.{events_of, given}
+use Rattle.tx_events.specs.Multis.{multi_by}
 use Rattle.tx_events.specs.Places.{EachPlace}
 use Rattle.tx_events.proofs.ListSteps.{eqb-refl, filter_all, filter_passes}
-use Rattle.tx_events.proofs.Membership.{all_at, all_from, contains_has, has_contains, has_right, place_has}
+use Rattle.tx_events.proofs.Membership.{Has, all_at, all_from, contains_has, filter_has, has_cases, has_contains, has_left, has_right, has_take, place_has}
 use Rattle.tx_events.proofs.PlaceLemmas.{each_place_none, last_at, slice_get-grows}
 use Rattle.tx_model.specs.declared.command.Command.{Command}
 use Rattle.tx_model.specs.declared.command.Command.TheVariants as commands
@@ -38,24 +40,28 @@ use Rattle.life_law.specs.Lines.{IsLawfulLine, IsLawfulRound}
 use Rattle.life_law.specs.Pending.{is_recorded, pending, pending_after, pending_from}
 use Rattle.life_law.specs.Refused.{refused_by}
 use Rattle.life_law.specs.Answering.{IsLawfulAnswer, IsLogged}
-use Rattle.life_law.specs.MultiLines.{HasMultiEvents}
+use Rattle.life_law.specs.MultiLines.{HasMultiEvents, IsNotYet}
 use Rattle.life_law.specs.MultiPlaces.{has_multi_line, multi_span, multis_of, recorded_by}
+use Rattle.life_law.specs.MultiStanding.{gave_multi}
 use Rattle.notes.specs.Lists.{at}
 use Rattle.tx_core.specs.Locks.{log_lock}
 use Rattle.tx_core.specs.MultiEntries.{AreFewMultis, multi_history}
 use Rattle.tx_core.specs.declared.entry.Entry.{Entry}
 use Rattle.tx_core.specs.declared.entry.Start.{Start}
 use Rattle.tx_core.specs.Entries.{AreFewIds, history}
+use Rattle.engine_parts.specs.MultiAnswers.{WasNotYet, recorded_in}
 use Rattle.engine_parts.specs.Stages.{pending_in}
 use Rattle.session_promise.specs.Checkpoints.{AreCheckpointsTold}
-use Rattle.session_promise.specs.Closing.{BeginsAt, IsOver, IsReportOf, PromisesMakeSteps}
-use Rattle.session_promise.specs.Promise.{IsMadeFor, IsToldWell, recs_of}
+use Rattle.session_promise.specs.Closing.{BeginsAt, IsOver, IsReportOf, MayCallIn, PromisesMakeSteps}
+use Rattle.session_promise.specs.Promise.{IsInRound, IsMadeFor, IsToldWell, recs_of}
 use Rattle.session_promise.specs.Told.{Follow, Told, ToldRound, all_lines, in_events, in_multis, lines_by, lines_of, steps_of, told_by, told_in, told_of}
 use Rattle.session_promise.proofs.Between.{each_between, in_turn_between, lines_of_rounds, step_lines}
 use Rattle.session_promise.proofs.FewIds.{levels_bound_ids}
 use Rattle.session_promise.proofs.FewMultis.{lines_bound_multis}
+use Rattle.session_promise.proofs.Growing.{made_stays}
 use Rattle.session_promise.proofs.LawfulReplies.{facts, lawful_answer}
-use Rattle.session_promise.proofs.Standing.{all_told, follow_split, front_counts, lines_have, multi_counts, stands_first}
+use Rattle.session_promise.proofs.NotYets.{not_yet}
+use Rattle.session_promise.proofs.Standing.{all_told, follow_split, front_counts, in_multi_rounds, line_in, lines_have, multi_counts, stands_first}
 use Rattle.session_promise.proofs.RecordPlaces.{rec_has}
 use Rattle.session_promise.proofs.Telling.{lines_in_round, lines_of_both, lines_told}
 
@@ -225,6 +231,30 @@ module _ (tells : Bool) (start : Start) (lists : List (List Entry)) (rounds : Li
         let to_is : r.span.multis.to ≡ count_by (has_multi_line (all_lines front ++ r.lines)) all = s3.2.2 ∙ (sym there ∙ ap (λ ls. count_by (has_multi_line ls) all) these_lines) in
         λ j. record { from = from_is j; to = to_is j }
 
+    -- what the lines before were given is done where the command began, but that of other sessions in the round
+    in_before : (x : Line) → Has before x → Has (all_lines rounds) x
+    in_before x k = ⊎_elim
+        (λ old. subst (λ (ls : List Line). Has ls x) (sym (ap all_lines cut ∙ flat_map-append (λ (y : ToldRound). y.lines) front (r ∷ rest))) (has_left (all_lines front) (all_lines (r ∷ rest)) x old))
+        (λ new. lines_have rounds r x (place_has rounds i r at_round) (has_take q r.lines x new))
+        (has_cases (all_lines front) earlier x k)
+
+    done_before : (x : Line) → Has before x → ((x.by.session ≢ n) × IsInRound multi_by all r.span.multis x.by) ⊎ IsMadeFor start told.begun x.by.session x.reply
+    done_before x k = ⊎_elim
+        (λ old. inr (made_stays start r.span.begun told.begun x.by.session x.reply told.began.in_round (all_at (λ (y : Line). IsMadeFor start r.span.begun y.by.session y.reply) (all_lines front) x (over.made i r at_round) old)))
+        (λ new. step (x.by.session == n) refl new)
+        (has_cases (all_lines front) earlier x k)
+      where
+        step : (b : Bool) → (x.by.session == n) ≡ b → Has earlier x → ((x.by.session ≢ n) × IsInRound multi_by all r.span.multis x.by) ⊎ IsMadeFor start told.begun x.by.session x.reply
+        step true e new = inr (subst (λ z. IsMadeFor start told.begun z x.reply) (sym (eqb-true x.by.session n e)) (all_at (λ (y : Line). IsMadeFor start told.begun n y.reply) (lines_by n before) x told.began.made (filter_has (is_line_of n) before x k e)))
+        step false e new = inl (λ same. false≢true (sym e ∙ eq-eqb x.by.session n same), in_multi_rounds tells start lists rounds over r x (place_has rounds i r at_round) (has_take q r.lines x new))
+
+    began : MayCallIn start lists n (over.each n low).0
+    began = (over.each n low).2
+
+    not_yets : (multi : ℕ) → WasNotYet start told.begun lists l.by multi → IsNotYet start.base (recorded_in start) all r.span.multis (gave_multi before) l.by multi
+    not_yets = not_yet start told.begun lists told.began.kept over.kept began.may.ready.at.base few_multis l.by told.began.unheard r.span.multis before
+        (λ x k. let t = line_in tells start lists rounds over x (in_before x k) in (t.0.events, t.2.multis)) done_before
+
     logged : (reply : Reply) → IsMadeFor start lists n reply → IsLogged f reply
     logged (replies.Multi multi offset warn) m =
         let a = m.1.appended in
@@ -239,8 +269,8 @@ module _ (tells : Bool) (start : Start) (lists : List (List Entry)) (rounds : Li
       multi_events = subst (λ (x : RoundSpan). HasMultiEvents start.base h x all l.by l.command l.reply (multis_of l.by all)) span_is told.multis;
       standing = told.standing ∙ (ap (λ s. refused_by l.command s (pending_in told.stage)) stance_same ∙ ap (refused_by l.command (stance h before n)) (told.pending_is ∙ pending_same));
       members = told.members;
-      reply = subst (λ (x : (RoundSpan × RoundSpan) × (Stance × Option Refusal)). IsLawfulAnswer f x.0.0 x.0.1 l.by x.1.0 x.1.1 l.command l.reply) (λ j. ((span_is j, multi_span_is j), (stance_same j, (told.pending_is ∙ pending_same) j)))
-          (lawful_answer tells start lists rounds over few few_multis checked c lines_are told.begun r.span l.by (stance h (lines_by n before) n) told.stage l.command l.reply told.fits told.answer);
+      reply = subst (λ (x : (RoundSpan × RoundSpan) × (Stance × Option Refusal)). IsLawfulAnswer f before x.0.0 x.0.1 l.by x.1.0 x.1.1 l.command l.reply) (λ j. ((span_is j, multi_span_is j), (stance_same j, (told.pending_is ∙ pending_same) j)))
+          (lawful_answer tells start lists rounds over few few_multis checked c lines_are told.begun r.span l.by before (stance h (lines_by n before) n) told.stage l.command l.reply not_yets told.fits told.answer);
       logged = logged l.reply told.made;
     }
 

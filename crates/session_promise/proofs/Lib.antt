@@ -14,6 +14,7 @@ pub mod PendingFollows
 pub mod RecordPlaces
 pub mod Known
 pub mod OwnNone
+pub mod OneCommand
 pub mod GoingOn
 pub mod Beginning
 pub mod Parting
@@ -27,6 +28,7 @@ pub mod OneFault
 pub mod HostFaults
 pub mod Between
 pub mod FaultLines
+pub mod NotYets
 pub mod LawfulReplies
 pub mod LawfulSteps
 pub mod LawfulCheckpoints

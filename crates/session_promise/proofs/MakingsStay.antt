@@ -1,10 +1,9 @@
 -- What is unfinished by the lines of some rounds stays so, while the life goes on.
-use Rattle.std.proofs.Common.{Bool, List, Some, [], ap, append-nil, arith, false, refl, subst, sym, true, ℕ, ⊎_elim, ◌+◌, ◌++◌, ◌<◌, ◌≡◌, ◌≤◌, ◌∙◌, length}
-use Rattle.std.specs.List.{AllByRecursion, filter, flat_map, slice_get}
+use Rattle.std.proofs.Common.{Bool, List, Some, ap, append-nil, arith, false, refl, subst, sym, true, ℕ, ⊎_elim, ◌+◌, ◌++◌, ◌<◌, ◌≡◌, ◌≤◌, ◌∙◌, length}
+use Rattle.std.specs.List.{AllByRecursion, slice_get}
 use Rattle.std.proofs.lemmas.Grind.{flat_map-append}
 use Rattle.std.proofs.lemmas.List.Elements.{filter-append}
 use Rattle.notes.specs.Lists.{Grows}
-use Rattle.tx_events.specs.declared.event.By.{By}
 use Rattle.tx_events.specs.declared.multi.MultiEvent.{MultiEvent}
 use Rattle.tx_events.specs.Events.{same_by}
 use Rattle.tx_events.specs.Multis.{multi_by}

@@ -1,5 +1,5 @@
 -- A command's events of multixacts stay its events in longer histories.
-use Rattle.std.proofs.Common.{◌≡◌, ◌⊎◌, ℕ, ◌<◌, ◌≤◌, List, [], ◌∷◌, ◌++◌, Contains, Some, ap, inl, inr, refl, sym, subst, ◌∙◌, arith, ⊎_elim, length, slice_get, take}
+use Rattle.std.proofs.Common.{◌≡◌, ℕ, ◌<◌, ◌≤◌, List, [], ◌∷◌, ◌++◌, Some, inl, inr, sym, subst, arith, ⊎_elim, length, take}
 use Rattle.std.proofs.lemmas.List.{take-append-le}
 use Rattle.std.proofs.lemmas.Option.{slice_get_within}
 use Rattle.std.specs.List.{AllZip}
@@ -20,7 +20,7 @@ use Rattle.tx_model.specs.declared.command.Pair.{Pair}
 use Rattle.tx_model.specs.declared.reply.Reply.{Reply}
 use Rattle.tx_model.specs.declared.reply.Reply.TheVariants as replies
 use Rattle.tx_model.specs.Replies.{RoundSpan}
-use Rattle.life_law.specs.MultiLines.{AreGiven, ArePinned, ArePinnedNear, HasMultiEvents, IsMemberOf}
+use Rattle.life_law.specs.MultiLines.{AreGiven, ArePinnedNear, HasMultiEvents, IsMemberOf}
 
 all_zip : {X Y : Type 0} (P Q : X → Y → Type 0) → ((x : X) (y : Y) → P x y → Q x y) → (xs : List X) (ys : List Y) → AllZip P xs ys → AllZip Q xs ys
 all_zip P Q up [] [] a = a

@@ -1,5 +1,5 @@
 -- Which events of multixacts a command has.
-use Rattle.std.proofs.Common.{◌≡◌, ◌⊎◌, ◌<◌, ◌≤◌, ℕ, Bool, true, false, cond, List, [], ◌∷◌, Contains, IsTrue, ap, arith, inl, inr, refl, sym, subst, ◌∙◌, ⊎_elim, length}
+use Rattle.std.proofs.Common.{◌≡◌, ◌<◌, ◌≤◌, ℕ, Bool, cond, List, [], Contains, IsTrue, ap, arith, sym, subst, ⊎_elim, length}
 use Rattle.tx_events.specs.declared.event.By.{By}
 use Rattle.tx_events.specs.declared.event.Event.{Event}
 use Rattle.tx_events.specs.declared.multi.MultiEvent.{MultiEvent}
@@ -14,7 +14,7 @@ use Rattle.tx_model.specs.declared.reply.Reply.{Reply}
 use Rattle.tx_model.specs.declared.reply.Reply.TheVariants as replies
 use Rattle.tx_model.specs.Replies.{RoundSpan}
 use Rattle.life_law.specs.Commands.{makes_multi}
-use Rattle.life_law.specs.MultiLines.{AreGiven, ArePinned, ArePinnedNear, HasMultiEvents}
+use Rattle.life_law.specs.MultiLines.{AreGiven, ArePinned, HasMultiEvents}
 use Rattle.tx_core.specs.declared.entry.Entry.{Entry}
 use Rattle.tx_core.specs.declared.entry.Start.{Start}
 use Rattle.tx_core.specs.MultiEntries.{AreFewMultis, multi_history}

@@ -1,5 +1,5 @@
 -- The rows of replies on multixacts, once more was added.
-use Rattle.std.proofs.Common.{◌≡◌, ℕ, ◌<◌, ◌≤◌, ◌↔◌, ◌⊎◌, IsTrue, List, [], ◌∷◌, ◌++◌, length, take, refl, ap, sym, subst, ◌∙◌, arith, inl, inr, ⊎_elim, Option, Some, None, IfSome, Contains, unwrap_or, true, false}
+use Rattle.std.proofs.Common.{◌≡◌, ℕ, ◌<◌, ◌≤◌, List, [], ◌∷◌, ◌++◌, length, take, refl, ap, sym, subst, ◌∙◌, arith, inl, inr, ⊎_elim, Option, Some, None, IfSome, Contains, unwrap_or}
 use Rattle.std.specs.List.{AllByRecursion, AllZip, slice_get}
 use Rattle.tx_events.specs.Ids.{low_half}
 use Rattle.tx_events.specs.Nearest.{near_id}
@@ -236,14 +236,14 @@ rows_stay t t' N N' base committed recorded h rest all more r r' q q' by s (comm
 rows_stay t t' N N' base committed recorded h rest all more r r' q q' by s (commands.Multi pairs) (replies.Refused refusals.MemberCount) less yet w v a = tt
 rows_stay t t' N N' base committed recorded h rest all more r r' q q' by s (commands.Multi pairs) (replies.Refused refusals.TwoUpdaters) less yet w v a = tt
 rows_stay t t' N N' base committed recorded h rest all more r r' q q' by s (commands.SeeMulti name m) (replies.Verdicts vs) less yet w v a =
-    λ d. let x = a (less d) in (x.0, x.1, verdicts_stay base committed recorded h rest all more r r' by x.0 vs w x.2)
-rows_stay t t' N N' base committed recorded h rest all more r r' q q' by s (commands.SeeMulti name m) (replies.Refused (refusals.NotYet multi)) less yet w v a = λ d. yet multi (a (less d))
+    (a.0, λ d. let x = a.1 (less d) in (x.0, x.1, verdicts_stay base committed recorded h rest all more r r' by x.0 vs w x.2))
+rows_stay t t' N N' base committed recorded h rest all more r r' q q' by s (commands.SeeMulti name m) (replies.Refused (refusals.NotYet multi)) less yet w v a = (a.0, λ d. yet multi (a.1 (less d)))
 rows_stay t t' N N' base committed recorded h rest all more r r' q q' by s (commands.SeeMulti name m) (replies.Refused (refusals.MultiTooOld oldest)) less yet w v a = too_old base by all more q q' v m.number oldest a
 rows_stay t t' N N' base committed recorded h rest all more r r' q q' by s (commands.SeeMulti name m) (replies.Refused (refusals.MultiFuture next)) less yet w v a = future base by all more q q' v m.number next a
 rows_stay t t' N N' base committed recorded h rest all more r r' q q' by s (commands.SeeMulti name m) (replies.Refused refusals.NoSnapshot) less yet w v a = a
 rows_stay t t' N N' base committed recorded h rest all more r r' q q' by s (commands.MultiFreeze multi) replies.Done less yet w v a = raised_next base by all more multi a
 rows_stay t t' N N' base committed recorded h rest all more r r' q q' by s (commands.MultiFreeze multi) (replies.Refused (refusals.Backward now)) less yet w v a = goes_back base by all more q q' v multi now a
 rows_stay t t' N N' base committed recorded h rest all more r r' q q' by s (commands.MultiFreeze multi) (replies.Refused (refusals.Held limit)) less yet w v a = held base by all more q q' v multi limit a
-rows_stay t t' N N' base committed recorded h rest all more r r' q q' by s (commands.MultiFreeze multi) (replies.Refused (refusals.NotYet next)) less yet w v a = λ d. yet next (a (less d))
+rows_stay t t' N N' base committed recorded h rest all more r r' q q' by s (commands.MultiFreeze multi) (replies.Refused (refusals.NotYet next)) less yet w v a = (a.0, λ d. yet next (a.1 (less d)))
 rows_stay t t' N N' base committed recorded h rest all more r r' q q' by s commands.Trim replies.Done less yet w v a = tt
 rows_stay t t' N N' base committed recorded h rest all more r r' q q' by s command reply less yet w v a = absurd a

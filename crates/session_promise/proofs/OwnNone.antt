@@ -1,16 +1,14 @@
 -- Whose the events of multixacts are.
-use Rattle.std.proofs.Common.{List, Some, [], ap, eq-eqb, eqb-true, false, inl, refl, subst, sym, true, Bool, ℕ, ⊎_elim, arith, length, ◌<◌, ◌==◌, ◌∙◌, ◌∷◌, ◌≡◌}
-use Rattle.std.specs.List.{filter, slice_get}
+use Rattle.std.proofs.Common.{List, Some, [], ap, eq-eqb, eqb-true, false, refl, subst, sym, true, Bool, ℕ, ◌==◌, ◌∙◌, ◌≡◌}
 use Rattle.notes.specs.Lists.{at, own}
 use Rattle.tx_events.specs.declared.event.By.{By}
 use Rattle.tx_events.specs.declared.multi.MultiEvent.{MultiEvent}
 use Rattle.tx_events.specs.Multis.{InBase, MultiMayCome, multi_by}
-use Rattle.tx_events.proofs.Membership.{Has, filter_has, filter_none_on, has_contains, has_filter_map}
+use Rattle.tx_events.proofs.Membership.{Has, filter_has, filter_none_on, has_filter_map}
 use Rattle.tx_core.specs.declared.entry.Entry.{Entry}
 use Rattle.tx_core.specs.declared.entry.Kind.{Kind}
 use Rattle.tx_core.specs.declared.entry.Kind.TheVariants as kinds
 use Rattle.tx_core.specs.declared.entry.Start.{Start}
-use Rattle.tx_core.specs.Consequences.{IsHosts}
 use Rattle.tx_core.specs.EngineInvariant.{EngineInvariant}
 use Rattle.tx_core.specs.Entries.{session_of}
 use Rattle.tx_core.specs.Locks.{multi_lock}
@@ -19,7 +17,6 @@ use Rattle.tx_core.specs.MultisLegal.{NeedsMulti, ToldOf}
 use Rattle.tx_core.specs.OwnMultis.{is_multi_of, own_multis}
 use Rattle.tx_core.specs.ProgramOrder.{IsOfHost}
 use Rattle.tx_core.proofs.Asking.{if_some, upheld_has}
-use Rattle.tx_core.proofs.Opening.{sessions_known}
 
 -- an entry's event is of the entry's command
 pub multi_own : (start : Start) (lists : List (List Entry)) (lock : ℕ) (before : List Entry) (e : Entry) (event : MultiEvent) → NeedsMulti start lists lock before e → multi_of e ≡ Some event → multi_by event ≡ e.by

@@ -4,9 +4,11 @@ use Rattle.std.specs.List.{AllByRecursion, list_any, slice_get}
 use Rattle.std.proofs.lemmas.Grind.{flat_map-append}
 use Rattle.std.proofs.lemmas.List.{length-append}
 use Rattle.std.proofs.lemmas.Option.{slice_get-get_or, slice_get_within}
-use Rattle.notes.specs.Lists.{Grows, Knows, own}
+use Rattle.notes.specs.Lists.{Grows, Knows, at, own}
+use Rattle.notes.proofs.Growing.{begins_same}
 use Rattle.tx_events.proofs.ListSteps.{both_all, not_both}
-use Rattle.tx_events.proofs.Membership.{Has, all_at, all_from, any_has, contains_has, has_any, has_contains, has_flat_map, has_map}
+use Rattle.tx_events.proofs.Membership.{Has, all_at, all_from, any_has, contains_has, has_any, has_contains, has_flat_map, has_map, has_place}
+use Rattle.tx_events.proofs.PlaceLemmas.{each_place_none, each_place_push}
 use Rattle.tx_model.specs.declared.command.Command.{Command}
 use Rattle.tx_model.specs.declared.report.Line.{Line}
 use Rattle.tx_core.specs.declared.entry.Entry.{Entry}
@@ -22,7 +24,8 @@ use Rattle.tx_core.proofs.Lasting.{history_grows}
 use Rattle.engine_parts.specs.declared.session.Session.{Session}
 use Rattle.engine_parts.specs.Holds.{Knowledge}
 use Rattle.engine_parts.specs.Sessions.{by_at}
-use Rattle.session_promise.specs.Promise.{Answered, Promise}
+use Rattle.engine_parts.proofs.Leaving.{grows_then}
+use Rattle.session_promise.specs.Promise.{Answered, IsMadeFor, Promise}
 use Rattle.session_promise.specs.Rounds.{ArePut, RoundPart, lines_of_parts, sessions_of}
 use Rattle.session_promise.specs.SoFar.{AnsweredLines, IsSoFar, PromiseThroughRound, SoFarGoesOn, TookPart, SoFarBegins, SoFarEnds, WentRound, round_of}
 use Rattle.session_promise.specs.Told.{Follow, IsNoLater, Place, Told, ToldRound, all_lines, between, in_events, in_multis, lines_by, place_of, told_by, told_in, told_of}
@@ -30,6 +33,7 @@ use Rattle.session_promise.specs.Closing.{MayCallIn}
 use Rattle.session_promise.proofs.Beginning.{promise_begins}
 use Rattle.session_promise.proofs.GoingOn.{promise_goes_on}
 use Rattle.session_promise.proofs.Parting.{own_parts, parts_make_round}
+use Rattle.session_promise.proofs.Standing.{told_has}
 use Rattle.session_promise.proofs.Staying.{promise_stays}
 
 grown_length : (lists more : List (List Entry)) → Grows lists more → length (history lists) ≤ length (history more)
@@ -40,13 +44,13 @@ later_place : (lists more : List (List Entry)) → Grows lists more → IsNoLate
 later_place lists more g =
     let b = multis_grow lists more g in
     let q : length (multi_history lists) + length b.0 ≡ length (multi_history more) = sym (length-append (multi_history lists) b.0) ∙ ap length b.1 in
-    record { events = grown_length lists more g; multis = omega (arith, q) }
+    record { grown = g; events = grown_length lists more g; multis = omega (arith, q) }
 
 no_later : (a b c : Place) → IsNoLater a b → IsNoLater b c → IsNoLater a c
-no_later a b c x y = let u = x.events in let v = y.events in let m = x.multis in let n = y.multis in record { events = omega (arith, u, v); multis = omega (arith, m, n) }
+no_later a b c x y = let u = x.events in let v = y.events in let m = x.multis in let n = y.multis in record { grown = grows_then a.lists b.lists c.lists x.grown y.grown; events = omega (arith, u, v); multis = omega (arith, m, n) }
 
 place_same : (a b : Place) → a ≡ b → IsNoLater a b
-place_same a b q = let e : a.events ≡ b.events = ap (λ (z : Place). z.events) q in let m : a.multis ≡ b.multis = ap (λ (z : Place). z.multis) q in record { events = omega (arith, e); multis = omega (arith, m) }
+place_same a b q = subst (IsNoLater a) q (record { grown = record { begins = λ place. begins_same (at a.lists place) }; events = omega arith; multis = omega arith })
 
 -- through the commands of a round
 record Through (tells : Bool) (start : Start) (w : Knowledge) (n : ℕ) (past : List Told) (from : Place) (lines : List Line) (s : Session) : Type 0 where
@@ -85,12 +89,17 @@ promise_through tells start before after n past old new lines took kept p =
 -- a session that took no part
 pub through_idle : (tells : Bool) (start : Start) (before after : List (List Entry)) (n : ℕ) (past : List Told) (s : Session) → EngineInvariant start after → Knows session_of n before after → Promise tells start before n past s → Promise tells start after n past s
 through_idle tells start before after n past s kept knows p =
-    let zero_place : Place = record { events = 0; multis = 0 } in
-    let none : past ++ told_in (between zero_place zero_place) [] ≡ past = append-nil past in
+    let nowhere : Place = record { lists = []; events = 0; multis = 0 } in
+    let none : past ++ told_in (between nowhere nowhere) [] ≡ past = append-nil past in
     subst (λ (x : List Told). Promise tells start after n x s) none
-    (promise_stays tells start before after n past zero_place zero_place zero_place [] s kept knows (record { events = omega arith; multis = omega arith }) (record { events = omega arith; multis = omega arith }) (subst (λ (x : List Told). Promise tells start before n x s) (sym none) p))
+    (promise_stays tells start before after n past nowhere nowhere nowhere [] s kept knows (place_same nowhere nowhere refl) (record { grown = record { begins = λ place. (at after place, refl) }; events = omega arith; multis = omega arith }) (subst (λ (x : List Told). Promise tells start before n x s) (sym none) p))
 
 -- ---- rounds
+
+item_at : {X : Type 0} (xs : List X) (n : ℕ) → n < length xs → (x : X) × (slice_get xs n ≡ Some x)
+item_at [] n l = absurd (omega (arith, l))
+item_at (x ∷ xs) zero l = (x, refl)
+item_at (x ∷ xs) (suc n) l = item_at xs n (omega (arith, l))
 
 told_push : (n : ℕ) (rounds : List ToldRound) (r : ToldRound) → told_by n (rounds ++ r ∷ []) ≡ told_by n rounds ++ told_in r.span (lines_by n r.lines)
 told_push n rounds r = flat_map-append (told_of n) rounds (r ∷ []) ∙ ap (λ (x : List Told). told_by n rounds ++ x) (append-nil (told_of n r))
@@ -152,12 +161,25 @@ module _ (tells : Bool) (start : Start) (before after : List (List Entry)) (old 
       let own : l.by.session ≡ f.0.session = all_at (λ (l : Line). l.by.session ≡ f.0.session) f.0.lines l (all_at (λ (p : RoundPart). AllByRecursion (λ (l : Line). l.by.session ≡ p.session) p.lines) parts f.0 (own_parts turns parts went.parts_of.each) f.1) f.2 in
       subst (λ z. z < start.sessions) (sym own) (all_at (λ (p : RoundPart). p.session < start.sessions) parts f.0 went.known f.1))
 
+  -- what the lines so far made is done where the round begins
+  made_before : AllByRecursion (λ (l : Line). IsMadeFor start before l.by.session l.reply) (all_lines rounds)
+  made_before = all_from (λ (l : Line). IsMadeFor start before l.by.session l.reply) (all_lines rounds) (λ l k.
+      let n : ℕ = l.by.session in
+      let low : n < start.sessions = all_at (λ (l : Line). l.by.session < start.sessions) (all_lines rounds) l so_far.lines k in
+      let all = so_far.count in
+      let s = item_at old n (omega (arith, low, all)) in
+      let r = has_flat_map (λ (r : ToldRound). r.lines) rounds l k in
+      let t : Told = record { line = l; span = r.0.span } in
+      let place = has_place (told_by n rounds) t (told_has n rounds r.0 l r.1 r.2 refl) in
+      ((so_far.each n s.0 s.1).each place.0 t place.1).made)
+
   pub so_far_then : IsSoFar tells start after new (rounds ++ round ∷ [])
   so_far_then = record {
     count = went.count ∙ so_far.count;
     each = each_then;
     places = follow_push in_events 0 rounds round so_far.places (later_place before after went.grows).events;
     multi_places = follow_push in_multis 0 rounds round so_far.multi_places (later_place before after went.grows).multis;
+    made = each_place_push (λ earlier r. AllByRecursion (λ (l : Line). IsMadeFor start r.span.begun l.by.session l.reply) (all_lines earlier)) rounds round so_far.made made_before;
     lines = subst (AllByRecursion (λ (l : Line). l.by.session < start.sessions)) (sym (flat_map-append (λ (r : ToldRound). r.lines) rounds (round ∷ []) ∙ ap (λ ls. all_lines rounds ++ ls) (append-nil (lines_of_parts parts))))
         (both_all (λ (l : Line). l.by.session < start.sessions) (all_lines rounds) (lines_of_parts parts) so_far.lines lines_known);
   }
@@ -174,6 +196,7 @@ so_far_begins tells start lists sessions empty count new = record {
       promise_begins tells start lists n s (record { kept = opens start lists empty; empty = λ place. ap (own session_of n) (empty place); fresh = fresh.0; stage = fresh.1; making = fresh.2 });
   places = sym (ap (λ (es : List Entry). length (events_in es)) (empty proc_lock));
   multi_places = sym (ap (λ (es : List Entry). length (multis_in es)) (empty multi_lock));
+  made = each_place_none (λ earlier r. AllByRecursion (λ (l : Line). IsMadeFor start r.span.begun l.by.session l.reply) (all_lines earlier));
   lines = tt;
 }
 
@@ -184,13 +207,9 @@ so_far_ends tells start lists sessions rounds so_far kept calls = record {
   lines = so_far.lines;
   places = so_far.places;
   multi_places = so_far.multi_places;
-  each = λ n low. ended n low (there sessions n (let c = so_far.count in omega (arith, c, low)));
+  made = so_far.made;
+  each = λ n low. ended n low (item_at sessions n (let c = so_far.count in omega (arith, c, low)));
 }
   where
-    there : (ss : List Session) (n : ℕ) → n < length ss → (s : Session) × (slice_get ss n ≡ Some s)
-    there [] n l = absurd (omega (arith, l))
-    there (s ∷ ss) zero l = (s, refl)
-    there (s ∷ ss) (suc n) l = there ss n (omega (arith, l))
-
     ended : (n : ℕ) → n < start.sessions → (s : Session) × (slice_get sessions n ≡ Some s) → (s : Session) × Promise tells start lists n (told_by n rounds) s × MayCallIn start lists n s
     ended n low s = (s.0, so_far.each n s.0 s.1, calls n s.0 s.1)

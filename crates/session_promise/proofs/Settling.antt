@@ -1,5 +1,5 @@
 -- The records of a log that is down stay, so what is pending by them does.
-use Rattle.std.proofs.Common.{◌≡◌, ℕ, ◌≤◌, Bool, true, false, List, ◌∷◌, ap, refl, sym, subst, ◌∙◌, arith, inl, inr, length, take, map}
+use Rattle.std.proofs.Common.{◌≡◌, ℕ, Bool, true, false, List, ◌∷◌, ap, refl, sym, subst, ◌∙◌, arith, inl, inr, length, take, map}
 use Rattle.std.specs.List.{AllByRecursion}
 use Rattle.std.proofs.lemmas.List.{length-map, length-take-le}
 use Rattle.std.proofs.lemmas.Option.{slice_get_within}
@@ -20,7 +20,6 @@ use Rattle.tx_core.specs.declared.entry.Entry.{Entry}
 use Rattle.tx_core.specs.declared.entry.Kind.TheVariants as kinds
 use Rattle.tx_core.specs.declared.entry.Start.{Start}
 use Rattle.tx_core.specs.EngineInvariant.{EngineInvariant}
-use Rattle.tx_core.specs.Entries.{history}
 use Rattle.tx_core.specs.Locks.{log_lock}
 use Rattle.tx_core.specs.StaysDown.{is_down, is_put_down}
 use Rattle.tx_core.proofs.LogLaws.{down_stays}

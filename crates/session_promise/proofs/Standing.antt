@@ -100,7 +100,7 @@ told_in_has r (x ∷ lines) l n own k = step (x.by.session == n) refl (told_in_h
     step true q rest = ⊎_elim (λ (e : x ≡ l). inl (ap (λ (z : Line). record { line = z; span = r.span }) e)) (λ j. inr (rest j)) k
     step false q rest = ⊎_elim (λ (e : x ≡ l). absurd (false≢true (sym q ∙ (ap (λ (z : Line). z.by.session == n) e ∙ (ap (λ z. z == n) own ∙ eqb-refl n))))) rest k
 
-told_has : (n : ℕ) (rounds : List ToldRound) (r : ToldRound) (l : Line) → Has rounds r → Has r.lines l → l.by.session ≡ n → Has (told_by n rounds) (record { line = l; span = r.span })
+pub told_has : (n : ℕ) (rounds : List ToldRound) (r : ToldRound) (l : Line) → Has rounds r → Has r.lines l → l.by.session ≡ n → Has (told_by n rounds) (record { line = l; span = r.span })
 told_has n [] r l k j own = absurd k
 told_has n (x ∷ rounds) r l k j own =
     ⊎_elim
@@ -193,7 +193,7 @@ module _ (tells : Bool) (start : Start) (lists : List (List Entry)) (rounds : Li
   in_rounds : (r : ToldRound) (l : Line) → Has rounds r → Has r.lines l → IsInRound by_of (history lists) r.span.events l.by
   in_rounds r l k j = (line_told r l k j).1.place
 
-  in_multi_rounds : (r : ToldRound) (l : Line) → Has rounds r → Has r.lines l → IsInRound multi_by (multi_history lists) r.span.multis l.by
+  pub in_multi_rounds : (r : ToldRound) (l : Line) → Has rounds r → Has r.lines l → IsInRound multi_by (multi_history lists) r.span.multis l.by
   in_multi_rounds r l k j = (line_told r l k j).1.multi_place
 
   found_line : (n : ℕ) (by : By) → list_any (λ l. same_by l.by by) (lines_by n (all_lines rounds)) ≡ true → IsOfLine (λ b. b) rounds by

@@ -8,19 +8,18 @@ use Rattle.session_promise.specs.Told.{IsNoLater, Place, Span, Told, between, li
 abbrev pub IsWithin : Place → Told → Type 0
 IsWithin m t = (t.span.events.to ≤ m.events) × (t.span.multis.to ≤ m.multis)
 
--- the span that begins there and has come so far
-abbrev pub stretched : Span → Place → Span
-stretched span to = record {
-  events = record { from = span.events.from; to = to.events };
-  multis = record { from = span.multis.from; to = to.multis };
+-- the span that begins there and has come as far as the other
+abbrev pub stretched : Span → Span → Span
+stretched span wider = record {
+  begun = span.begun;
+  events = record { from = span.events.from; to = wider.events.to };
+  multis = record { from = span.multis.from; to = wider.multis.to };
 }
-
-abbrev pub end_of : Span → Place
-end_of span = record { events = span.events.to; multis = span.multis.to }
 
 -- the same line, and its round has come as far or further, but not past m
 pub record IsWider (m : Place) (t u : Told) : Type 0 where
   pub line : u.line ≡ t.line
+  pub begun : u.span.begun ≡ t.span.begun
   pub from : u.span.events.from ≡ t.span.events.from
   pub multi_from : u.span.multis.from ≡ t.span.multis.from
   pub to : (t.span.events.to ≤ u.span.events.to) × (u.span.events.to ≤ m.events)
@@ -33,15 +32,15 @@ AreWider m told wider = ⊥
 
 pub wider_same : (m : Place) (told : List Told) → AllByRecursion (IsWithin m) told → AreWider m told told
 wider_same m [] a = tt
-wider_same m (t ∷ told) a = (record { line = refl; from = refl; multi_from = refl; to = (omega arith, a.0.0); multi_to = (omega arith, a.0.1) }, wider_same m told a.1)
+wider_same m (t ∷ told) a = (record { line = refl; begun = refl; from = refl; multi_from = refl; to = (omega arith, a.0.0); multi_to = (omega arith, a.0.1) }, wider_same m told a.1)
 
 pub wider_in : (m from to later : Place) (lines : List Line) → IsNoLater to later → IsNoLater later m → AreWider m (told_in (between from to) lines) (told_in (between from later) lines)
 wider_in m from to later [] a b = tt
-wider_in m from to later (l ∷ lines) a b = (record { line = refl; from = refl; multi_from = refl; to = (a.events, b.events); multi_to = (a.multis, b.multis) }, wider_in m from to later lines a b)
+wider_in m from to later (l ∷ lines) a b = (record { line = refl; begun = refl; from = refl; multi_from = refl; to = (a.events, b.events); multi_to = (a.multis, b.multis) }, wider_in m from to later lines a b)
 
 pub wider_to : (m from to : Place) (lines : List Line) → AllByRecursion (IsWithin m) (told_in (between from to) lines) → AreWider m (told_in (between from to) lines) (told_in (between from m) lines)
 wider_to m from to [] a = tt
-wider_to m from to (l ∷ lines) a = (record { line = refl; from = refl; multi_from = refl; to = (a.0.0, omega arith); multi_to = (a.0.1, omega arith) }, wider_to m from to lines a.1)
+wider_to m from to (l ∷ lines) a = (record { line = refl; begun = refl; from = refl; multi_from = refl; to = (a.0.0, omega arith); multi_to = (a.0.1, omega arith) }, wider_to m from to lines a.1)
 
 pub wider_both : (m : Place) (told wider rest more : List Told) → AreWider m told wider → AreWider m rest more → AreWider m (told ++ rest) (wider ++ more)
 wider_both m [] [] rest more a b = b
@@ -68,6 +67,7 @@ wider_is m t u v k same =
     let multi_to : v.span.multis.to ≡ u.span.multis.to = ap (λ (x : Told). x.span.multis.to) same in
     let a = k.to in let b = k.multi_to in record {
       line = ap (λ (x : Told). x.line) (sym same) ∙ k.line;
+      begun = ap (λ (x : Told). x.span.begun) (sym same) ∙ k.begun;
       from = ap (λ (x : Told). x.span.events.from) (sym same) ∙ k.from;
       multi_from = ap (λ (x : Told). x.span.multis.from) (sym same) ∙ k.multi_from;
       to = (omega (arith, a.0), omega (arith, a.1));

@@ -5,6 +5,7 @@ use Rattle.std.specs.Prelude.{◌≡◌, ◌+◌, ℕ, ◌^◌, ◌<◌, Bool, L
 use Rattle.std.specs.List.{AllByRecursion, count_by, filter}
 use Rattle.notes.specs.Lists.{at}
 use Rattle.tx_events.specs.declared.record.Rec.TheVariants as records
+use Rattle.tx_events.specs.Places.{EachPlace}
 use Rattle.tx_model.specs.declared.report.LifeReport.{LifeReport}
 use Rattle.tx_model.specs.declared.report.Step.{Step}
 use Rattle.tx_model.specs.Asked.{Asked}
@@ -19,7 +20,7 @@ use Rattle.tx_core.specs.Entries.{AreFewIds, flushed_to, history}
 use Rattle.tx_core.specs.Locks.{log_lock}
 use Rattle.tx_core.specs.MultiEntries.{AreFewMultis, multi_history}
 use Rattle.engine_parts.specs.declared.session.Session.{Session}
-use Rattle.session_promise.specs.Promise.{Promise, is_made_level, is_made_multi, recs_of}
+use Rattle.session_promise.specs.Promise.{IsMadeFor, Promise, is_made_level, is_made_multi, recs_of}
 use Rattle.session_promise.specs.Checkpoints.{AreCheckpointsTold}
 use Rattle.session_promise.specs.Dumps.{AreDumpsTold}
 use Rattle.session_promise.specs.Told.{Follow, ToldRound, all_lines, in_events, in_multis, steps_of, told_by}
@@ -30,6 +31,11 @@ pub record MayCallIn (start : Start) (lists : List (List Entry)) (n : ℕ) (s : 
   pub seen : pass.seen ≡ lists
   pub may : MayCall start pass n s
 
+-- where each round began, each multixact was done that a line of the rounds before it was given with `ok`
+abbrev pub AreMadeBefore : Start → List ToldRound → Type 0
+AreMadeBefore start rounds =
+    EachPlace rounds (λ before r. AllByRecursion (λ l. IsMadeFor start r.span.begun l.by.session l.reply) (all_lines before))
+
 -- All sessions of the life promise of their lines in its lists, in which its rounds stand one after another, and may
 -- call there.
 pub record IsOver (tells : Bool) (start : Start) (lists : List (List Entry)) (rounds : List ToldRound) : Type 0 where
@@ -37,6 +43,7 @@ pub record IsOver (tells : Bool) (start : Start) (lists : List (List Entry)) (ro
   pub lines : AllByRecursion (λ l. l.by.session < start.sessions) (all_lines rounds)
   pub places : Follow in_events 0 rounds (length (history lists))
   pub multi_places : Follow in_multis 0 rounds (length (multi_history lists))
+  pub made : AreMadeBefore start rounds
   pub each : (n : ℕ) → n < start.sessions → (s : Session) × Promise tells start lists n (told_by n rounds) s × MayCallIn start lists n s
 
 -- fewer than 2,900,000 of the commands make levels

@@ -1,7 +1,7 @@
 -- What a session promises of its own lines, whatever other sessions do between its critical sections.
 use Rattle.std.specs.Prelude.{◌≡◌, ℕ, ◌+◌, ◌<◌, ◌≤◌, Bool, true, List, [], ◌∷◌, ◌++◌, Contains, IsTrue, None, Some, drop, length, slice_get}
 use Rattle.std.specs.List.{AllByRecursion, count_by}
-use Rattle.notes.specs.Lists.{Knows, at, own}
+use Rattle.notes.specs.Lists.{Grows, Knows, at, own}
 use Rattle.tx_events.specs.declared.event.By.{By}
 use Rattle.tx_events.specs.declared.event.Event.{Event}
 use Rattle.tx_events.specs.declared.multi.Member.{Member}
@@ -106,9 +106,17 @@ IsRaisedAsTold tells start lists by (commands.MultiFreeze multi) replies.Done =
     → Contains (multi_history lists) (multis.Raise by multi offset) → IsRecordedIn start multi offset
 IsRaisedAsTold tells start lists by command reply = Unit {0}
 
+-- The command of the line began in these lists: in its round, with no multixact event of its own yet, and with each
+-- multixact done that the session's lines before it were given with `ok`.
+pub record HasBegun (start : Start) (begun : List (List Entry)) (n : ℕ) (before : List Line) (t : Told) : Type 0 where
+  pub kept : EngineInvariant start begun
+  pub in_round : Grows t.span.begun begun
+  pub unheard : (e : MultiEvent) → Contains (multi_history begun) e → multi_by e ≡ t.line.by → ⊥
+  pub made : AllByRecursion (λ l. IsMadeFor start begun n l.reply) before
+
 -- A line of the session n in these lists, given those of its lines before it: its number, its events of both histories,
 -- which stand in its round, that it is refused by how the session stood, or by the members that it names, exactly where
--- that stood so, its reply, and what it made.
+-- that stood so, where it began, its reply, and what it made.
 pub record IsToldWell (tells : Bool) (start : Start) (lists : List (List Entry)) (n : ℕ) (before : List Line) (t : Told)
     : Type 0 where
   pub own : t.line.by.session ≡ n
@@ -129,6 +137,7 @@ pub record IsToldWell (tells : Bool) (start : Start) (lists : List (List Entry))
       ≡ refused_by t.line.command (stance (history lists) before n) (pending_in stage)
   pub members : by_members t.line.reply ≡ refused_by_members t.line.command
   pub begun : List (List Entry)
+  pub began : HasBegun start begun n before t
   pub answer : MayAnswerIn tells start begun lists t.span t.line.by (stance (history lists) before n) stage
       t.line.command t.line.reply
   pub made : IsMadeFor start lists n t.line.reply

@@ -14,7 +14,7 @@ use Rattle.engine_parts.specs.declared.session.Stage.TheVariants as stages
 use Rattle.engine_parts.specs.Holds.{Knowledge}
 use Rattle.engine_parts.specs.Sessions.{by_at}
 use Rattle.session_levels.specs.Stands.{IsFresh}
-use Rattle.session_promise.specs.Closing.{IsOver, MayCallIn}
+use Rattle.session_promise.specs.Closing.{AreMadeBefore, IsOver, MayCallIn}
 use Rattle.session_promise.specs.Promise.{Answered, Promise}
 use Rattle.session_promise.specs.Rounds.{ArePartsOf, RoundPart, lines_of_parts, sessions_of}
 use Rattle.session_promise.specs.Told.{Follow, Span, Told, ToldRound, all_lines, between, in_events, in_multis, place_of, told_by, told_in}
@@ -49,7 +49,8 @@ PromiseThroughRound =
     → Promise tells start before n past old
     → Promise tells start after n (past ++ told_in (span_between before after) lines) new
 
--- Between two rounds each session of the life promises of its lines in all rounds, which stand one after another.
+-- Between two rounds each session of the life promises of its lines in all rounds, which stand one after another, and each
+-- of which found done what those before it made.
 pub record IsSoFar (tells : Bool) (start : Start) (lists : List (List Entry)) (sessions : List Session)
     (rounds : List ToldRound) : Type 0 where
   pub count : length sessions ≡ start.sessions
@@ -57,6 +58,7 @@ pub record IsSoFar (tells : Bool) (start : Start) (lists : List (List Entry)) (s
       → Promise tells start lists n (told_by n rounds) s
   pub places : Follow in_events 0 rounds (length (history lists))
   pub multi_places : Follow in_multis 0 rounds (length (multi_history lists))
+  pub made : AreMadeBefore start rounds
   pub lines : AllByRecursion (λ l. l.by.session < start.sessions) (all_lines rounds)
 
 -- so it is before the first round

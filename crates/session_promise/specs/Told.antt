@@ -1,6 +1,7 @@
 -- The lines that sessions told, with the places of their rounds.
 use Rattle.std.specs.Prelude.{◌≡◌, ℕ, ◌+◌, ◌≤◌, List, [], ◌∷◌, length, map}
 use Rattle.std.specs.List.{filter, flat_map}
+use Rattle.notes.specs.Lists.{Grows}
 use Rattle.tx_model.specs.declared.report.Line.{Line}
 use Rattle.tx_model.specs.declared.report.Step.{Step}
 use Rattle.tx_model.specs.declared.report.Step.TheVariants as steps
@@ -10,25 +11,29 @@ use Rattle.tx_core.specs.declared.entry.Entry.{Entry}
 use Rattle.tx_core.specs.Entries.{history}
 use Rattle.tx_core.specs.MultiEntries.{multi_history}
 
--- a place of both histories: behind so many events of each
+-- a place of both histories: behind so many events of each, with the lists as they stood there
 pub record Place : Type 0 where
+  pub lists : List (List Entry)
   pub events : ℕ
   pub multis : ℕ
 
 abbrev pub place_of : List (List Entry) → Place
-place_of lists = record { events = length (history lists); multis = length (multi_history lists) }
+place_of lists = record { lists = lists; events = length (history lists); multis = length (multi_history lists) }
 
 pub record IsNoLater (a b : Place) : Type 0 where
+  pub grown : Grows a.lists b.lists
   pub events : a.events ≤ b.events
   pub multis : a.multis ≤ b.multis
 
--- where a round stands in both histories
+-- where a round stands in both histories, and the lists as they stood where it began
 pub record Span : Type 0 where
+  pub begun : List (List Entry)
   pub events : RoundSpan
   pub multis : RoundSpan
 
 abbrev pub between : Place → Place → Span
 between from to = record {
+  begun = from.lists;
   events = record { from = from.events; to = to.events };
   multis = record { from = from.multis; to = to.multis };
 }

@@ -3,7 +3,7 @@ use Rattle.wal_core.specs.LogViews.{log_disk}
 use Rattle.tx_core.specs.declared.entry.Start.{Start}
 use Rattle.tx_events.proofs.Membership.{contains_has}
 use Rattle.engine_parts.specs.Sessions.{AreGivenBefore}
-use Rattle.engine_host.specs.Opening.{IsNewLog, ShowBeginning, life_from, nothing_before}
+use Rattle.engine_host.specs.Opening.{IsEmptyLog, ShowBeginning, life_from, nothing_before}
 use Rattle.engine_host.specs.Refused.{IsRefusal}
 use Rattle.engine_host.proofs.Counting.{all_counted}
 use Rattle.engine_host.proofs.Multis.{zeros_show_members, zeros_show_offsets}
@@ -14,7 +14,7 @@ use Rattle.engine_host.proofs.first_parts.open_new.Goals as goal
 -- the log behind the box is the one that was handed in
 pub begin_log-requires-clause-new : goal.begin_log-requires-clause-new
 begin_log-requires-clause-new g c =
-    subst (λ l. IsNewLog l) (sym (c.deref_mut-fresh.ensures.value ∙ c.in-Ok.ensures.ok)) c.requires.new
+    subst (λ l. IsEmptyLog l) (sym (c.deref_mut-fresh.ensures.value ∙ c.in-Ok.ensures.ok)) c.requires.new
 
 -- all pages are removed
 pub add_banks-requires : goal.add_banks-requires

@@ -41,7 +41,7 @@ use Rattle.life_law.specs.MultiPlaces.{has_multi_line, multi_span}
 use Rattle.life_law.specs.MultiStanding.{gave_multi}
 use Rattle.life_law.specs.Pending.{IsOpenAsTold, pending}
 use Rattle.life_law.specs.Worked.{by_at, its_name}
-use Rattle.worked_multis.specs.WorkedMultis.{IsLawfulWhereTold, as_written, both_records, committed_member, first_lines, its_base, its_events, its_multis, later_member, look_at, open_member, second_lines, worked_life}
+use Rattle.worked_multis.specs.WorkedMultis.{IsLawfulWhereTold, as_written, both_records, committed_member, first_lines, its_base, its_events, its_multis, later_member, look_at, lost_member, second_lines, worked_life}
 
 -- ---- its histories
 
@@ -85,7 +85,7 @@ not_warned by multi small w = early w.place w.given w.late
 -- ---- its log
 
 abbrev its_recs : List Rec
-its_recs = records.Checkpoint 0 its_base ∷ both_records
+its_recs = records.Checkpoint 2 its_base ∷ both_records
 
 abbrev IsMultiAt : ℕ → ℕ → Type 0
 IsMultiAt i multi = ((i ≡ 0) × (multi ≡ 1)) ⊎ ((i ≡ 1) × (multi ≡ 2))
@@ -95,12 +95,12 @@ number_in (records.Checkpoint number counters) = number
 number_in rec = 0
 
 abbrev first_record : Rec
-first_record = records.Multi 1 1 (committed_member ∷ open_member ∷ [])
+first_record = records.Multi 1 1 (committed_member ∷ lost_member ∷ [])
 
 abbrev second : Rec
 second = records.Multi 2 3 (later_member ∷ [])
 
-its_log : IsLogOf 0 its_base its_events all its_recs 1 62
+its_log : IsLogOf 2 its_base its_events all its_recs 3 142
 its_log = record {
   rest = both_records;
   split = refl;
@@ -134,8 +134,8 @@ its_log = record {
         (λ (a : (i ≡ 1) × (multi ≡ 2)). ⊎_elim (λ (b : (j ≡ 0) × (multi ≡ 1)). let x = a.1 in let y = b.1 in absurd (omega arith)) (λ (b : (j ≡ 1) × (multi ≡ 2)). a.0 ∙ sym b.0) l)
         k
 
-    own_number : (place number : ℕ) (counters : Counters) → slice_get its_recs place ≡ Some (records.Checkpoint number counters) → number ≡ 0 + place
-    own_number zero number counters e = let is : records.Checkpoint 0 its_base ≡ records.Checkpoint number counters = cc in sym (ap number_in is)
+    own_number : (place number : ℕ) (counters : Counters) → slice_get its_recs place ≡ Some (records.Checkpoint number counters) → number ≡ 2 + place
+    own_number zero number counters e = let is : records.Checkpoint 2 its_base ≡ records.Checkpoint number counters = cc in sym (ap number_in is)
     own_number (suc zero) number counters e = absurd cc
     own_number (suc (suc zero)) number counters e = absurd cc
     own_number (suc (suc (suc place))) number counters e = absurd cc
@@ -257,18 +257,18 @@ first_round = places (λ earlier. IsLawfulLine its_facts (span_of its_events [] 
       number = refl;
       events = refl;
       multi_events = (
-        (committed_member ∷ open_member ∷ [], refl),
+        (committed_member ∷ lost_member ∷ [], refl),
         record {
           multi = 1;
           offset = 1;
-          members = committed_member ∷ open_member ∷ [];
+          members = committed_member ∷ lost_member ∷ [];
           events_are = refl;
           told = (record { mode = refl; place = 0; read = (omega arith, omega arith); near = refl; normal = omega arith; given = omega arith }, (record { mode = refl; place = 0; read = (omega arith, omega arith); near = refl; normal = omega arith; given = omega arith }, tt));
         },
       );
       standing = refl;
       members = refl;
-      logged = (committed_member ∷ open_member ∷ [], (1, omega arith, refl));
+      logged = (committed_member ∷ lost_member ∷ [], (1, omega arith, refl));
       reply = (λ t. absurd (false≢true t), λ w. absurd (not_warned (by_at 0 2) 1 (omega arith) w));
     },
     (
@@ -290,7 +290,7 @@ first_round = places (λ earlier. IsLawfulLine its_facts (span_of its_events [] 
               multi = 1;
               pinned = 1;
               pin = refl;
-              members = committed_member ∷ open_member ∷ [];
+              members = committed_member ∷ lost_member ∷ [];
               has = inl (0, omega arith, record { by = by_at 0 2; offset = 1; stands = refl });
               each = (record { mode = refl; id = refl; verdict = refl }, (record { mode = refl; id = refl; verdict = refl }, tt));
             },
@@ -341,7 +341,7 @@ second_round = places (λ earlier. IsLawfulLine its_facts (span_of its_events fi
 
 abbrev its_steps : List Asked
 its_steps =
-    asked.round ((0, commands.Snap its_name) ∷ (0, commands.Multi (as_written committed_member ∷ as_written open_member ∷ [])) ∷ (0, look_at 1) ∷ [])
+    asked.round ((0, commands.Snap its_name) ∷ (0, commands.Multi (as_written committed_member ∷ as_written lost_member ∷ [])) ∷ (0, look_at 1) ∷ [])
     ∷ asked.round ((0, look_at 2) ∷ (1, commands.Multi (as_written later_member ∷ [])) ∷ []) ∷ []
 
 pub it_is_lawful : IsLawfulWhereTold worked_life

@@ -17,18 +17,18 @@ use Rattle.tx_model.specs.declared.reply.Verdict.TheVariants as verdicts
 use Rattle.tx_model.specs.declared.report.Step.TheVariants as steps
 use Rattle.life_law.specs.MultiLines.{AreVerdicts, IsGenOf, IsTold}
 use Rattle.life_law.specs.Worked.{by_at, line_of}
-use Rattle.worked_multis.specs.WorkedMultis.{WorkedMultis, as_written, committed_member, first_lines, its_base, its_events, its_multis, look_at, open_member, second_lines, second_record, seen_with}
+use Rattle.worked_multis.specs.WorkedMultis.{WorkedMultis, as_written, committed_member, first_lines, its_base, its_events, its_multis, look_at, lost_member, second_lines, second_record, seen_with}
 use Rattle.worked_multis.proofs.Told.{it_is_lawful}
 
--- the open member isn't visible to the snapshot that was taken first
+-- the id that was lost isn't visible to the snapshot that was taken first
 misjudged : (round : RoundSpan) (taken pinned multi place offset : ℕ) (snapped by : By) (name : List ℕ) (members : List Member) → slice_get its_events taken ≡ Some (events.Snap snapped name) → slice_get (its_multis 2) pinned ≡ Some (multis.Hold (by_at 0 3) multi)
     → place < pinned → slice_get (its_multis 2) place ≡ Some (multis.Gen by multi offset members)
-    → AllZip (IsTold its_base (3 ∷ []) its_events round taken) members (record { id = 3; mode = committed_member.mode; verdict = verdicts.Visible } ∷ record { id = 4; mode = open_member.mode; verdict = verdicts.Visible } ∷ []) → ⊥
+    → AllZip (IsTold its_base (3 ∷ []) its_events round taken) members (record { id = 3; mode = committed_member.mode; verdict = verdicts.Visible } ∷ record { id = 4; mode = lost_member.mode; verdict = verdicts.Visible } ∷ []) → ⊥
 misjudged round (suc taken) pinned multi place offset snapped by name members s p l g a = absurd cc
 misjudged round zero zero multi place offset snapped by name members s p l g a = absurd cc
 misjudged round zero (suc zero) multi zero offset snapped by name members s p l g a =
-    let is : committed_member ∷ open_member ∷ [] ≡ members = cc in
-    let told = subst (λ (ms : List Member). AllZip (IsTold its_base (3 ∷ []) its_events round 0) ms (record { id = 3; mode = committed_member.mode; verdict = verdicts.Visible } ∷ record { id = 4; mode = open_member.mode; verdict = verdicts.Visible } ∷ [])) (sym is) a in
+    let is : committed_member ∷ lost_member ∷ [] ≡ members = cc in
+    let told = subst (λ (ms : List Member). AllZip (IsTold its_base (3 ∷ []) its_events round 0) ms (record { id = 3; mode = committed_member.mode; verdict = verdicts.Visible } ∷ record { id = 4; mode = lost_member.mode; verdict = verdicts.Visible } ∷ [])) (sym is) a in
     false≢true told.1.0.verdict
 misjudged round zero (suc zero) multi (suc place) offset snapped by name members s p l g a = absurd (omega (arith, l))
 misjudged round zero (suc (suc zero)) multi place offset snapped by name members s p l g a = absurd cc
@@ -41,7 +41,7 @@ misjudged round zero (suc (suc (suc (suc zero)))) multi place offset snapped by 
 misjudged round zero (suc (suc (suc (suc (suc zero))))) multi place offset snapped by name members s p l g a = absurd cc
 misjudged round zero (suc (suc (suc (suc (suc (suc pinned)))))) multi place offset snapped by name members s p l g a = absurd cc
 
-verdicts_wrong : (round : RoundSpan) (number : ℕ) → AreVerdicts its_base (3 ∷ []) [] its_events (its_multis 2) round (by_at 0 3) number (record { id = 3; mode = committed_member.mode; verdict = verdicts.Visible } ∷ record { id = 4; mode = open_member.mode; verdict = verdicts.Visible } ∷ []) → ⊥
+verdicts_wrong : (round : RoundSpan) (number : ℕ) → AreVerdicts its_base (3 ∷ []) [] its_events (its_multis 2) round (by_at 0 3) number (record { id = 3; mode = committed_member.mode; verdict = verdicts.Visible } ∷ record { id = 4; mode = lost_member.mode; verdict = verdicts.Visible } ∷ []) → ⊥
 verdicts_wrong round number v = ⊎_elim
     (λ (gen : (place : ℕ) × (place < v.pinned) × IsGenOf (its_multis 2) v.multi v.members place).
     misjudged round v.taken v.pinned v.multi gen.0 gen.2.offset _ gen.2.by v.snapshot.0 v.members v.snapshot.1 v.pin gen.1 gen.2.stands v.each)
@@ -61,14 +61,14 @@ worked_multis = record {
   lawful = it_is_lawful;
   stale = λ w.
       let line = w.life.lawful.each 1 (steps.Round 2 (second_lines 1)) refl 0 (line_of 0 4 (look_at 1) (replies.Refused (refusals.NotYet 1))) refl in
-      ⊎_elim (λ (other : (0 ≢ 0) × (3 ≤ 0) × (0 < 6)). other.0 refl) (λ (q : true ≡ false). false≢true (sym q)) ((line.reply.1 refl).whose 0 1 (committed_member ∷ open_member ∷ []) (by_at 0 2) refl);
+      ⊎_elim (λ (other : (0 ≢ 0) × (3 ≤ 0) × (0 < 6)). other.0 refl) (λ (q : true ≡ false). false≢true (sym q)) ((line.reply.1 refl).whose 0 1 (committed_member ∷ lost_member ∷ []) (by_at 0 2) refl);
   misjudged = λ w.
       let line = w.life.lawful.each 0 (steps.Round 1 (first_lines verdicts.Visible)) refl 2 (line_of 0 3 (look_at 1) (seen_with verdicts.Visible)) refl in
       let told = line.reply.1 refl in
       verdicts_wrong (record { from = 0; to = 1 }) told.0 told.2;
   unlogged = λ w.
-      let line = w.life.lawful.each 0 (steps.Round 1 (first_lines verdicts.Hidden)) refl 1 (line_of 0 2 (commands.Multi (as_written committed_member ∷ as_written open_member ∷ [])) (replies.Multi 1 1 false)) refl in
-      ⊎_elim (λ (e : records.Checkpoint 0 its_base ≡ records.Multi 1 1 line.logged.0). cc)
+      let line = w.life.lawful.each 0 (steps.Round 1 (first_lines verdicts.Hidden)) refl 1 (line_of 0 2 (commands.Multi (as_written committed_member ∷ as_written lost_member ∷ [])) (replies.Multi 1 1 false)) refl in
+      ⊎_elim (λ (e : records.Checkpoint 2 its_base ≡ records.Multi 1 1 line.logged.0). cc)
       (λ t. ⊎_elim (λ (e : second_record ≡ records.Multi 1 1 line.logged.0). not_its line.logged.0 e) (λ none. none) t)
-      (contains_has (records.Checkpoint 0 its_base ∷ second_record ∷ []) (records.Multi 1 1 line.logged.0) line.logged.1);
+      (contains_has (records.Checkpoint 2 its_base ∷ second_record ∷ []) (records.Multi 1 1 line.logged.0) line.logged.1);
 }

@@ -1,6 +1,6 @@
--- A worked life with multixacts, and some that are wrong. It begins with the ids 3, which is committed, and 4. Session 0
--- takes a snapshot, makes a multixact of both, and sees them. In the second round session 1 makes one more, and session 0
--- looks at that before its offset is set.
+-- A worked life with multixacts, and some that are wrong. It goes on behind a life that gave the ids 3, which committed,
+-- and 4, which didn't. Session 0 takes a snapshot, makes a multixact of both, and sees them. In the second round session 1
+-- makes one more, and session 0 looks at that before its offset is set.
 use Rattle.std.specs.Prelude.{ℕ, true, false, List, [], ◌∷◌, None}
 use Rattle.tx_events.specs.Snapshots.{snapshot_data}
 use Rattle.tx_events.specs.declared.event.Event.{Event}
@@ -38,8 +38,8 @@ its_events = events.Snap (by_at 0 1) its_name ∷ []
 abbrev pub committed_member : Member
 committed_member = record { id = 3; mode = modes.KeySh }
 
-abbrev pub open_member : Member
-open_member = record { id = 4; mode = modes.NoKeyUpd }
+abbrev pub lost_member : Member
+lost_member = record { id = 4; mode = modes.NoKeyUpd }
 
 abbrev pub later_member : Member
 later_member = record { id = 4; mode = modes.Sh }
@@ -50,7 +50,7 @@ as_written member = record { x = record { number = member.id }; mode = member.mo
 abbrev pub look_at : ℕ → Command
 look_at multi = commands.SeeMulti its_name (record { number = multi })
 
--- what session 0 sees of the first multixact, with this verdict on the open member
+-- what session 0 sees of the first multixact, with this verdict on the id that was lost
 abbrev pub seen_with : Verdict → Reply
 seen_with verdict =
     replies.Verdicts (record { id = 3; mode = modes.KeySh; verdict = verdicts.Visible }
@@ -59,7 +59,7 @@ seen_with verdict =
 abbrev pub first_lines : Verdict → List Line
 first_lines verdict =
     line_of 0 1 (commands.Snap its_name) (replies.Snapped (snapshot_data 5 []))
-    ∷ line_of 0 2 (commands.Multi (as_written committed_member ∷ as_written open_member ∷ [])) (replies.Multi 1 1 false)
+    ∷ line_of 0 2 (commands.Multi (as_written committed_member ∷ as_written lost_member ∷ [])) (replies.Multi 1 1 false)
     ∷ line_of 0 3 (look_at 1) (seen_with verdict) ∷ []
 
 -- in the second round session 0 is told that this multixact isn't there yet
@@ -70,7 +70,7 @@ second_lines multi =
 
 abbrev pub its_multis : ℕ → List MultiEvent
 its_multis multi =
-    multis.Gen (by_at 0 2) 1 1 (committed_member ∷ open_member ∷ [])
+    multis.Gen (by_at 0 2) 1 1 (committed_member ∷ lost_member ∷ [])
     ∷ multis.Hold (by_at 0 3) 1 ∷ multis.Unhold (by_at 0 3) 1
     ∷ multis.Gen (by_at 1 1) 2 3 (later_member ∷ [])
     ∷ multis.Hold (by_at 0 4) multi ∷ multis.Unhold (by_at 0 4) multi ∷ []
@@ -79,21 +79,21 @@ abbrev pub second_record : Rec
 second_record = records.Multi 2 3 (later_member ∷ [])
 
 abbrev pub both_records : List Rec
-both_records = records.Multi 1 1 (committed_member ∷ open_member ∷ []) ∷ second_record ∷ []
+both_records = records.Multi 1 1 (committed_member ∷ lost_member ∷ []) ∷ second_record ∷ []
 
 -- the life with this verdict and this multixact that isn't there yet, and with these records behind the checkpoint
 abbrev pub life_with : Verdict → ℕ → List Rec → LifeReport
 life_with verdict multi recs = record {
   life = record {
-    from = 0;
+    from = 2;
     base = its_base;
     committed = 3 ∷ [];
     recorded = [];
     events = its_events;
     multis = its_multis multi;
-    recs = records.Checkpoint 0 its_base ∷ recs;
-    flushed = 1;
-    end = 62;
+    recs = records.Checkpoint 2 its_base ∷ recs;
+    flushed = 3;
+    end = 142;
   };
   steps = steps.Round 1 (first_lines verdict) ∷ steps.Round 2 (second_lines multi) ∷ [];
   crash = None;
@@ -106,7 +106,7 @@ worked_life = life_with verdicts.Hidden 2 both_records
 abbrev pub stale_life : LifeReport
 stale_life = life_with verdicts.Hidden 1 both_records
 
--- the open member is told as visible
+-- the id that was lost is told as visible
 abbrev pub misjudged_life : LifeReport
 misjudged_life = life_with verdicts.Visible 2 both_records
 

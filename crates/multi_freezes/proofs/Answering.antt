@@ -20,6 +20,7 @@ use Rattle.tx_model.specs.Replies.{alone}
 use Rattle.tx_model.specs.Stance.{Stance}
 use Rattle.life_law.specs.MultiLines.{HasMultiEvents, IsPinnedOrNext}
 use Rattle.life_law.specs.MultiPlaces.{MayReadMultis}
+use Rattle.life_law.specs.MultiReplies.{IsMultiNumber}
 use Rattle.life_law.specs.Refused.{by_standing}
 use Rattle.multi_store.specs.declared.answers.Held.{Held}
 use Rattle.tx_core.specs.declared.entry.Entry.{Entry}
@@ -119,14 +120,14 @@ module _ (tells : Bool) (start : Start) (begun mid lists : List (List Entry)) (b
         unrecorded = λ below. w.none.unrecorded;
       }
 
-  pub not_pinned_so : (r : Refusal) → 1 ≤ by.command → IsNotFrozenPinned tells start by mid lists h.multi r → IsFit tells start begun lists by s stage now h.multi r both_events
-  not_pinned_so (refusals.NotYet told) some i = record {
+  pub not_pinned_so : (r : Refusal) → IsMultiNumber h.multi → 1 ≤ by.command → IsNotFrozenPinned tells start by mid lists h.multi r → IsFit tells start begun lists by s stage now h.multi r both_events
+  not_pinned_so (refusals.NotYet told) number some i = record {
     events = refl;
-    answer = λ t. subst (WasNotYet start begun lists by) (sym i.0) (was_not_yet (i.1 t.0 t.2));
+    answer = (subst IsMultiNumber (sym i.0) number, λ t. subst (WasNotYet start begun lists by) (sym i.0) (was_not_yet (i.1 t.0 t.2)));
     free = refl;
     held = tt;
   }
-  not_pinned_so (refusals.Held limit) some i = record {
+  not_pinned_so (refusals.Held limit) number some i = record {
     events = inr refl;
     answer = record {
       place = i.place;
@@ -142,9 +143,9 @@ module _ (tells : Bool) (start : Start) (begun mid lists : List (List Entry)) (b
     free = refl;
     held = tt;
   }
-  not_pinned_so (refusals.DiskFault (locks.Offsets bank)) some i = record { events = refl; answer = (refl, i); free = refl; held = tt }
-  not_pinned_so refusals.Memory some i = record { events = inr refl; answer = refl; free = refl; held = tt }
-  not_pinned_so r some i = absurd i
+  not_pinned_so (refusals.DiskFault (locks.Offsets bank)) number some i = record { events = refl; answer = (refl, i); free = refl; held = tt }
+  not_pinned_so refusals.Memory number some i = record { events = inr refl; answer = refl; free = refl; held = tt }
+  not_pinned_so r number some i = absurd i
 
   -- one that was raised was pinned
   pub pinned_then : IsPinnedOrNext start.base (multi_history lists) by h.multi

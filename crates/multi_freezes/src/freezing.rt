@@ -159,6 +159,7 @@ pub fn multi_freeze<R: Passing, L: LogDisk, P: PageDisk>(
         (multis.Raise (by_at caller.old.number (next_command caller.old)) multi offset)
         → (members : List Member) × Contains (start_of hall.now).recorded (records.Multi multi offset members)) }
 {
+    let _multi = multi.number();
     count(caller);
     let freezing = match start_freeze(rt, hall, caller, multi) {
         Ok(freezing) => freezing,

@@ -1,5 +1,6 @@
 -- What the two reads of offsets tell.
 use Rattle.std.proofs.Common.{IsTrue, List, [], None, Option, ap, append-nil, arith, length, length-append, refl, subst, suc, sym, ℕ, ⊎_elim, ◌++◌, ◌∷◌, ◌+◌, ◌<◌, ◌^◌, ◌∙◌, ◌≡◌, ◌≤◌, Contains}
+use Rattle.std.proofs.lemmas.Bool.Decides.{nat_tests}
 use Rattle.std.proofs.lemmas.List.Elements.{filter_map-append}
 use Rattle.std.proofs.lemmas.List.Sums.{fold_push}
 use Rattle.tx_events.specs.Base.{IsBase}
@@ -13,6 +14,7 @@ use Rattle.tx_events.specs.Multis.{AreLegalMultis, InBase, IsNextMade, MultiMayC
 use Rattle.tx_events.proofs.ListSteps.{le_or_over}
 use Rattle.tx_events.proofs.Membership.{Has, by_end}
 use Rattle.tx_events.proofs.PlaceLemmas.{each_place_last, each_place_start}
+use Rattle.life_law.specs.MultiReplies.{IsMultiNumber}
 use Rattle.tx_core.specs.declared.entry.Entry.{Entry}
 use Rattle.tx_core.specs.declared.entry.Start.{Start}
 use Rattle.tx_core.specs.EngineInvariant.{EngineInvariant}
@@ -88,6 +90,9 @@ module _ (start : Start) (lists : List (List Entry)) (k : EngineInvariant start 
       subst (IsWanting start lists held) (sym is) (next_wanting t offset from has not_last (subst (λ z. IsOffsetRead start lists z None) is (read (omega (arith, from, above, is)))))
 
 -- ---- how large numbers are
+
+pub next_number : (n : ℕ) → n < 2 ^ 63 → IsMultiNumber (next_multi n)
+next_number n small = (grind (arith, nat_tests), grind arith)
 
 multis_small : (base : Counters) (h : List MultiEvent) → IsBase base → AreLegalMultis base (InBase base) h → (next_made base.multi h < 2 ^ 63) × (free_offset base.offset h < 2 ^ 63)
 multis_small base h is = by_end (λ h. AreLegalMultis base (InBase base) h → (next_made base.multi h < 2 ^ 63) × (free_offset base.offset h < 2 ^ 63))

@@ -35,6 +35,7 @@ use Rattle.tx_model.specs.Replies.{alone}
 use Rattle.tx_model.specs.Stance.{snap_of}
 use Rattle.life_law.specs.MultiLines.{HasMembers, HasMultiEvents, IsMultiFuture}
 use Rattle.life_law.specs.MultiPlaces.{MayReadMultis, recorded_by}
+use Rattle.life_law.specs.MultiReplies.{IsOfId}
 use Rattle.life_law.specs.Refused.{by_standing, refused_by}
 use Rattle.tx_core.specs.declared.entry.Entry.{Entry}
 use Rattle.tx_core.specs.declared.entry.Start.{Start}
@@ -165,7 +166,7 @@ module _ (tells : Bool) (start : Start) (n : ℕ) (s : Session) (name : List ℕ
 
   -- it was pinned, and its offset was wanting, or a volume failed
   pub unseen_answer : (r : Refusal) (multi : ℕ) → PinsOnce start n s m.number lists more multi → IsUnseen start (IsTrue tells) lists more by r → Answer tells start n s name m lists more (pinned multi) (replies.Refused r)
-  unseen_answer (refusals.NotYet next) multi p u = record { allowed = λ t. u t.0 t.2; free = refl; fitting = (p.place, multi, (multi, p.stands), p.near, refl); held = λ new. tt }
+  unseen_answer (refusals.NotYet next) multi p u = record { allowed = (u.0, λ t. u.1 t.0 t.2); free = refl; fitting = (p.place, multi, (multi, p.stands), p.near, refl); held = λ new. tt }
   unseen_answer (refusals.DiskFault (locks.Offsets bank)) multi p u = record { allowed = (refl, u); free = refl; fitting = (p.place, multi, (multi, p.stands), p.near, refl); held = λ new. tt }
   unseen_answer (refusals.DiskFault (locks.Members bank)) multi p u = record { allowed = (refl, u); free = refl; fitting = (p.place, multi, (multi, p.stands), p.near, refl); held = λ new. tt }
   unseen_answer r multi p u = absurd u
@@ -198,25 +199,28 @@ module _ (tells : Bool) (start : Start) (n : ℕ) (s : Session) (name : List ℕ
 
   -- the verdicts
   pub seen_answer : (multi : ℕ) (read : RegisteredSnapshot) (slots : List Slot) (vs : List MemberVerdict) → PinsOnce start n s m.number lists more multi → IsRegistered start.base (history more) n read → snap_of name (stance_of s) ≡ Some read.command
-      → (IsTrue tells → AreFewMultis more → AreItsSlots start more multi slots) → (IsTrue tells → AreFewIds more → AreJudged start more read (filter_map pair_in slots) vs)
+      → (IsTrue tells → AreFewMultis more → AreItsSlots start more multi slots) → (IsTrue tells → AreFewIds more → AreJudged start more read (filter_map pair_in slots) vs) → AllByRecursion IsOfId vs
       → Answer tells start n s name m lists more (pinned multi) (replies.Verdicts vs)
-  seen_answer multi read slots vs p r snap its judged = record {
-    allowed = λ t.
-        let i = its t.0 t.2 in (
-          read.command,
-          snap,
-          record {
-            taken = read.place;
-            snapshot = (read.name, r.taken);
-            multi = multi;
-            pinned = p.place;
-            pin = p.stands;
-            members = i.members;
-            has = has_members multi i.members p i.has;
-            each = all_told start more (length (history lists)) n read r i.members vs (λ id h. i.full id (has_contains (ids_of i.members) id h))
-                (subst (λ (t : List Pair). AreJudged start more read t vs) i.shown (judged t.0 t.1));
-          },
-        );
+  seen_answer multi read slots vs p r snap its judged ranges = record {
+    allowed = (
+      ranges,
+      λ t.
+          let i = its t.0 t.2 in (
+            read.command,
+            snap,
+            record {
+              taken = read.place;
+              snapshot = (read.name, r.taken);
+              multi = multi;
+              pinned = p.place;
+              pin = p.stands;
+              members = i.members;
+              has = has_members multi i.members p i.has;
+              each = all_told start more (length (history lists)) n read r i.members vs (λ id h. i.full id (has_contains (ids_of i.members) id h))
+                  (subst (λ (t : List Pair). AreJudged start more read t vs) i.shown (judged t.0 t.1));
+            },
+          ),
+    );
     free = refl;
     fitting = (p.place, multi, (multi, p.stands), p.near, refl);
     held = λ new. tt;

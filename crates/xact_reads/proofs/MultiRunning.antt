@@ -1,6 +1,6 @@
 -- What a look at a multixact's members did, by what its steps did.
 use Rattle.std.proofs.Common.{Err, IsTrue, List, None, Ok, Some, [], ap, append-nil, inl, refl, sym, subst, ⊎_elim, ℕ, ◌∙◌, ◌∷◌, ◌≡◌}
-use Rattle.std.specs.List.{filter, filter_map}
+use Rattle.std.specs.List.{AllByRecursion, filter, filter_map}
 use Rattle.disk_core.specs.declared.log_disk.LogDisk as logs
 use Rattle.disk_core.specs.declared.page_disk.PageDisk as disks
 use Rattle.hall.specs.declared.hall.Hall.{Hall}
@@ -17,6 +17,7 @@ use Rattle.tx_model.specs.declared.command.Command.TheVariants as commands
 use Rattle.tx_model.specs.declared.reply.MemberVerdict.{MemberVerdict}
 use Rattle.tx_model.specs.declared.reply.Reply.TheVariants as replies
 use Rattle.tx_model.specs.Stance.{snap_of}
+use Rattle.life_law.specs.MultiReplies.{IsOfId}
 use Rattle.life_law.specs.Refused.{by_standing, refused_by}
 use Rattle.tx_core.specs.declared.entry.Entry.{Entry}
 use Rattle.tx_core.specs.declared.entry.Start.{Start}
@@ -122,12 +123,12 @@ module _ {H L P : Type 0} {l : logs.Ghosts L} {p : disks.Ghosts P} (hall : Hall 
 
       -- and each one was judged
       pub ran_judged : (read : RegisteredSnapshot) (vs : List MemberVerdict) → Adds (by_at u.number u.session.levels.commands) IsPlain (view u.pass).seen (view new.pass).seen → IsRegistered (start_of hall).base (history (view new.pass).seen) u.number read → snap_of name (stance_of u.session) ≡ Some read.command
-          → (IsTrue p.tells → AreFewIds (view new.pass).seen → AreJudged (start_of hall) (view new.pass).seen read (filter_map pair_in slots) vs) → Ran hall (next_command old) (commands.SeeMulti name m) (replies.Verdicts vs) old new
-      ran_judged read vs adds r snap judged =
+          → (IsTrue p.tells → AreFewIds (view new.pass).seen → AreJudged (start_of hall) (view new.pass).seen read (filter_map pair_in slots) vs) → AllByRecursion IsOfId vs → Ran hall (next_command old) (commands.SeeMulti name m) (replies.Verdicts vs) old new
+      ran_judged read vs adds r snap judged ranges =
           let v = (view u.pass).seen in
           let w = (view new.pass).seen in
           let once = once_later (start_of hall) u.number u.session m.number v (view mid.pass).seen w reads.0 reads.1 went in
           let wide = adds_wider (by_at u.number u.session.levels.commands) IsPlain _ v w (plain_leaves (commands.SeeMulti name m) (stance_of u.session) u.session.stage (open_ids u.number (history v)) (replies.Verdicts vs)) adds in
           ran_seen hall old u new name m (replies.Verdicts vs) (multis.Hold (by_at u.number u.session.levels.commands) reads.0 ∷ multis.Unhold (by_at u.number u.session.levels.commands) reads.0 ∷ []) c may own ready once.went same number (refl, (refl, tt)) wide standing
           (seen_answer p.tells (start_of hall) u.number u.session name m v w once.went.grows ready.at.kept reads.0 read slots vs once r snap
-          (λ yes few. its_later (start_of hall) (view mid.pass).seen w reads.0 slots went.grows (reads.2 yes (few_multis_before (view mid.pass).seen w went.grows few))) judged)
+          (λ yes few. its_later (start_of hall) (view mid.pass).seen w reads.0 slots went.grows (reads.2 yes (few_multis_before (view mid.pass).seen w went.grows few))) judged ranges)

@@ -92,20 +92,23 @@ module _ (start : Start) (n : ℕ) (s : Session) (m : ℕ) (v a : List (List Ent
 
   -- why its members weren't read
   pub unread_unseen : (told : Type 0) (b w : List (List Entry)) (full : IsFullMulti held.multi) (r : Refusal) → Grows a b → Grows b w → WentMulti n (hold ∷ []) v a → IsNotRead start told b (by_at n s.levels.commands) held r → IsUnseen start told v w (by_at n s.levels.commands) r
-  unread_unseen told b w full (refusals.NotYet multi) first second went u = λ yes few.
-      let no = u yes (few_multis_before b w second few) in
-      record {
-        seen = b;
-        from = grows_then v a b went.grows first;
-        upto = second;
-        pinned = length before;
-        asked = held.multi;
-        stands = pin_stands b first;
-        from_asked = no.from;
-        below = subst (λ (h : List MultiEvent). multi < next_made start.base.multi h) (sym (pin_front b first)) (no.below (record { before = before; begins = (hold ∷ (multis_grow a b first).0, whole b first); m = m; pinned = t.4; full = full }));
-        unset = no.none.unset;
-        unrecorded = λ old offset members. no.none.unrecorded offset members;
-      }
+  unread_unseen told b w full (refusals.NotYet multi) first second went u = (
+    u.0,
+    λ yes few.
+        let no = u.1 yes (few_multis_before b w second few) in
+        record {
+          seen = b;
+          from = grows_then v a b went.grows first;
+          upto = second;
+          pinned = length before;
+          asked = held.multi;
+          stands = pin_stands b first;
+          from_asked = no.from;
+          below = subst (λ (h : List MultiEvent). multi < next_made start.base.multi h) (sym (pin_front b first)) (no.below (record { before = before; begins = (hold ∷ (multis_grow a b first).0, whole b first); m = m; pinned = t.4; full = full }));
+          unset = no.none.unset;
+          unrecorded = λ old offset members. no.none.unrecorded offset members;
+        },
+  )
   unread_unseen told b w full (refusals.DiskFault (locks.Offsets bank)) first second went u = met_later b w (offsets_lock bank) (by_at n s.levels.commands) second u
   unread_unseen told b w full (refusals.DiskFault (locks.Members bank)) first second went u = met_later b w (members_lock bank) (by_at n s.levels.commands) second u
   unread_unseen told b w full r first second went u = absurd u

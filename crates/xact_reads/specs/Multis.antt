@@ -20,6 +20,7 @@ use Rattle.tx_model.specs.declared.command.Pair.{Pair}
 use Rattle.tx_model.specs.declared.reply.MemberVerdict.{MemberVerdict}
 use Rattle.tx_model.specs.declared.reply.Verdict.{Verdict}
 use Rattle.tx_model.specs.declared.reply.Verdict.TheVariants as verdicts
+use Rattle.life_law.specs.MultiReplies.{IsMultiNumber}
 use Rattle.multi_members.specs.declared.slot.Slot.{Slot}
 use Rattle.multi_members.specs.declared.slot.Slot.TheVariants as found
 use Rattle.multi_store.specs.declared.answers.Held.{Held}
@@ -64,7 +65,7 @@ pub record IsWanting (start : Start) (lists : List (List Entry)) (held : Held) (
 -- why the members weren't read: an offset is wanting, or a volume failed
 abbrev pub IsNotRead : Start → Type 0 → List (List Entry) → By → Held → Refusal → Type 0
 IsNotRead start told lists by held (refusals.NotYet multi) =
-    told → AreFewMultis lists → IsWanting start lists held multi
+    IsMultiNumber multi × (told → AreFewMultis lists → IsWanting start lists held multi)
 IsNotRead start told lists by held r = IsMultiFault lists by r
 
 -- The low halves that were read are of the offset of the multixact, and of that of the one behind it; of the last one it is
@@ -162,7 +163,8 @@ pub record PinsOnce (start : Start) (n : ℕ) (s : Session) (m : ℕ) (lists mor
 
 -- why no slot was read of what was pinned
 abbrev pub IsUnseen : Start → Type 0 → List (List Entry) → List (List Entry) → By → Refusal → Type 0
-IsUnseen start told lists more by (refusals.NotYet multi) = told → AreFewMultis more → WasNotYet start lists more by multi
+IsUnseen start told lists more by (refusals.NotYet multi) =
+    IsMultiNumber multi × (told → AreFewMultis more → WasNotYet start lists more by multi)
 IsUnseen start told lists more by r = IsMultiFault more by r
 
 -- The slots of the multixact's members were read; or it was pinned and an offset was wanting, or a volume failed; or the

@@ -1,8 +1,10 @@
 //! The verdicts on a multixact's members.
-ghost use Rattle.std.specs.Prelude.{◌≡◌, ℕ, ◌+◌, ◌*◌, ◌<◌, ◌≤◌, [], IfErr, IfOk, IsTrue, OnOk, Some, cond, length, vec_capacity};
-ghost use Rattle.std.specs.List.{filter_map};
+ghost use Rattle.std.specs.Prelude.{◌≡◌, ℕ, ◌+◌, ◌*◌, ◌^◌, ◌<◌, ◌≤◌, [], IfErr, IfOk, IsTrue, OnOk, Some, cond, length, vec_capacity};
+ghost use Rattle.std.specs.List.{AllByRecursion, filter_map};
 ghost use Rattle.hall.specs.Calls.{view, IsOf, start_of};
+ghost use Rattle.tx_events.specs.Ids.{IsXidNumber};
 ghost use Rattle.tx_model.specs.declared.reply.Verdict.TheVariants as verdicts;
+ghost use Rattle.life_law.specs.MultiReplies.{IsOfId};
 ghost use Rattle.tx_core.specs.Entries.{AreFewIds};
 ghost use Rattle.session_levels.specs.declared.session.RegisteredSnapshot.{RegisteredSnapshot};
 ghost use Rattle.bank_sections.specs.Faults.{IsBankFault};
@@ -25,12 +27,20 @@ use tx_model::{MemberVerdict, Verdict};
 
 /// The id of the first epoch.
 fn lone(x: Xid) -> FullXid
-    ensures { result ≡ x.number }
+    ensures value { result ≡ x.number }
+    ensures number { (result < 2 ^ 64) × IsXidNumber result }
 {
     match FullXid::new(u64::from(x.number)) {
         Some(id) => id,
         None => unreachable!(),
     }
+}
+
+/// The number of an id has 64 bits and is an id's.
+fn known(id: FullXid)
+    ensures { (id < 2 ^ 64) × IsXidNumber id }
+{
+    let _number = id.number();
 }
 
 fn verdict_on(shown: bool) -> Verdict
@@ -120,6 +130,7 @@ fn judge<R: Passing, L: LogDisk, P: PageDisk>(
         (IsJudgedNormal (start_of hall.now) (view caller.new.pass).seen k (record { x = x; mode = mode })) }
     ensures fault { IfErr result (IsBankFault (view caller.new.pass).seen
         (by_at caller.old.number caller.old.session.levels.commands)) }
+    ensures ranges { IfOk result IsOfId }
     ensures same { (caller.new.session ≡ caller.old.session) × (caller.new.number ≡ caller.old.number) }
 {
     if x.number < 3 {
@@ -139,6 +150,7 @@ fn judge<R: Passing, L: LogDisk, P: PageDisk>(
         }
         Some(glance) => {
             let id = glance.id;
+            known(id);
             match judge_glance(rt, hall, caller, banks, name, glance, oldest) {
                 Ok(verdict) => Ok(MemberVerdict { id, mode, verdict }),
                 Err(refusal) => Err(refusal),
@@ -175,6 +187,7 @@ fn judge_slot<R: Passing, L: LogDisk, P: PageDisk>(
     ensures said { IsTrue P.tells → AreFewIds (view caller.new.pass).seen → (k : RegisteredSnapshot)
         → IsNamed caller.old.session.levels name.now k → OnOk result
         (JudgesSlot (start_of hall.now) (view caller.new.pass).seen k (pair_in slot) into.old.items into.new.items) }
+    ensures ranges { AllByRecursion IsOfId into.old.items → AllByRecursion IsOfId into.new.items }
     ensures long { length into.new.items ≤ length into.old.items + 1 }
     ensures room { vec_capacity into.new ≡ vec_capacity into.old }
     ensures fault { IfErr result (IsBankFault (view caller.new.pass).seen
@@ -221,6 +234,7 @@ pub(crate) fn judge_all<R: Passing, L: LogDisk, P: PageDisk>(
         (AreJudged (start_of hall.now) (view caller.new.pass).seen k (filter_map pair_in slots.now) into.new.items) }
     ensures fault { IfErr result (IsBankFault (view caller.new.pass).seen
         (by_at caller.old.number caller.old.session.levels.commands)) }
+    ensures ranges { AllByRecursion IsOfId into.new.items }
     ensures same { (caller.new.session ≡ caller.old.session) × (caller.new.number ≡ caller.old.number) }
 {
     let oldest = read_oldest(rt, hall, caller);

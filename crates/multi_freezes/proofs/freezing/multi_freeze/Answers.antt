@@ -1,4 +1,4 @@
-use Rattle.std.proofs.Common.{◌≡◌, ⊎_elim, inl, inr, ℕ, ◌+◌, ◌<◌, ◌≤◌, [], ◌∷◌, Contains, List, Ok, ap, arith, refl, subst, sym}
+use Rattle.std.proofs.Common.{◌≡◌, ⊎_elim, inl, inr, ℕ, ◌+◌, ◌<◌, ◌≤◌, [], ◌∷◌, Contains, List, Ok, ap, arith, refl, subst, sym, ◌∙◌}
 use Rattle.hall.specs.Calls.{view, start_of}
 use Rattle.tx_events.proofs.Membership.{Has}
 use Rattle.tx_events.specs.Ids.{low_half}
@@ -12,6 +12,7 @@ use Rattle.tx_events.specs.declared.multi.MultiEvent.TheVariants as multis
 use Rattle.tx_model.specs.declared.command.Command.TheVariants as commands
 use Rattle.tx_model.specs.declared.reply.Reply.TheVariants as replies
 use Rattle.life_law.specs.MultiLines.{IsPinnedOrNext}
+use Rattle.life_law.specs.MultiReplies.{IsMultiNumber}
 use Rattle.tx_core.specs.declared.entry.Entry.{Entry}
 use Rattle.tx_core.specs.declared.entry.Kind.{Kind}
 use Rattle.tx_core.specs.Entries.{history}
@@ -191,8 +192,9 @@ returns-in-Err-freeze_pinned-clause-ran g c =
     visited_then hall c.args.banks IsPlain (MayMeet refusal) (May h.multi) (hold ∷ []) (unhold_event mid.number mid.session h.multi ∷ []) u mid w (plain_leaves (commands.MultiFreeze h.multi) (stance_of u.session) u.session.stage (open_ids u.number (history (view u.pass).seen)) reply) (met_leaves (commands.MultiFreeze h.multi) (stance_of u.session) u.session.stage (open_ids u.number (history (view u.pass).seen)) refusal) first r.0 in
     let named : Visited hall c.args.banks (May h.multi) (multis.Hold by h.multi ∷ multis.Unhold by h.multi ∷ []) u w =
     subst (λ (z : By). Visited hall c.args.banks (May h.multi) (hold ∷ multis.Unhold z h.multi ∷ []) u w) (λ j. by_at (first.number j) (ap (λ (s : Session). s.levels.commands) first.session j)) all in
+    let number = subst IsMultiNumber (c.number-multi.ensures.value ∙ sym same) (omega arith, c.number-multi.ensures.form) in
     let some : 1 ≤ u.session.levels.commands = let counted : u.session.levels.commands ≡ old.session.levels.commands + 1 = ap (λ z. z.commands) c.count.ensures.levels in omega (arith, counted) in
     let cause = subst (λ (z : By). IsNotFrozenPinned g.P.PageDisk.tells start z (view mid.pass).seen (view w.pass).seen h.multi refusal) (λ j. by_at (first.number j) (ap (λ (s : Session). s.levels.commands) first.session j)) r.1 in
-    let fit = not_pinned_so g.P.PageDisk.tells start (view u.pass).seen (view mid.pass).seen (view w.pass).seen by (stance_of u.session) u.session.stage w.session.stage h starts.3 starts.0.grows r.0.went.grows starts.4.split (subst (λ m. IsPinned start.base starts.3 (low_half m) h) (sym same) starts.5) refusal some cause in
+    let fit = not_pinned_so g.P.PageDisk.tells start (view u.pass).seen (view mid.pass).seen (view w.pass).seen by (stance_of u.session) u.session.stage w.session.stage h starts.3 starts.0.grows r.0.went.grows starts.4.split (subst (λ m. IsPinned start.base starts.3 (low_half m) h) (sym same) starts.5) refusal number some cause in
     subst (λ m. Ran hall (next_command old) (commands.MultiFreeze m) reply old w) same
     (ran_multi hall (multis.Hold by h.multi ∷ multis.Unhold by h.multi ∷ []) old u w (commands.MultiFreeze h.multi) reply c.count.ensures named (refl, (refl, tt)) refl fit.events fit.answer fit.free refl refl refl fit.held fit.free)

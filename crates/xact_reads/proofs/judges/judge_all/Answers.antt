@@ -1,8 +1,9 @@
 use Rattle.std.proofs.Common.{List, [], ap, arith, length, subst, sym, take, take_all, ◌+◌, ◌∙◌, ◌≡◌, ◌≤◌, ℕ}
-use Rattle.std.specs.List.{filter_map}
+use Rattle.std.specs.List.{AllByRecursion, filter_map}
 use Rattle.hall.specs.Calls.{view, start_of}
 use Rattle.multi_members.specs.declared.slot.Slot.{Slot}
 use Rattle.tx_model.specs.declared.reply.MemberVerdict.{MemberVerdict}
+use Rattle.life_law.specs.MultiReplies.{IsOfId}
 use Rattle.engine_parts.specs.Adding.{IsPlain, MayMeet}
 use Rattle.engine_parts.proofs.Adding.{plain_meets}
 use Rattle.engine_parts.proofs.Answering.{few_before}
@@ -32,6 +33,7 @@ loop-place-init g c =
       within = omega arith;
       room = (let none : length c.args.into.now.items ≡ 0 = ap (λ (xs : List MemberVerdict). length xs) c.requires.none in let room = c.requires.room in omega (arith, none, room));
       said = λ told few k named. subst (λ (xs : List MemberVerdict). AreJudged start (view u.pass).seen k [] xs) (sym c.requires.none) tt;
+      ranges = subst (AllByRecursion IsOfId) (sym c.requires.none) tt;
       adds = look_adds start (view old.pass) (view u.pass) old.number old.session IsPlain c.requires.ready.at tt e.section;
     }
 
@@ -40,6 +42,9 @@ returns-in-Err-clause-went g c =
     let u = c.loop-place.caller in
     let i = c.loop-place.invariant in
     went_both c.args.caller.now.number u.number (view c.args.caller.now.pass).seen (view u.pass).seen (view c.judge_slot.new.caller.pass).seen i.same.1 i.went c.in-Err.ensures.went
+
+pub returns-in-Err-clause-ranges : goal.returns-in-Err-clause-ranges
+returns-in-Err-clause-ranges g c = c.in-Err.ensures.ranges c.loop-place.invariant.ranges
 
 pub returns-in-Err-clause-adds : goal.returns-in-Err-clause-adds
 returns-in-Err-clause-adds g c =
@@ -73,6 +78,7 @@ loop-place-preserved g c =
           let one = e.said told few k (subst (λ (s : Session). IsNamed s.levels c.args.name.now k) (sym i.same.0) named) in
           subst (λ (t : List Slot). AreJudged start (view w.pass).seen k (filter_map pair_in t) c.judge_slot.new.into.items) (sym (next_place c.args.slots.now c.loop-place.place _ inside))
           (judged_slot start (view w.pass).seen k (take c.loop-place.place c.args.slots.now) _ c.loop-place.into.items c.judge_slot.new.into.items before one);
+      ranges = e.ranges i.ranges;
       adds = read_adds old.number u.number old.session u.session IsPlain (view old.pass).seen (view u.pass).seen (view w.pass).seen i.same.1 i.same.0 (λ lock kind m. m) i.adds e.adds;
     }
 

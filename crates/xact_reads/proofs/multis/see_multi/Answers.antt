@@ -79,7 +79,7 @@ returns-in-Ok-judge_all g c =
     mid new c.read_pinned.new.into.items f.own f.ready same number e.reads went k c.judge_all.new.into.items adds
     (named_at start (view new.pass) u.number u.session name k (at_same start (view new.pass) u.number new.number u.session new.session number same f.ready) named).0
     (snap_found name (stance_of u.session).levels u.session.levels.registered.items k named)
-    (λ told few. subst (λ (t : List Slot). AreJudged start (view new.pass).seen k (filter_map pair_in t) c.judge_all.new.into.items) c.deref.ensures.value (f.said told few k (subst (λ (s : Session). IsNamed s.levels name k) (sym e.same.0) named))))
+    (λ told few. subst (λ (t : List Slot). AreJudged start (view new.pass).seen k (filter_map pair_in t) c.judge_all.new.into.items) c.deref.ensures.value (f.said told few k (subst (λ (s : Session). IsNamed s.levels name k) (sym e.same.0) named))) f.ranges)
 
 pub returns : goal.returns
 returns g c =

@@ -3,11 +3,12 @@ use Rattle.std.proofs.lemmas.Bool.{false≢true}
 use Rattle.hall.specs.Calls.{view, start_of}
 use Rattle.tx_events.specs.Ids.{low_half, next_multi}
 use Rattle.tx_events.specs.declared.refusal.Refusal.TheVariants as refusals
+use Rattle.life_law.specs.MultiReplies.{IsMultiNumber}
 use Rattle.engine_parts.specs.Adding.{IsPlain, MayMeet}
 use Rattle.engine_parts.proofs.Adding.{adds_wider, plain_meets}
 use Rattle.engine_parts.specs.Sessions.{by_at}
 use Rattle.multi_banks.specs.Offsets.{IsOffsetRead}
-use Rattle.xact_reads.proofs.Ending.{first_found, first_wanting, next_read, next_unread, pinned_small}
+use Rattle.xact_reads.proofs.Ending.{first_found, first_wanting, next_number, next_read, next_unread, pinned_small}
 use Rattle.xact_reads.proofs.Going.{read_adds}
 use Rattle.xact_reads.proofs.Once.{few_multis_before}
 use Rattle.xact_reads.proofs.Pinning.{multi_both, pinned_from, pinned_later, pins_kept}
@@ -20,14 +21,17 @@ returns-in-Ok-None-clause-adds g c =
     adds_wider (by_at old.number old.session.levels.commands) IsPlain (MayMeet (refusals.NotYet c.args.held.now.multi)) (view old.pass).seen (view c.offset_of.new.caller.pass).seen (plain_meets (refusals.NotYet c.args.held.now.multi)) c.in-Ok-None.ensures.adds
 
 pub returns-in-Ok-None-clause-unread : goal.returns-in-Ok-None-clause-unread
-returns-in-Ok-None-clause-unread g c told few =
+returns-in-Ok-None-clause-unread g c =
     let start = start_of c.args.hall.now in
     let old = c.args.caller.now in
     let u = (view c.offset_of.new.caller.pass).seen in
     let e = c.in-Ok-None.ensures in
     let p = pinned_later start (view old.pass).seen u c.args.held.now e.went.grows c.requires.pinned in
     let from = pinned_from start u old.number c.args.held.now.multi e.ready.at.kept (pins_kept old.number c.args.held.now.multi (view old.pass).seen u e.went c.requires.pins) in
-    first_wanting start u e.ready.at.kept e.ready.at.base few c.args.held.now p from (subst (IsOffsetRead start u c.args.held.now.multi) c.in-Ok-None.field-0-is (e.offset told from))
+    let small = pinned_small start u c.args.held.now e.ready.at.base e.ready.at.kept p in (
+      (omega (arith, small), p.full),
+      λ told few. first_wanting start u e.ready.at.kept e.ready.at.base few c.args.held.now p from (subst (IsOffsetRead start u c.args.held.now.multi) c.in-Ok-None.field-0-is (e.offset told from)),
+    )
 
 pub returns-then-held-clause-ends : goal.returns-then-held-clause-ends
 returns-then-held-clause-ends g c told few =
@@ -120,7 +124,7 @@ returns-in-Ok-Some-offset_of-clause-ends g c told few =
     }
 
 pub returns-in-Ok-None-offset_of-clause-unread : goal.returns-in-Ok-None-offset_of-clause-unread
-returns-in-Ok-None-offset_of-clause-unread g c told few =
+returns-in-Ok-None-offset_of-clause-unread g c =
     let start = start_of c.args.hall.now in
     let held = c.args.held.now in
     let old = c.args.caller.now in
@@ -129,12 +133,15 @@ returns-in-Ok-None-offset_of-clause-unread g c told few =
     let w = (view c.offset_of-2.new.caller.pass).seen in
     let e = c.in-Ok-Some.ensures in
     let f = c.in-Ok-None-offset_of.ensures in
-    let few_then = few_multis_before u w f.went.grows few in
     let went = multi_both old.number c.offset_of.new.caller.number v u w e.same.1 e.went f.went in
     let p = pinned_later start v u held e.went.grows c.requires.pinned in
     let q = pinned_later start v w held went.grows c.requires.pinned in
     let from = pinned_from start u old.number held.multi e.ready.at.kept (pins_kept old.number held.multi v u e.went c.requires.pins) in
-    let later = pinned_from start w old.number held.multi f.ready.at.kept (pins_kept old.number held.multi v w went c.requires.pins) in
-    let found = first_found start u e.ready.at.kept e.ready.at.base few_then held p (Some c.in-Ok-Some.low) from (subst (IsOffsetRead start u held.multi) c.in-Ok-Some.field-0-is (e.offset told from)) in
-    let has = has_later start u w held.multi found.0 f.went.grows found.2 in
-    next_unread start w f.ready.at.kept f.ready.at.base few held q (e.begun told few_then) found.0 c.advance-next.result c.advance-next.ensures.value later has (λ last. false≢true (sym c.if-held.false ∙ last)) (λ at. subst (IsOffsetRead start w c.advance-next.result) c.in-Ok-None-offset_of.field-0-is (f.offset told at))
+    let later = pinned_from start w old.number held.multi f.ready.at.kept (pins_kept old.number held.multi v w went c.requires.pins) in (
+      subst IsMultiNumber (sym c.advance-next.ensures.value) (next_number held.multi (pinned_small start u held e.ready.at.base e.ready.at.kept p)),
+      λ told few.
+          let few_then = few_multis_before u w f.went.grows few in
+          let found = first_found start u e.ready.at.kept e.ready.at.base few_then held p (Some c.in-Ok-Some.low) from (subst (IsOffsetRead start u held.multi) c.in-Ok-Some.field-0-is (e.offset told from)) in
+          let has = has_later start u w held.multi found.0 f.went.grows found.2 in
+          next_unread start w f.ready.at.kept f.ready.at.base few held q (e.begun told few_then) found.0 c.advance-next.result c.advance-next.ensures.value later has (λ last. false≢true (sym c.if-held.false ∙ last)) (λ at. subst (IsOffsetRead start w c.advance-next.result) c.in-Ok-None-offset_of.field-0-is (f.offset told at)),
+    )

@@ -1,5 +1,5 @@
 //! A folder as a whole: how it is made, and how one that was made before is taken.
-ghost use Rattle.std.specs.Prelude.{◌≡◌};
+ghost use Rattle.std.specs.Prelude.{◌≡◌, ◌≤◌, IfOk};
 
 use crate::file_calls::{put_number, read_number, sync_at};
 use std::alloc::{AllocError, Global};
@@ -73,17 +73,27 @@ fn settle<R: Files + Clone + Drop>(rt: &R, alloc: Global, folder: &str) -> io::R
     sync_at(rt, folder)
 }
 
-/// Makes a folder of so many banks, or takes the one that is there, which has to have as many.
+/// Takes the folder that is there, or makes one of so many banks, and answers how many it has.
 pub(crate) fn prepare<R: Files + Clone + Drop>(
     rt: &R,
     alloc: Global,
     folder: &str,
     banks: u32,
-) -> io::Result<()> {
+) -> io::Result<u32>
+    requires some { 1 ≤ banks }
+    requires few { banks ≤ 16 }
+    ensures banks { IfOk result (λ n. (1 ≤ n) × (n ≤ 16)) }
+{
     match read_number(rt, path_in(alloc, folder, "banks")?.as_str()) {
-        Ok(found) if found == u64::from(banks) => settle(rt, alloc, folder),
+        Ok(found) if 1 <= found && found <= 16 => {
+            settle(rt, alloc, folder)?;
+            Ok(found as u32)
+        }
         Ok(_) => Err(io::ErrorKind::InvalidData.into()),
-        Err(error) if error.kind() == io::ErrorKind::NotFound => make(rt, alloc, folder, banks),
+        Err(error) if error.kind() == io::ErrorKind::NotFound => {
+            make(rt, alloc, folder, banks)?;
+            Ok(banks)
+        }
         Err(error) => Err(error),
     }
 }

@@ -1,6 +1,6 @@
 //! The volumes of a folder.
 ghost use Rattle.std.specs.Prelude.{◌≡◌, ◌≤◌, length, All, IfOk};
-ghost use Rattle.disk_folder.specs.FolderViews.{IsNewBank, IsFirst};
+ghost use Rattle.disk_folder.specs.FolderViews.{IsFirstOfSome, IsNewBank};
 
 use crate::folder::prepare;
 use crate::{FolderLog, FolderPages};
@@ -26,7 +26,7 @@ fn open_banks<R: Files + Clone + Drop>(
     Ok(volumes)
 }
 
-/// Opens a folder, or makes it.
+/// Opens a folder, with the banks that it has, or makes one of so many.
 pub(crate) fn open_volumes<R: Files + Clone + Drop>(
     rt: &R,
     alloc: Global,
@@ -35,9 +35,9 @@ pub(crate) fn open_volumes<R: Files + Clone + Drop>(
 ) -> io::Result<Volumes<FolderLog<R>, FolderPages<R>>>
     requires some { 1 ≤ banks }
     requires few { banks ≤ 16 }
-    ensures first { IfOk result (IsFirst banks) }
+    ensures first { IfOk result IsFirstOfSome }
 {
-    prepare(rt, alloc, folder, banks)?;
+    let banks = prepare(rt, alloc, folder, banks)?;
     let log = FolderLog::open(rt, alloc, folder)?;
     let xact = open_banks(rt, alloc, folder, "xact", banks)?;
     let subtrans = open_banks(rt, alloc, folder, "subtrans", banks)?;

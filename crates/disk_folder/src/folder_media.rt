@@ -21,13 +21,13 @@ pub struct FolderMedia<R: Files + Drop> {
 }
 
 impl<R: Files + Drop> FolderMedia<R> {
-    ghost use Rattle.std.specs.Prelude.{◌≡◌, IsTrue};
-    ghost use Rattle.disk_folder.specs.FolderViews.{is_idle, is_new};
+    ghost use Rattle.std.specs.Prelude.{◌≡◌, IsTrue, None};
+    ghost use Rattle.disk_folder.specs.FolderViews.{is_idle};
 
     /// A media over the folder at this path. It touches no file.
     pub fn new(rt: R, alloc: Global, path: String) -> FolderMedia<R>
         ensures idle { IsTrue (is_idle result) }
-        ensures new { IsTrue (is_new result) }
+        ensures first { result.held ≡ None }
         ensures faults { result.faults ≡ 0 }
     {
         FolderMedia {
@@ -64,15 +64,16 @@ where
     ghost use Rattle.std.specs.Prelude.{◌≡◌, ◌≤◌, IsOk, IsTrue, IfOk, OnOk, OnErr, false};
     ghost use Rattle.disk_core.specs.Faults.{CountsFault};
     ghost use Rattle.disk_core.specs.Images.{NoMore, Only};
-    ghost use Rattle.disk_core.specs.Media.{HasBanks, HaveSameBanks, CountsMount};
+    ghost use Rattle.disk_core.specs.Media.{HaveSameBanks, CountsMount};
     ghost use Rattle.disk_core.specs.declared.media.Volumes.{Volumes};
     ghost use Rattle.disk_folder.specs.declared.folder_log.FolderLog.{FolderLog};
     ghost use Rattle.disk_folder.specs.declared.folder_pages.FolderPages.{FolderPages};
-    ghost use Rattle.disk_folder.specs.FolderViews.{is_idle, is_new, gives, IsFirst, counted_by_mount};
+    ghost use Rattle.disk_folder.specs.FolderViews.{is_idle, gives, IsFirst, counted_by_mount};
 
     ghost is_idle = { λ m. is_idle m };
 
-    ghost is_new = { λ m. is_new m };
+    // An earlier program may have run over the folder.
+    ghost is_new = { λ m. false };
 
     ghost begins = { λ m banks. IsFirst banks };
 
@@ -83,19 +84,16 @@ where
 
     ghost faults = { λ m. m.faults };
 
-    /// Takes what was given back. Otherwise it makes the folder, or takes the one that is there if it has as many banks
-    /// and all of its files.
+    /// Takes what was given back. Otherwise it takes the folder that is there, with the banks that this has, if it has all of
+    /// its files; or it makes one of so many banks.
     fn mount(&mut self, banks: u32) -> Result<Volumes<FolderLog<R>, FolderPages<R>>, MountRefusal>
         requires idle { IsTrue (is_idle self.old) }
         requires some { 1 ≤ banks }
         requires few { banks ≤ 16 }
-        ensures again { is_new self.old ≡ false → IfOk result (gives self.old) }
-        ensures first { IsTrue (is_new self.old) → IfOk result (HasBanks banks) }
-        ensures begins { IsTrue (is_new self.old) → IfOk result (IsFirst banks) }
+        ensures given { IfOk result (gives self.old) }
         ensures mounted { OnOk result (is_idle self.new ≡ false) }
         ensures idle { OnErr result (IsTrue (is_idle self.new)) }
-        ensures kept { OnErr result (is_new self.old ≡ false → (is_new self.new ≡ false) × NoMore (gives self.old) (gives self.new)) }
-        ensures still_new { OnErr result (is_new self.new ≡ is_new self.old) }
+        ensures kept { OnErr result (NoMore (gives self.old) (gives self.new)) }
         ensures cause { CountsMount result self.old.faults self.new.faults }
         ensures counted { self.new.faults ≡ counted_by_mount result self.old.faults }
     {
@@ -119,7 +117,6 @@ where
         _how: Crash,
     ) -> Result<(), Failed>
         ensures idle { IsTrue (is_idle self.new) }
-        ensures old { is_new self.new ≡ false }
         ensures fell { Only volumes (gives self.new) }
         ensures banks { (next : Volumes (FolderLog R R.File R.Dir) (FolderPages R R.File R.Dir)) → gives self.new next → HaveSameBanks volumes next }
         ensures done { IsOk result }
@@ -132,7 +129,6 @@ where
 
     fn rest(&mut self, volumes: Volumes<FolderLog<R>, FolderPages<R>>)
         ensures idle { IsTrue (is_idle self.new) }
-        ensures old { is_new self.new ≡ false }
         ensures same { Only volumes (gives self.new) }
         ensures faults { self.new.faults ≡ self.old.faults }
     {

@@ -1,6 +1,6 @@
 // Folders that aren't taken.
 use crate::folders::{both_ends, clear, is_refused, open};
-use crate::volumes::{ends, fill, sync, write};
+use crate::volumes::{bank_counts, ends, fill, sync, write};
 use std::fs;
 use std::test::Fail;
 
@@ -49,14 +49,22 @@ fn a_folder_with_a_file_of_another_length_is_refused(rt: HostRuntime) -> Result<
 }
 
 #[test]
-fn a_folder_of_another_number_of_banks_is_refused_and_left(rt: HostRuntime) -> Result<(), Fail> {
+fn a_folder_has_its_own_number_of_banks_whatever_is_asked_for(rt: HostRuntime) -> Result<(), Fail> {
     let path = "folder_banks";
     make(rt, path)?;
     for banks in [1, 3, 16] {
-        assert!(rt; is_refused(rt, path, banks), "{banks}");
+        let mut volumes = open(rt, path, banks)?;
+        assert_eq!(rt; bank_counts(&volumes), [2; 4]);
+        assert_eq!(rt; ends(&mut volumes.log)?, (0, 3));
     }
-    let mut volumes = open(rt, path, 2)?;
-    assert_eq!(rt; ends(&mut volumes.log)?, (0, 3));
+    for banks in [0, 17] {
+        fs::write(
+            &rt,
+            "folder_banks/banks",
+            [banks, 0, 0, 0, 0, 0, 0, 0].as_slice(),
+        )?;
+        assert!(rt; is_refused(rt, path, 2), "{banks}");
+    }
     clear(&rt, path)?;
     Ok(())
 }

@@ -88,12 +88,12 @@ last_of P [] x a = a.0
 last_of P (y ∷ xs) x a = last_of P xs x a.1
 
 -- a command of the script is answered as one that touches no multixact
-plain_answer : (f : Facts) (round multis : RoundSpan) (by : By) (s : Stance) (o : Option Refusal) (c : Command) (reply : Reply) → IsDrawn c → IsLawfulAnswer f round multis by s o c reply → IsLawfulReply f round by s o c reply
-plain_answer f round multis by s o (commands.Multi pairs) reply d a = absurd d
-plain_answer f round multis by s o (commands.SeeMulti name m) reply d a = absurd d
-plain_answer f round multis by s o (commands.MultiFreeze m) reply d a = absurd d
-plain_answer f round multis by s o commands.Trim reply d a = absurd d
-plain_answer f round multis by s o c reply d a = a
+plain_answer : (f : Facts) (before : List Line) (round multis : RoundSpan) (by : By) (s : Stance) (o : Option Refusal) (c : Command) (reply : Reply) → IsDrawn c → IsLawfulAnswer f before round multis by s o c reply → IsLawfulReply f round by s o c reply
+plain_answer f before round multis by s o (commands.Multi pairs) reply d a = absurd d
+plain_answer f before round multis by s o (commands.SeeMulti name m) reply d a = absurd d
+plain_answer f before round multis by s o (commands.MultiFreeze m) reply d a = absurd d
+plain_answer f before round multis by s o commands.Trim reply d a = absurd d
+plain_answer f before round multis by s o c reply d a = a
 
 -- a line of the session itself
 own_line : (f : Facts) → IsWide f → (before : List Line) (l : Line) (round multis : RoundSpan) → Walks f l.by.session before → IsLawfulLine f round multis before l → Walks f l.by.session (before ++ l ∷ [])
@@ -111,7 +111,7 @@ own_line f w before l round multis q lawful p fine run =
       round = round;
       has = lawful.events;
       standing = lawful.standing ∙ ap (refused_by l.command s) there.settled;
-      lawful = subst (λ o. IsLawfulReply f round l.by s o l.command l.reply) there.settled (plain_answer f round multis l.by s (pending f.recs f.events before k) l.command l.reply this.0 lawful.reply);
+      lawful = subst (λ o. IsLawfulReply f round l.by s o l.command l.reply) there.settled (plain_answer f before round multis l.by s (pending f.recs f.events before k) l.command l.reply this.0 lawful.reply);
       fine = this.1;
     } in
     let g = goes f last.from p s l.by l.command l.reply (events_of l.by f.events) w this.0 last.goes there.at told in

@@ -26,6 +26,7 @@ use Rattle.session_lang.specs.declared.script.Item.{Item}
 use Rattle.session_lang.specs.declared.script.Item.TheVariants as items
 use Rattle.session_lang.specs.Rounds.{asked_of, turns_of}
 use Rattle.session_lang.proofs.Asking.{rounds_asked}
+use Rattle.run_law.specs.Lives.{BeginsRun, RunStart}
 use Rattle.run_law.specs.Turns.{turn_in, turns_in}
 use Rattle.script_gen.specs.Choices.{Choices, behind_transaction, choices, drawn_from}
 use Rattle.script_gen.specs.Counts as all
@@ -259,7 +260,7 @@ counts tells banks seed size r few begins lawful fine =
     let takers = few_takers seed size few in
     let levels = levels_take (λ (t : ℕ × Command). t.1) (turns_in script) in
     let ids = few_given f ss script each has told (omega (arith, takers, levels)) in
-    let w = wide f (ap (λ c. c.next) begins.base_is) (ap (λ c. c.oldest) begins.base_is) lawful.history ids quiet in
+    let w = wide f (ap (λ b. b.counters.next) begins.base) (ap (λ b. b.counters.oldest) begins.base) lawful.history ids quiet in
     let goods = all_good f seed size ss w each told (lines_fine lines drawn fine) in
     let commands = commands_count ss script told in
     let given = kind_count f ss script all.gives_id said.is_write ids_are each has goods told in
@@ -271,7 +272,7 @@ counts tells banks seed size r few begins lawful fine =
     λ j. record { commands = commands j; ids = given j; undone = undone j; commits = commits j; aborts = aborts j; snaps = snaps j; sees = sees j }
 
 pub summaries : said.SummariesAreTheScripts
-summaries tells seed size text few sum fine =
+summaries tells seed size text few sum new fine =
     let s = generated seed size in
-    let is = one_life_told tells s sum.report sum.life sum.lawful sum.one in
-    sum.exact ∙ ap all.summary_text (counts tells s.banks seed size sum.life few is.0 is.1 fine)
+    let is = one_life_told tells sum.banks sum.start s sum.report sum.life sum.lawful sum.one in
+    sum.exact ∙ ap all.summary_text (counts tells sum.banks seed size sum.life few (subst (λ (start : RunStart). BeginsRun start sum.life.life) new is.0) is.1 fine)

@@ -8,12 +8,13 @@ use Rattle.tx_model.specs.declared.command.Command.TheVariants as commands
 use Rattle.tx_model.specs.declared.reply.Reply.{Reply}
 use Rattle.tx_model.specs.declared.reply.Reply.TheVariants as replies
 use Rattle.tx_model.specs.declared.report.LifeReport.{LifeReport}
-use Rattle.tx_model.specs.Rounds.{BeginsLog, lines_in}
+use Rattle.tx_model.specs.Rounds.{lines_in}
 use Rattle.life_law.specs.LawfulLife.{IsLawfulLife}
 pub use Rattle.life_law.specs.Laws.{is_commit}
 pub use Rattle.life_law.specs.Replies.{is_told_verdict}
 use Rattle.session_lang.specs.declared.script.Item.{Item}
 use Rattle.session_lang.specs.Rounds.{asked_of}
+use Rattle.run_law.specs.Lives.{BeginsRun, new_start}
 use Rattle.run_law.specs.Turns.{turns_in}
 use Rattle.script_gen.specs.declared.summary.Summary.{Summary}
 use Rattle.script_gen.specs.Counts.{life_summary, summary_text}
@@ -68,15 +69,15 @@ commands_in script = map (λ t. t.1) (turns_in script)
 abbrev pub CountsAreTheScripts : Type 0
 CountsAreTheScripts =
     (tells : Bool) (banks seed size : ℕ) (r : LifeReport) → size ≤ most_transactions
-    → BeginsLog (generated seed size).base r.life
+    → BeginsRun (new_start (generated seed size)) r.life
     → IsLawfulLife tells banks (asked_of (generated seed size).items) r
     → AllByRecursion (λ l. is_failure l.reply ≡ false) (flat_map lines_in r.steps)
     → life_summary r ≡ summary_of_commands (commands_in (generated seed size).items)
 
--- so the line that is written for it is that of the script, whatever order its threads took
+-- so the line that is written for a run over a new log is that of the script, whatever order its threads took
 abbrev pub SummariesAreTheScripts : Type 0
 SummariesAreTheScripts =
     (tells : Bool) (seed size : ℕ) (text : List ℕ) → size ≤ most_transactions
-    → (sum : IsSummaryOf tells (generated seed size) text)
+    → (sum : IsSummaryOf tells (generated seed size) text) → sum.start ≡ new_start (generated seed size)
     → AllByRecursion (λ l. is_failure l.reply ≡ false) (flat_map lines_in sum.life.steps)
     → text ≡ summary_text (summary_of_commands (commands_in (generated seed size).items))

@@ -7,7 +7,7 @@ pub fn counts_are_the_scripts()
     ensures { CountsAreTheScripts }
 {}
 
-/// So the line that tells the counts of such a life is that of the script, whatever order its threads took.
+/// So the line that tells the counts of such a life over a new log is that of the script, whatever order its threads took.
 pub fn summaries_are_the_scripts()
     ensures { SummariesAreTheScripts }
 {}

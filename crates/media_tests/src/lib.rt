@@ -3,6 +3,8 @@
 #![tactic(auto)]
 
 #[cfg(test)]
+mod again_tests;
+#[cfg(test)]
 mod bank_fault_tests;
 #[cfg(test)]
 mod checkpoint_tests;

@@ -1,17 +1,22 @@
 //! Runs of the tool on a script in memory, over a media of the test's, and rows of text that they are held against.
-ghost use Rattle.std.specs.Prelude.{IsTrue};
+ghost use Rattle.std.specs.Prelude.{ℕ, IsTrue};
+ghost use Rattle.disk_core.specs.declared.media.Volumes.{Volumes as Mounted};
+ghost use Rattle.recoverable.specs.Fit.{KeptLog};
+ghost use Rattle.engine_life.specs.FirstLives.{MayBeginOver, MayMount};
 
 use disk_core::{Media, MemMedia, Which};
+use disk_folder::FolderMedia;
 use disk_fuse::Fuse;
 use engine_parts::OpenGate;
 use script_rounds::RoundThreads;
 use session_run::run_tool;
-use std::alloc::AllocGlobal;
+use std::alloc::{AllocGlobal, Global};
 use std::process::Abort;
 use std::str::SplitWhitespace;
 use std::sync::Wait;
 use std::test::Fail;
 use std::thread::Threads;
+use std::{fs, io};
 use tx_io::{MemSink, MemSource};
 
 /// The tool over a media, without its contract, so that a test proves no more than that it is safe.
@@ -26,8 +31,11 @@ fn status_over<M: Media>(
 where
     M::Log: Sync,
     M::Pages: Sync,
+    ghost kept: { KeptLog }
     requires idle { IsTrue (M.is_idle media.old) }
-    requires new { IsTrue (M.is_new media.old) }
+    requires may { (banks : ℕ) (volumes : Mounted M.Log M.Pages)
+        → MayMount (M.is_new media.old) (M.begins media.old) (M.gives media.old) banks volumes
+        → MayBeginOver M.Log.LogDisk M.Pages.PageDisk kept volumes }
 {
     run_tool(
         rt,
@@ -53,8 +61,11 @@ pub fn run_over<M: Media>(
 where
     M::Log: Sync,
     M::Pages: Sync,
+    ghost kept: { KeptLog }
     requires idle { IsTrue (M.is_idle media.old) }
-    requires new { IsTrue (M.is_new media.old) }
+    requires may { (banks : ℕ) (volumes : Mounted M.Log M.Pages)
+        → MayMount (M.is_new media.old) (M.begins media.old) (M.gives media.old) banks volumes
+        → MayBeginOver M.Log.LogDisk M.Pages.PageDisk kept volumes }
 {
     let alloc = rt.alloc();
     let mut source = MemSource::new(Vec::from_slice(alloc, script.as_bytes())?, Vec::new(alloc));
@@ -92,6 +103,58 @@ pub fn run_fused(
     let alloc = rt.alloc();
     let mut media = Fuse::new(alloc, MemMedia::new(alloc), at, passes);
     run_over(rt, words, script, &mut media, threads)
+}
+
+/// Runs a script over a folder, by a media of its own.
+pub fn run_in(
+    rt: &(impl AllocGlobal + Threads + Wait + Sync),
+    files: HostRuntime,
+    folder: &str,
+    script: &str,
+) -> Result<(u8, String), Fail> {
+    let alloc: Global = rt.alloc();
+    let mut media = FolderMedia::new(files, alloc, String::from_str(alloc, folder)?);
+    run_over(rt, "run", script, &mut media, 2)
+}
+
+/// Takes away a folder that an earlier run of a test left.
+pub fn clear(rt: &HostRuntime, path: &str) -> io::Result<()> {
+    match fs::remove_dir_all(rt, path) {
+        Err(error) if error.kind() != io::ErrorKind::NotFound => Err(error),
+        _ => Ok(()),
+    }
+}
+
+/// Makes a folder of one bank with this log, and no pages.
+fn make(files: &HostRuntime, folder: &str, log: &[u8]) -> Result<(), Fail> {
+    let alloc: Global = files.alloc();
+    clear(files, folder)?;
+    fs::create_dir(files, folder)?;
+    fs::write(files, format!(in alloc; "{folder}/log")?.as_str(), log)?;
+    fs::write(
+        files,
+        format!(in alloc; "{folder}/start")?.as_str(),
+        [0; 8].as_slice(),
+    )?;
+    let banks = [1, 0, 0, 0, 0, 0, 0, 0];
+    fs::write(
+        files,
+        format!(in alloc; "{folder}/banks")?.as_str(),
+        banks.as_slice(),
+    )?;
+    Ok(())
+}
+
+/// Runs a script over a folder with this log.
+pub fn run_behind(
+    rt: &(impl AllocGlobal + Threads + Wait + Sync),
+    files: HostRuntime,
+    folder: &str,
+    log: &[u8],
+    script: &str,
+) -> Result<(u8, String), Fail> {
+    make(&files, folder, log)?;
+    run_in(rt, files, folder, script)
 }
 
 /// A row over one volume: its name, its script, and the texts of its runs.

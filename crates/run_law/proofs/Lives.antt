@@ -6,13 +6,12 @@ use Rattle.tx_model.specs.declared.command.Command.{Command}
 use Rattle.tx_model.specs.declared.report.How.{How}
 use Rattle.tx_model.specs.declared.report.LifeReport.{LifeReport}
 use Rattle.tx_model.specs.declared.report.Report.{Report}
-use Rattle.tx_model.specs.Rounds.{BeginsLog}
 use Rattle.life_law.specs.LawfulLife.{IsLawfulLife}
 use Rattle.session_lang.specs.declared.script.Item.{Item}
 use Rattle.session_lang.specs.declared.script.Item.TheVariants as items
 use Rattle.session_lang.specs.declared.script.Script.{Script}
 use Rattle.session_lang.specs.Rounds.{asked_of, crash_in}
-use Rattle.run_law.specs.Lives.{AreLivesOf, BeginRun, IsFirstPart, LifePart, parts_from, parts_of}
+use Rattle.run_law.specs.Lives.{AreLivesOf, BeginRun, BeginsRun, IsFirstPart, LifePart, RunStart, parts_from, parts_of}
 use Rattle.run_law.specs.Tool.{IsReportOf}
 use Rattle.run_law.specs.Turns.{HasFewTakers, MayRun, MayStand, takers_in, takes_number, turn_in, turns_in}
 use Rattle.run_law.proofs.PartSums.{count_join}
@@ -161,16 +160,16 @@ part_alone before (items.Checkpoint ∷ its) p e = part_alone (before ++ items.C
 part_alone before (items.Dump what at size ∷ its) p e = part_alone (before ++ items.Dump what at size ∷ []) its p e ∙ ap (λ (t : List Item). part t None) (append_assoc before (items.Dump what at size ∷ []) its)
 
 -- so a report of one life is of the script's items as they stand
-pub one_life_told : (tells : Bool) (s : Script) (r : Report) (life : LifeReport) → IsReportOf tells s r → r.lives ≡ life ∷ []
-    → BeginsLog s.base life.life × IsLawfulLife tells s.banks (asked_of s.items) life × (life.crash ≡ None)
-one_life_told tells s r life is one = by_parts (parts_of s.items) refl (subst (AreLivesOf tells s.banks (parts_of s.items)) one is.lives.of)
+pub one_life_told : (tells : Bool) (banks : ℕ) (start : RunStart) (s : Script) (r : Report) (life : LifeReport) → IsReportOf tells banks start s r → r.lives ≡ life ∷ []
+    → BeginsRun start life.life × IsLawfulLife tells banks (asked_of s.items) life × (life.crash ≡ None)
+one_life_told tells banks start s r life is one = by_parts (parts_of s.items) refl (subst (AreLivesOf tells banks (parts_of s.items)) one is.lives.of)
   where
-    begins : BeginsLog s.base life.life
-    begins = subst (BeginRun s.base) one is.lives.begin
+    begins : BeginsRun start life.life
+    begins = subst (BeginRun start) one is.lives.begin
 
-    by_parts : (ps : List LifePart) → parts_of s.items ≡ ps → AreLivesOf tells s.banks ps (life ∷ []) → BeginsLog s.base life.life × IsLawfulLife tells s.banks (asked_of s.items) life × (life.crash ≡ None)
+    by_parts : (ps : List LifePart) → parts_of s.items ≡ ps → AreLivesOf tells banks ps (life ∷ []) → BeginsRun start life.life × IsLawfulLife tells banks (asked_of s.items) life × (life.crash ≡ None)
     by_parts [] e a = absurd a
     by_parts (p ∷ []) e a =
         let whole = part_alone [] s.items p e in
-        (begins, subst (λ (q : LifePart). IsLawfulLife tells s.banks (asked_of q.items) life) whole a.0, a.1 ∙ ap (λ (q : LifePart). q.crash) whole)
+        (begins, subst (λ (q : LifePart). IsLawfulLife tells banks (asked_of q.items) life) whole a.0, a.1 ∙ ap (λ (q : LifePart). q.crash) whole)
     by_parts (p ∷ (q ∷ ps)) e a = absurd a.2

@@ -1,18 +1,15 @@
 -- The lives of a run, one more.
 use Rattle.std.proofs.Common.{◌≡◌, ◌≢◌, ℕ, ◌+◌, Bool, IsTrue, List, [], ◌∷◌, ◌++◌, ap, append-nil, append_assoc, arith, length, refl, sym, ◌∙◌}
 use Rattle.std.specs.List.{flat_map}
-use Rattle.tx_events.specs.declared.record.Counters.{Counters}
 use Rattle.tx_events.proofs.ListSteps.{all_push}
 use Rattle.tx_model.specs.declared.report.LifeReport.{LifeReport}
 use Rattle.tx_model.specs.declared.report.Report.{Report}
-use Rattle.tx_model.specs.Rounds.{BeginsLog}
 use Rattle.life_law.specs.LawfulLife.{IsLawfulLife}
 use Rattle.lives_law.specs.Lives.{GoesBehind}
 use Rattle.lives_law.proofs.GoingOn.{go_on_push}
 use Rattle.report_text.specs.ReportText.{end_text, life_line, life_text, lives_text, report_text, rest_text, step_text, title_text}
-use Rattle.session_lang.specs.declared.script.Script.{Script}
 use Rattle.session_lang.specs.Rounds.{asked_of}
-use Rattle.run_law.specs.Lives.{AreLivesOf, AreRunLives, BeginRun, BeginWithBases, BeginsWithBase, IsFrontOf, LifePart, last_text, life_rest, text_so_far}
+use Rattle.run_law.specs.Lives.{AreLivesOf, AreRunLives, BeginRun, BeginsRun, BeginsWithBase, IsFrontOf, LifePart, RunStart, last_text, life_rest, text_so_far}
 
 -- ---- the lives
 
@@ -22,20 +19,16 @@ of_push tells banks (q ∷ done) (s ∷ lives) p r of lawful crash = (of.0, of.1
 of_push tells banks [] (s ∷ lives) p r of lawful crash = absurd of
 of_push tells banks (q ∷ done) [] p r of lawful crash = absurd of
 
-begin_push : (base : Counters) (lives : List LifeReport) (r : LifeReport) → BeginRun base lives → (lives ≡ [] → BeginsLog base r.life) → BeginRun base (lives ++ r ∷ [])
-begin_push base [] r begin first = first refl
-begin_push base (s ∷ lives) r begin first = begin
+begin_push : (start : RunStart) (lives : List LifeReport) (r : LifeReport) → BeginRun start lives → (lives ≡ [] → BeginsRun start r.life) → BeginRun start (lives ++ r ∷ [])
+begin_push start [] r begin first = first refl
+begin_push start (s ∷ lives) r begin first = begin
 
-bases_push : (lives : List LifeReport) (r : LifeReport) → BeginWithBases lives → (lives ≢ [] → BeginsWithBase r) → BeginWithBases (lives ++ r ∷ [])
-bases_push [] r bases later = tt
-bases_push (s ∷ lives) r bases later = all_push BeginsWithBase lives r bases (later (λ e. cc))
-
-pub run_lives_push : (tells : Bool) (s : Script) (done : List LifePart) (lives : List LifeReport) (p : LifePart) (r : LifeReport) → AreRunLives tells s done lives → IsLawfulLife tells s.banks (asked_of p.items) r → r.crash ≡ p.crash
-    → (lives ≡ [] → BeginsLog s.base r.life) → (lives ≢ [] → BeginsWithBase r) → (IsTrue tells → GoesBehind lives r.life) → AreRunLives tells s (done ++ p ∷ []) (lives ++ r ∷ [])
-run_lives_push tells s done lives p r are lawful crash first later behind = record {
-  of = of_push tells s.banks done lives p r are.of lawful crash;
-  begin = begin_push s.base lives r are.begin first;
-  bases = bases_push lives r are.bases later;
+pub run_lives_push : (tells : Bool) (banks : ℕ) (start : RunStart) (done : List LifePart) (lives : List LifeReport) (p : LifePart) (r : LifeReport) → AreRunLives tells banks start done lives → IsLawfulLife tells banks (asked_of p.items) r → r.crash ≡ p.crash
+    → (lives ≡ [] → BeginsRun start r.life) → BeginsWithBase r → (IsTrue tells → GoesBehind lives r.life) → AreRunLives tells banks start (done ++ p ∷ []) (lives ++ r ∷ [])
+run_lives_push tells banks start done lives p r are lawful crash first base behind = record {
+  of = of_push tells banks done lives p r are.of lawful crash;
+  begin = begin_push start lives r are.begin first;
+  bases = all_push BeginsWithBase lives r are.bases base;
   go_on = λ told. go_on_push lives r (are.go_on told) (behind told);
 }
 
@@ -59,19 +52,18 @@ joined a b c d e =
     ∙ ap (λ (t : List ℕ). a ++ t) (append_assoc (b ++ c) d e ∙ append_assoc b c (d ++ e))
 
 -- behind the text so far the text of a life is that with this life
-pub so_far_push : (names : List (List ℕ)) (lives : List LifeReport) (r : LifeReport) (number : ℕ) (front : List ℕ) → number ≡ length lives + 1 → IsFrontOf number r.life.from r.life.base front → (number ≡ 1 → r.life.from ≡ 0)
+pub so_far_push : (names : List (List ℕ)) (lives : List LifeReport) (r : LifeReport) (number : ℕ) (front : List ℕ) → number ≡ length lives + 1 → IsFrontOf number r.life.from r.life.base front
     → text_so_far names lives ++ (front ++ life_rest names r) ≡ text_so_far names (lives ++ r ∷ []) ++ last_text r.crash
-so_far_push names [] r number front count is first =
+so_far_push names [] r number front count is =
     let one : number ≡ 1 = omega (arith, count) in
-    let line = life_line 1 0 r.life.base in
+    let line = life_line 1 r.life.from r.life.base in
     let told = flat_map (step_text names) r.steps in
     let rest = rest_text names r.life r.crash in
     ap (λ t. t ++ life_rest names r) (is.first one)
     ∙ (append_assoc title_text line (life_rest names r)
     ∙ (sym (joined title_text line told rest (last_text r.crash))
-    ∙ (ap (λ n. (title_text ++ ((life_line 1 n r.life.base ++ told) ++ rest)) ++ last_text r.crash) (sym (first one))
-    ∙ ap (λ t. (title_text ++ t) ++ last_text r.crash) (sym (lives_one names 1 r)))))
-so_far_push names (q ∷ lives) r number front count is first =
+    ∙ ap (λ t. (title_text ++ t) ++ last_text r.crash) (sym (lives_one names 1 r))))
+so_far_push names (q ∷ lives) r number front count is =
     let other : number ≢ 1 = λ e. omega (arith, count, e) in
     let place : number ≡ 1 + length (q ∷ lives) = omega (arith, count) in
     let before = lives_text names 1 (q ∷ lives) in

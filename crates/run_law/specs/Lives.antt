@@ -6,9 +6,10 @@ use Rattle.tx_events.specs.Ids.{IsFullMulti}
 use Rattle.tx_events.specs.declared.record.Counters.{Counters}
 use Rattle.tx_model.specs.declared.report.How.{How}
 use Rattle.tx_model.specs.declared.report.LifeReport.{LifeReport}
-use Rattle.tx_model.specs.Rounds.{BeginsLog}
+use Rattle.tx_model.specs.declared.report.Life.{Life}
 use Rattle.life_law.specs.LawfulLife.{IsLawfulLife}
-use Rattle.lives_law.specs.Lives.{GoOn}
+use Rattle.log_bases.specs.LifeBase.{LifeBase}
+use Rattle.lives_law.specs.Lives.{GoOn, base_of}
 use Rattle.report_text.specs.ReportText.{end_text, front_text, life_line, lives_text, rest_text, step_text, title_text}
 use Rattle.session_lang.specs.declared.script.Item.{Item}
 use Rattle.session_lang.specs.declared.script.Item.TheVariants as items
@@ -42,10 +43,24 @@ AreLivesOf tells banks (part ∷ parts) (r ∷ lives) =
     IsLawfulLife tells banks (asked_of part.items) r × (r.crash ≡ part.crash) × AreLivesOf tells banks parts lives
 AreLivesOf tells banks parts lives = ⊥
 
--- the first of them, if there is one, begins a log with these counters
-abbrev pub BeginRun : Counters → List LifeReport → Type 0
-BeginRun base [] = Unit {0}
-BeginRun base (first ∷ lives) = BeginsLog base first.life
+-- What a run begins with: the number of its first life's checkpoint, and its base.
+pub record RunStart : Type 0 where
+  pub number : ℕ
+  pub base : LifeBase
+
+-- over a new log the script's counters, with nothing committed or recorded before
+abbrev pub new_start : Script → RunStart
+new_start s = record { number = 0; base = record { counters = s.base; committed = []; recorded = [] } }
+
+-- the life begins so
+pub record BeginsRun (start : RunStart) (life : Life) : Type 0 where
+  pub from : life.from ≡ start.number
+  pub base : base_of life ≡ start.base
+
+-- the first of them, if there is one
+abbrev pub BeginRun : RunStart → List LifeReport → Type 0
+BeginRun start [] = Unit {0}
+BeginRun start (first ∷ lives) = BeginsRun start first.life
 
 -- the life begins with a base, whose multixacts' numbers are those of multixacts
 pub record BeginsWithBase (r : LifeReport) : Type 0 where
@@ -53,27 +68,25 @@ pub record BeginsWithBase (r : LifeReport) : Type 0 where
   pub multi : IsFullMulti r.life.base.multi
   pub oldest_multi : IsFullMulti r.life.base.oldest_multi
 
--- so each life from the second on
+-- so each life
 abbrev pub BeginWithBases : List LifeReport → Type 0
-BeginWithBases [] = Unit {0}
-BeginWithBases (first ∷ lives) = AllByRecursion BeginsWithBase lives
+BeginWithBases lives = AllByRecursion BeginsWithBase lives
 
--- Lives of a run of the script over a new log, for these parts of it: the first from the script's counters, each later one
--- from a base, which is that of where the log of the one before it can be read behind the crash, if the volumes tell what
--- they hold.
-pub record AreRunLives (tells : Bool) (s : Script) (parts : List LifePart) (lives : List LifeReport) : Type 0 where
-  pub of : AreLivesOf tells s.banks parts lives
-  pub begin : BeginRun s.base lives
+-- Lives of a run over so many banks that begins so, for these parts of a script: the first from there, each later one from
+-- the base of where the log of the one before it can be read behind the crash, if the volumes tell what they hold.
+pub record AreRunLives (tells : Bool) (banks : ℕ) (start : RunStart) (parts : List LifePart) (lives : List LifeReport) : Type 0 where
+  pub of : AreLivesOf tells banks parts lives
+  pub begin : BeginRun start lives
   pub bases : BeginWithBases lives
   pub go_on : IsTrue tells → GoOn lives
 
 -- The lives before a run stopped: those of the first parts of the script, each ended by its crash.
-pub record AreLivesBefore (tells : Bool) (s : Script) (lives : List LifeReport) : Type 0 where
+pub record AreLivesBefore (tells : Bool) (banks : ℕ) (start : RunStart) (s : Script) (lives : List LifeReport) : Type 0 where
   pub done : List LifePart
   pub rest : List LifePart
   pub split : parts_of s.items ≡ done ++ rest
   pub more : rest ≡ [] → ⊥
-  pub are : AreRunLives tells s done lives
+  pub are : AreRunLives tells banks start done lives
 
 -- ---- their text
 
@@ -84,7 +97,7 @@ text_so_far names (r ∷ lives) = title_text ++ lives_text names 1 (r ∷ lives)
 
 -- what stands before the steps of the life of this number, the first one of which begins the report
 pub record IsFrontOf (number from : ℕ) (base : Counters) (text : List ℕ) : Type 0 where
-  pub first : number ≡ 1 → text ≡ front_text base
+  pub first : number ≡ 1 → text ≡ front_text from base
   pub later : number ≢ 1 → text ≡ life_line number from base
 
 -- behind the last life stands the last line

@@ -1,27 +1,28 @@
 -- What a run of the tool says.
-use Rattle.std.specs.Prelude.{◌≡◌, ℕ, Bool, ◌<◌, ◌⊎◌, List, [], ◌∷◌, Option, Some, Ok, length, codes}
+use Rattle.std.specs.Prelude.{◌≡◌, ℕ, Bool, ◌<◌, ◌≤◌, ◌⊎◌, List, [], ◌∷◌, Option, Some, Ok, length, codes}
 use Rattle.std.specs.Io.KnownBytes.{Consumes, Appends, IsAtEnd}
 use Rattle.tx_model.specs.declared.report.Report.{Report}
 use Rattle.script_lines.specs.declared.kind.Kind.{Kind}
 use Rattle.session_lang.specs.declared.script.Script.{Script}
 use Rattle.report_text.specs.ReportText.{report_text}
 use Rattle.session_lang.specs.Script.{read_script}
-use Rattle.run_law.specs.Lives.{AreRunLives, parts_of}
+use Rattle.run_law.specs.Lives.{AreRunLives, RunStart, parts_of}
 use Rattle.run_law.specs.Refusals.{refusal_of, refusal_text}
 use Rattle.run_law.specs.Turns.{IsRunnable}
 
--- The report of a run of the script over a new log: a life for each part of the script, the first from its counters, with
--- the dumps and checkpoints between the rounds. Verdicts are told where the page volumes tell what they hold.
-pub record IsReportOf (tells : Bool) (s : Script) (r : Report) : Type 0 where
+-- The report of a run of the script over so many banks that begins so: a life for each part of the script, with the dumps
+-- and checkpoints between the rounds. Verdicts are told where the page volumes tell what they hold.
+pub record IsReportOf (tells : Bool) (banks : ℕ) (start : RunStart) (s : Script) (r : Report) : Type 0 where
+  pub few : banks ≤ 16
   pub names : r.names ≡ s.names
-  pub lives : AreRunLives tells s (parts_of s.items) r.lives
+  pub lives : AreRunLives tells banks start (parts_of s.items) r.lives
 
 -- the one list of words that is accepted
 abbrev pub IsRun : List (List ℕ) → Type 0
 IsRun words = words ≡ codes "run" ∷ []
 
 -- The source was read to its end and its bytes are a script that sessions can run, and the text is that of a report of
--- this script.
+-- this script, over so many banks, that begins so.
 pub record IsAnswer (tells : Bool) (left left' : Option (List ℕ)) (text : List ℕ) : Type 0 where
   pub bytes : List ℕ
   pub read : Consumes left left' bytes
@@ -29,8 +30,10 @@ pub record IsAnswer (tells : Bool) (left left' : Option (List ℕ)) (text : List
   pub script : Script
   pub spelled : read_script bytes ≡ Ok script
   pub runnable : IsRunnable script
+  pub banks : ℕ
+  pub start : RunStart
   pub report : Report
-  pub lawful : IsReportOf tells script report
+  pub lawful : IsReportOf tells banks start script report
   pub exact : text ≡ report_text report
 
 -- The sink holds such a text more.

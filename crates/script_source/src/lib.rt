@@ -6,6 +6,6 @@ mod other;
 mod script;
 mod source;
 
-pub use life_text::{LifeText, front_of, put_life};
+pub use life_text::{LifeText, front_of, have_full_multis, put_life};
 pub use script::NoScript;
 pub use source::take_script;

@@ -17,16 +17,23 @@ pub struct LifeText {
     pub rest: Text,
 }
 
+/// The next multixact and the oldest one of counters are numbers of multixacts.
+pub fn have_full_multis(base: &Counters)
+    ensures { IsFullMulti base.now.multi × IsFullMulti base.now.oldest_multi }
+{
+    let _next = base.multi.number();
+    let _oldest = base.oldest_multi.number();
+}
+
 /// What stands before the steps of the life of this number, the first one of which begins the report.
 pub fn front_of(alloc: Global, number: u64, from: u64, base: &Counters) -> Result<Text, Memory>
     ensures front { IfOk result (λ text. IsFrontOf number from base.now text) }
     ensures multis { IsFullMulti base.now.multi × IsFullMulti base.now.oldest_multi }
 {
-    let _next = base.multi.number();
-    let _oldest = base.oldest_multi.number();
+    have_full_multis(base);
     let mut text = Text::new(alloc);
     if number == 1 {
-        begin_report(&mut text, base)?;
+        begin_report(&mut text, from, base)?;
     } else {
         put_life_line(&mut text, number, from, base)?;
     }

@@ -1,8 +1,9 @@
 -- A crash, and the next life.
-use Rattle.std.proofs.Common.{Bool, Err, IfSome, IsTrue, List, None, Ok, Option, Result, Some, [], ap, arith, false, inr, length, refl, subst, suc, sym, take, true, zero, ℕ, ◌++◌, ◌+◌, ◌-◌, ◌∙◌, ◌∷◌, ◌<◌, ◌≡◌, ◌≤◌}
+use Rattle.std.proofs.Common.{Bool, Err, IfErr, IfOk, IsTrue, List, None, Ok, Option, Result, Some, [], ap, arith, false, inl, inr, length, refl, subst, suc, sym, take, true, zero, ℕ, ⊎_elim, ◌++◌, ◌+◌, ◌-◌, ◌∙◌, ◌∷◌, ◌<◌, ◌≡◌, ◌≤◌}
 use Rattle.std.proofs.lemmas.Bool.{false≢true}
 use Rattle.std.proofs.lemmas.Option.{same_Some}
 use Rattle.std.specs.List.{slice_get}
+use Rattle.std.specs.Prelude.{IsSomeAnd}
 use Rattle.disk_core.specs.declared.log_disk.LogDisk as logs
 use Rattle.disk_core.specs.declared.page_disk.PageDisk as disks
 use Rattle.disk_core.specs.declared.media.Crash.{Crash}
@@ -10,53 +11,42 @@ use Rattle.disk_core.specs.declared.media.Volumes.{Volumes}
 use Rattle.disk_core.specs.Faults.{HasRisen}
 use Rattle.disk_core.specs.Media.{AllCrashed, EachCrashed, HasBanks, HaveSameBanks, LogCrashed, PagesCrashed}
 use Rattle.disk_core.specs.Pages.{Pages}
-use Rattle.tx_events.specs.declared.record.Counters.{Counters}
 use Rattle.tx_events.specs.declared.record.Rec.{Rec}
 use Rattle.tx_model.specs.declared.report.How.{How}
 use Rattle.tx_model.specs.declared.report.Life.{Life}
 use Rattle.tx_model.specs.declared.report.LifeReport.{LifeReport}
 use Rattle.wal_core.specs.Opening.{opened}
-use Rattle.log_bases.specs.LifeBase.{LifeBase, base_after}
+use Rattle.log_bases.specs.LifeBase.{base_after}
 use Rattle.lives_law.specs.Lives.{GoesOnFrom, base_of}
 use Rattle.lives_law.proofs.GoingOn.{behind_push, goes_on_at}
 use Rattle.session_lang.specs.declared.script.Script.{Script}
-use Rattle.run_law.specs.Lives.{LifePart}
+use Rattle.run_law.specs.Lives.{LifePart, RunStart}
 use Rattle.recoverable.specs.Clusters.{IsLeft}
 use Rattle.recoverable.specs.Fit.{KeptLog, base_at, log_end}
 use Rattle.recoverable.specs.Volumes.{Left}
-use Rattle.replay_core.specs.declared.refusal.RecoverRefusal.TheVariants as refusals
 use Rattle.tx_core.specs.declared.entry.Start.{Start}
 use Rattle.engine_host.specs.declared.cluster.Cluster.{Cluster}
 use Rattle.engine_host.specs.Opening.{Beginning, life_from}
 use Rattle.engine_life.specs.declared.closed.ClosedLife.{ClosedLife}
 use Rattle.engine_life.specs.declared.life.OpenLife.{OpenLife}
+use Rattle.engine_life.specs.declared.refusal.NoLife.{NoLife}
 use Rattle.engine_life.specs.declared.refusal.NoLife.TheVariants as no_lives
-use Rattle.engine_life.specs.declared.refusal.NotReopened.{NotReopened}
-use Rattle.engine_life.specs.declared.refusal.NotReopened.TheVariants as not_reopened
 use Rattle.engine_life.specs.Lives.{FitsLog}
-use Rattle.engine_life.specs.NextLives.{CrashGoesOn, IsNotReopened, MayGoOn}
-use Rattle.engine_life.specs.Reopening.{behind}
+use Rattle.engine_life.specs.FirstLives.{MayBeginOver, MayMount, with_banks}
+use Rattle.engine_life.specs.NextLives.{CrashGoesOn, MayGoOn}
+use Rattle.engine_life.specs.Refusals.{HasRestedVolumes, IsUnopened}
+use Rattle.engine_life.proofs.GoingOn.{may_begin}
 use Rattle.session_run.specs.Fits.{EndsWithLife, FitsLife}
 use Rattle.session_run.specs.Going.{HasGoneOn, IsCrashed, IsPartTold, IsRunning}
 use Rattle.session_run.specs.Lives.{HasFallen}
 use Rattle.session_run.specs.OneLife.{life_of, life_over}
-use Rattle.session_run.specs.Stops.{IsUndamaged, no_life_by}
-use Rattle.session_run.proofs.Opening.{next_is_opened}
+use Rattle.session_run.specs.Runs.{cluster_of}
+use Rattle.session_run.specs.Stops.{IsUndamaged}
+use Rattle.session_run.proofs.Handed.{no_log}
+use Rattle.session_run.proofs.Opening.{opened_so}
 use Rattle.session_run.proofs.Running.{comes_push, push_some}
 
 -- ---- the log that a life leaves
-
-no_log : KeptLog
-no_log = record {
-  base = record {
-    counters = record { next = 0; oldest = 0; multi = 0; offset = 0; oldest_multi = 0; oldest_offset = 0 };
-    committed = [];
-    recorded = [];
-  };
-  first = 0;
-  recs = [];
-  flushed = 0;
-}
 
 -- a log is found where there is one, if the volumes tell of it
 pub found_where : (a b : Bool) (F : KeptLog → Type 0) → (IsTrue a → IsTrue b → (kept : KeptLog) × F kept) → (kept : KeptLog) × (IsTrue a → IsTrue b → F kept)
@@ -69,6 +59,17 @@ pub life_over_is : {L P : Type 0} {l : logs.Ghosts L} (c : Cluster) (b : Beginni
 life_over_is c b faults start closed same =
     let number : (b.number + 1) - 1 ≡ b.number = omega arith in
     ap (λ (t : Start). life_over t closed) same ∙ ap (λ n. life_of c (record b { number = n }) closed) number
+
+-- ---- results
+
+module _ {T E : Type 0} where
+  pub ok_so : (A B : T → Type 0) (r : Result T E) → ((x : T) → A x → B x) → IfOk r A → IfOk r B
+  ok_so A B (Ok x) f k = f x k
+  ok_so A B (Err e) f k = tt
+
+  pub err_so : (A B : E → Type 0) (r : Result T E) → ((e : E) → A e → B e) → IfErr r A → IfErr r B
+  err_so A B (Ok x) f k = tt
+  err_so A B (Err e) f k = f e k
 
 -- ---- no life goes on
 
@@ -106,6 +107,11 @@ module _ {L P : Type 0} (l : logs.Ghosts L) (p : disks.Ghosts P) where
   may_go_on kept n old gives has same crashed tells fit carries v given =
       (same_banks n old v has (same v given), carries kept old v (λ lt pt. crashed lt pt v given) (λ pt. (tells pt, fit pt (tells pt))))
 
+  -- a media that isn't new gives them again, of however many banks it is asked
+  pub mounts_again : (kept : KeptLog) (n banks : ℕ) (is_new : Bool) (begins : ℕ → Volumes L P → Type 0) (gives : Volumes L P → Type 0) → is_new ≡ false → ((v : Volumes L P) → gives v → HasBanks n v × MayGoOn l p kept v)
+      → (v : Volumes L P) → MayMount is_new begins gives banks v → MayBeginOver l p kept v
+  mounts_again kept n banks is_new begins gives old holds v mounted = let k = holds v (mounted.again old) in may_begin l p kept n v k.0 k.1
+
   abbrev Crashed : Volumes L P → Volumes L P → Type 0
   Crashed old new = AllCrashed (LogCrashed l.reads l.images l.faults) (PagesCrashed p.pages p.images p.faults) old new
 
@@ -137,67 +143,60 @@ module _ {L P : Type 0} (l : logs.Ghosts L) (p : disks.Ghosts P) where
       ok_not_err (opened (l.reads new.log)) _ at (fit.each left is).opens.opens damaged
 
   -- counted from before, over volumes of which more is said
-  pub since : (gave more gives : Volumes L P → Type 0) (before mid now : ℕ) → before ≤ mid → ((v : Volumes L P) → gave v → more v) → (e : NotReopened) → IsNotReopened l p mid now gave gives e → IsNotReopened l p before now more gives e
-  since gave more gives before mid now later wider not_reopened.Device is = risen_from before mid now later is
-  since gave more gives before mid now later wider not_reopened.Memory is = tt
-  since gave more gives before mid now later wider (not_reopened.Unrecovered refusal) is = (is.0, is.1, wider is.0 is.2, is.3, is.4)
+  pub since : (c : Cluster) (gave more : ℕ → Volumes L P → Type 0) (gives : Volumes L P → Type 0) (before mid now : ℕ) → before ≤ mid → ((v : Volumes L P) → gave c.banks v → more c.banks v)
+      → (refusal : NoLife) → IsUnopened l p c gave mid now gives refusal → IsUnopened l p c more before now gives refusal
+  since c gave more gives before mid now later wider (no_lives.Damaged at) is = (is.0, is.1, wider is.0 is.2, is.3, is.4)
+  since c gave more gives before mid now later wider no_lives.Device is = ⊎_elim
+      (λ (risen : HasRisen mid now). inl (risen_from before mid now later risen))
+      (λ (rested : HasRestedVolumes l p c gave gives no_lives.Device). inr (rested.0, rested.1, wider rested.0 rested.2, rested.3, rested.4)) is
+  since c gave more gives before mid now later wider no_lives.Full is = (is.0, is.1, wider is.0 is.2, is.3, is.4)
+  since c gave more gives before mid now later wider no_lives.Memory is = tt
 
-  module _ (falls : Crash → Volumes L P → Volumes L P → Type 0) (how : How) (left : Volumes L P) (gave gives : Volumes L P → Type 0) (before mid now : ℕ)
-      (later : before ≤ mid) (fallen : (v : Volumes L P) → gave v → HasFallen l p falls how left v) where
-    module _ (kept : KeptLog) (fit : IsTrue p.tells → IsTrue l.tells → FitsLog l p kept left) where
-      undamaged : (e : NotReopened) → IsNotReopened l p mid now gave gives e → IsUndamaged l p (no_life_by e)
-      undamaged not_reopened.Device is = λ at same lt pt. absurd (let q : no_lives.Device ≡ no_lives.Damaged at = same in cc)
-      undamaged not_reopened.Memory is = λ at same lt pt. absurd (let q : no_lives.Memory ≡ no_lives.Damaged at = same in cc)
-      undamaged (not_reopened.Unrecovered (refusals.Damaged place)) is = λ at same lt pt. no_damage kept left is.0 place (fit pt lt) ((fallen is.0 is.2).crashed lt pt) (is.4 lt)
-      undamaged (not_reopened.Unrecovered refusals.NoRecord) is = λ at same lt pt. absurd (let q : no_lives.OldLog ≡ no_lives.Damaged at = same in cc)
-      undamaged (not_reopened.Unrecovered refusals.LogFault) is = λ at same lt pt. absurd (let q : no_lives.Device ≡ no_lives.Damaged at = same in cc)
-      undamaged (not_reopened.Unrecovered (refusals.DiskFault lock)) is = λ at same lt pt. absurd (let q : no_lives.Device ≡ no_lives.Damaged at = same in cc)
-      undamaged (not_reopened.Unrecovered refusals.Full) is = λ at same lt pt. absurd (let q : no_lives.Full ≡ no_lives.Damaged at = same in cc)
-      undamaged (not_reopened.Unrecovered refusals.Memory) is = λ at same lt pt. absurd (let q : no_lives.Memory ≡ no_lives.Damaged at = same in cc)
+  module _ (c : Cluster) (falls : Crash → Volumes L P → Volumes L P → Type 0) (how : How) (left : Volumes L P) (gave : ℕ → Volumes L P → Type 0) (gives : Volumes L P → Type 0) (before mid now : ℕ)
+      (later : before ≤ mid) (fallen : (v : Volumes L P) → gave c.banks v → HasFallen l p falls how left v) where
+    undamaged : (kept : KeptLog) → (IsTrue p.tells → IsTrue l.tells → FitsLog l p kept left) → (refusal : NoLife) → IsUnopened l p c gave mid now gives refusal → IsUndamaged l p refusal
+    undamaged kept fit (no_lives.Damaged place) is = λ at same lt pt. no_damage kept left is.0 place (fit pt lt) ((fallen is.0 is.2).crashed lt pt) (is.4 lt)
+    undamaged kept fit no_lives.Device is = λ at same lt pt. absurd (let q : no_lives.Device ≡ no_lives.Damaged at = same in cc)
+    undamaged kept fit no_lives.Full is = λ at same lt pt. absurd (let q : no_lives.Full ≡ no_lives.Damaged at = same in cc)
+    undamaged kept fit no_lives.Memory is = λ at same lt pt. absurd (let q : no_lives.Memory ≡ no_lives.Damaged at = same in cc)
 
-      pub none_goes_on : (e : NotReopened) → IsNotReopened l p mid now gave gives e → IsCrashed l p falls how before now left gives (no_life_by e)
-      none_goes_on e is = inr (e, refl, since gave (HasFallen l p falls how left) gives before mid now later fallen e is, undamaged e is)
+    pub none_goes_on : (kept : KeptLog) → (IsTrue p.tells → IsTrue l.tells → FitsLog l p kept left) → (refusal : NoLife) → IsUnopened l p c gave mid now gives refusal → IsCrashed l p c falls how before now left gives refusal
+    none_goes_on kept fit refusal is = (since c gave (λ n v. HasFallen l p falls how left v) gives before mid now later fallen refusal is, undamaged kept fit refusal is)
+
+  -- the media failed at the crash
+  pub crash_failed : (c : Cluster) (falls : Crash → Volumes L P → Volumes L P → Type 0) (how : How) (left : Volumes L P) (gives : Volumes L P → Type 0) (before now : ℕ) → HasRisen before now → IsCrashed l p c falls how before now left gives no_lives.Device
+  crash_failed c falls how left gives before now risen = (inl risen, λ at same lt pt. absurd (let q : no_lives.Device ≡ no_lives.Damaged at = same in cc))
 
 -- ---- the next life is open
 
-abbrev with_counters : LifeBase → Counters → LifeBase
-with_counters base counters = record { counters = counters; committed = base.committed; recorded = base.recorded }
-
--- where the volumes tell, what it begins with is what its log gives
-told_base : (told : Bool) (kept : KeptLog) (n : ℕ) (counters : Counters) (base : LifeBase) → IsTrue told → (base_at kept n).counters ≡ counters
-    → base ≡ record { counters = counters; committed = (behind told kept n).committed; recorded = (behind told kept n).recorded } → base ≡ base_at kept n
-told_base true kept n counters base tells same is = is ∙ ap (with_counters (base_at kept n)) (sym same)
-told_base false kept n counters base tells same is = absurd (false≢true tells)
-
 -- a log ends with the records of a life, and a life that begins with what it gives at a number goes on from that one
-from_last : (kept : KeptLog) (before next : Life) (n : ℕ) → EndsWithLife before kept → before.from < before.flushed → kept.flushed ≤ n → n ≤ log_end kept → next.from ≡ n → base_of next ≡ base_at kept n → GoesOnFrom before next
+pub from_last : (kept : KeptLog) (before next : Life) (n : ℕ) → EndsWithLife before kept → before.from < before.flushed → kept.flushed ≤ n → n ≤ log_end kept → next.from ≡ n → base_of next ≡ base_at kept n → GoesOnFrom before next
 from_last kept before next n ends begun low upto from is =
     let flushed = ends.flushed in
     let size = ap (λ (t : List Rec). length t) ends.recs in
     goes_on_at before next kept.base kept.first ends.past ends.own ends.checkpoint ends.number ends.base begun (omega (arith, flushed, low, from)) (omega (arith, upto, size, from))
     (is ∙ ap (λ (t : List Rec). base_after kept.base (take (n - kept.first) t)) ends.recs ∙ ap (λ m. base_after kept.base (take (m - kept.first) (ends.past ++ ends.own))) (sym from))
 
-module _ {L P : Type 0} {l : logs.Ghosts L} {p : disks.Ghosts P} (s : Script) (falls : Crash → Volumes L P → Volumes L P → Type 0) where
-  pub running_on : (begun : Volumes L P) (done : List LifePart) (lives : List LifeReport) (part : LifePart) (r : LifeReport) (left : Volumes L P) → IsPartTold l p s begun falls done lives part r left
-      → (how : How) → part.crash ≡ Some how → (life : OpenLife L P l p) (kept : KeptLog) → HasGoneOn l p falls how kept s.banks (length s.names) left life
-      → (IsTrue p.tells → FitsLife l p r.life left kept) → IsRunning s begun falls (done ++ part ∷ []) (lives ++ r ∷ []) life
+module _ {L P : Type 0} {l : logs.Ghosts L} {p : disks.Ghosts P} (s : Script) (banks : ℕ) (start : RunStart) (falls : Crash → Volumes L P → Volumes L P → Type 0) where
+  pub running_on : (begun : Volumes L P) (done : List LifePart) (lives : List LifeReport) (part : LifePart) (r : LifeReport) (left : Volumes L P) → IsPartTold l p s banks start begun falls done lives part r left
+      → (how : How) → part.crash ≡ Some how → (life : OpenLife L P l p) (kept : KeptLog) → HasGoneOn l p falls how kept (cluster_of s) banks left life
+      → (IsTrue p.tells → FitsLife l p r.life left kept) → IsRunning s banks start begun falls (done ++ part ∷ []) (lives ++ r ∷ []) life
   running_on begun done lives part r left told how crash life kept gone fit =
-      let goes = gone.goes in
-      let number = goes.number in
-      let banks : goes.cluster.banks ≡ s.banks = goes.banks ∙ gone.banks_are.xact in
+      let so = opened_so kept (with_banks (cluster_of s) banks) gone.mounted life gone.banks_are gone.goes in
       record {
         are = told.are;
-        cluster = goes.cluster;
-        begins = behind p.tells kept number;
-        faults = goes.faults;
+        cluster = so.cluster;
+        begins = so.begins;
+        faults = so.faults;
         mounted = gone.mounted;
-        banks = banks;
-        sessions = goes.sessions_are;
-        opened = next_is_opened kept s.banks (length s.names) gone.mounted life gone.banks_are goes;
-        comes = comes_push s falls lives r begun told.last.mounted left gone.mounted told.last.comes told.last.ended
-            (subst (λ (c : Option How). IfSome c (λ h. HasFallen l p falls h left gone.mounted)) (sym crash ∙ sym told.crash_is) gone.fallen);
-        new = λ none. absurd (push_some lives r none);
+        banks_are = so.banks;
+        sessions = so.sessions;
+        opened = so.opened;
+        comes = comes_push s banks start falls lives r begun told.last.mounted left gone.mounted told.last.comes told.last.ended
+            (subst (λ (c : Option How). IsSomeAnd c (λ h. HasFallen l p falls h left gone.mounted)) (sym crash ∙ sym told.crash_is) gone.fallen);
+        opens = so.opens;
+        first = λ none. absurd (push_some lives r none);
         behind = λ tells next from base.
-            let at = goes.base tells in
-            behind_push lives r next (from_last kept r.life next number (fit tells).ends told.lawful.log.begun at.flushed at.upto from (told_base p.tells kept number goes.cluster.base (base_of next) tells at.counters_are base));
+            let at = so.behind tells (gone.fits tells) in
+            behind_push lives r next (from_last kept r.life next so.begins.number (fit tells).ends told.lawful.log.begun at.flushed at.upto from (base ∙ sym at.base));
       }

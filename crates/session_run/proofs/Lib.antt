@@ -17,8 +17,10 @@ mod LifeFits
 mod LifeLived
 mod Endings
 mod ToolEnds
+pub mod Handed
 mod Opening
 mod Running
 mod GoingOn
 mod LivesRun
 mod Counted
+mod Again

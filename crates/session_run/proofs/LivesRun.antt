@@ -1,14 +1,14 @@
 -- A run, life by life: a life for each part of its script.
-use Rattle.std.proofs.Common.{Bool, Err, IfSome, List, None, Option, Some, [], ap, append-nil, append_assoc, arith, inl, inr, length, length-append, refl, subst, sym, take, ⊎_elim, ℕ, ◌++◌, ◌+◌, ◌∙◌, ◌∷◌, ◌≡◌, ◌≤◌, ◌^◌}
+use Rattle.std.proofs.Common.{Bool, Err, List, None, Option, Some, [], ap, append-nil, append_assoc, arith, inl, inr, length, length-append, refl, subst, sym, take, ⊎_elim, ℕ, ◌++◌, ◌+◌, ◌∙◌, ◌∷◌, ◌≡◌, ◌≤◌, ◌^◌}
 use Rattle.std.proofs.KnownBytes.{Appends-nil, Appends-trans}
 use Rattle.std.proofs.Math.Seq.{take-append-add}
 use Rattle.std.specs.Io.KnownBytes.{Appends}
 use Rattle.std.specs.List.{All}
+use Rattle.std.specs.Prelude.{IsSomeAnd}
 use Rattle.disk_core.specs.declared.log_disk.LogDisk as logs
 use Rattle.disk_core.specs.declared.page_disk.PageDisk as disks
 use Rattle.disk_core.specs.declared.media.Crash.{Crash}
 use Rattle.disk_core.specs.declared.media.Volumes.{Volumes}
-use Rattle.disk_core.specs.Faults.{HasRisen}
 use Rattle.disk_core.specs.Images.{Only}
 use Rattle.tx_model.specs.declared.report.How.{How}
 use Rattle.tx_model.specs.declared.report.LifeReport.{LifeReport}
@@ -16,17 +16,15 @@ use Rattle.tx_model.specs.declared.report.Report.{Report}
 use Rattle.report_text.specs.ReportText.{report_text}
 use Rattle.session_lang.specs.declared.script.Item.{Item}
 use Rattle.session_lang.specs.declared.script.Script.{Script}
-use Rattle.run_law.specs.Lives.{AreLivesBefore, AreRunLives, IsFirstPart, LifePart, last_text, parts_of, text_so_far}
+use Rattle.run_law.specs.Lives.{AreLivesBefore, AreRunLives, IsFirstPart, LifePart, RunStart, last_text, new_start, parts_of, text_so_far}
 use Rattle.run_law.specs.Tool.{IsReportOf}
 use Rattle.run_law.specs.Turns.{HasFewTakers, MayStand}
 use Rattle.run_law.proofs.Lives.{last_part, next_parts, part_runs, parts_takers, parts_shorter, parts_some, rest_shorter}
 use Rattle.tx_io.specs.Causes.{Rose}
+use Rattle.recoverable.specs.Fit.{KeptLog}
 use Rattle.engine_life.specs.declared.life.OpenLife.{OpenLife}
 use Rattle.engine_life.specs.declared.refusal.NoLife.{NoLife}
 use Rattle.engine_life.specs.declared.refusal.NoLife.TheVariants as no_lives
-use Rattle.engine_life.specs.declared.refusal.NotReopened.{NotReopened}
-use Rattle.engine_life.specs.Lives.{IsNewLife}
-use Rattle.engine_life.specs.NextLives.{IsNotReopened}
 use Rattle.engine_life.specs.Refusals.{IsUnopened}
 use Rattle.session_run.specs.declared.stop.Stopped.{Stopped}
 use Rattle.session_run.specs.declared.stop.Stopped.TheVariants as stops
@@ -35,16 +33,18 @@ use Rattle.session_run.specs.Leaves.{HasLeftLast, HaveLeft, LeavesVolumes}
 use Rattle.session_run.specs.Lives.{ComesTo, HasFallen}
 use Rattle.session_run.specs.Parts.{IsTakenPart}
 use Rattle.session_run.specs.Runs.{IsTaken, cluster_of}
-use Rattle.session_run.specs.Stops.{IsStopped, IsTextOfRun, IsUndamaged, Stops, StopsBehind, no_life_by}
-use Rattle.session_run.proofs.GoingOn.{risen_from, since}
-use Rattle.session_run.proofs.Running.{comes_push, first_running, run_told, so_whole}
+use Rattle.session_run.specs.Starts.{BeginsOver}
+use Rattle.session_run.specs.Stops.{IsStopped, IsTextOfRun, IsUndamaged, Stops, StopsBehind}
+use Rattle.session_run.proofs.GoingOn.{since}
+use Rattle.session_run.proofs.Opening.{IsFirst, start_so}
+use Rattle.session_run.proofs.Running.{comes_push, run_told, so_whole}
 
 rose_from : (a b c : ℕ) → a ≤ b → Rose b c → Rose a c
 rose_from a b c low rose = grind arith
 
 -- before the first life
-pub none_before : (tells : Bool) (s : Script) → AreLivesBefore tells s []
-none_before tells s = record {
+pub none_before : (tells : Bool) (banks : ℕ) (start : RunStart) (s : Script) → AreLivesBefore tells banks start s []
+none_before tells banks start s = record {
   done = [];
   rest = parts_of s.items;
   split = refl;
@@ -61,49 +61,54 @@ module _ {L P : Type 0} (l : logs.Ghosts L) (p : disks.Ghosts P) (falls : Crash 
       let k = last_left r lives c.1 mounted c.4 in
       (q ∷ k.0, k.1, ap (λ (t : List LifeReport). q ∷ t) k.2, k.3, record { mounted = k.4.mounted; comes = (c.0, c.1, c.2, c.3, k.4.comes); ended = k.4.ended })
 
-module _ {L P : Type 0} (l : logs.Ghosts L) (p : disks.Ghosts P) (s : Script) (first : ℕ → Volumes L P → Type 0) (falls : Crash → Volumes L P → Volumes L P → Type 0) (before now : ℕ) (gives : Volumes L P → Type 0) where
-  abbrev Stopped_by : List LifeReport → NoLife → Type 0
-  Stopped_by lives refusal = Stops l p first falls before now gives s lives refusal
+module _ {L P : Type 0} (l : logs.Ghosts L) (p : disks.Ghosts P) (s : Script) (first : ℕ → Volumes L P → Type 0) (kept : KeptLog) (falls : Crash → Volumes L P → Volumes L P → Type 0) (before now : ℕ) (gives : Volumes L P → Type 0) where
+  memory_undamaged : IsUndamaged l p no_lives.Memory
+  memory_undamaged at same lt pt = absurd (let q : no_lives.Memory ≡ no_lives.Damaged at = same in cc)
 
-  stops_behind : (lives : List LifeReport) (r : LifeReport) (refusal : NoLife) → StopsBehind l p first falls before now gives s (lives ++ r ∷ []) refusal → Stopped_by (lives ++ r ∷ []) refusal
-  stops_behind [] r refusal u = u
-  stops_behind (q ∷ lives) r refusal u = u
+  abbrev Stopped_by : ℕ → RunStart → List LifeReport → NoLife → Type 0
+  Stopped_by banks start lives refusal = Stops l p first kept falls before now gives s banks start lives refusal
+
+  stops_behind : (banks : ℕ) (start : RunStart) (lives : List LifeReport) (r : LifeReport) (refusal : NoLife) → StopsBehind l p first kept falls before now gives s banks start (lives ++ r ∷ []) refusal → Stopped_by banks start (lives ++ r ∷ []) refusal
+  stops_behind banks start [] r refusal u = u
+  stops_behind banks start (q ∷ lives) r refusal u = u
 
   -- memory was wanting for the text of a life
-  memory_stops : (lives : List LifeReport) (begun mounted : Volumes L P) → first s.banks begun → ComesTo l p falls lives begun mounted → Stopped_by lives no_lives.Memory
-  memory_stops [] begun mounted began comes = tt
-  memory_stops (q ∷ lives) begun mounted began comes =
+  memory_stops : (banks : ℕ) (start : RunStart) (lives : List LifeReport) (begun mounted : Volumes L P) → BeginsOver l p first kept s banks start begun → ComesTo l p falls lives begun mounted → Stopped_by banks start lives no_lives.Memory
+  memory_stops banks start [] begun mounted began comes = tt
+  memory_stops banks start (q ∷ lives) begun mounted began comes =
       let k = last_left l p falls q lives begun mounted comes in
-      (k.3, record { before = k.0; last = k.1; lives_are = k.2; begun = begun; began = began; has_left = k.4 }, inl refl)
+      (k.3, record { before = k.0; last = k.1; lives_are = k.2; begun = begun; began = began; has_left = k.4 }, tt, memory_undamaged)
 
   -- or for the line that tells of another stop
-  pub then_memory : (lives : List LifeReport) (refusal : NoLife) → Stopped_by lives refusal → Stopped_by lives no_lives.Memory
-  then_memory [] refusal u = tt
-  then_memory (q ∷ lives) refusal u = (u.0, u.1, inl refl)
+  pub then_memory : (banks : ℕ) (start : RunStart) (lives : List LifeReport) (refusal : NoLife) → Stopped_by banks start lives refusal → Stopped_by banks start lives no_lives.Memory
+  then_memory banks start [] refusal u = tt
+  then_memory banks start (q ∷ lives) refusal u = (u.0, u.1, tt, memory_undamaged)
 
   -- the first life wasn't opened
-  pub unopened_stops : (held : Option (List ℕ)) (faults faults' : ℕ) (refusal : NoLife) → IsUnopened l p (cluster_of s) first before now gives refusal → IsStopped l p first falls before now gives s held held faults faults' (stops.NoLife refusal)
-  unopened_stops held faults faults' refusal u = ([], none_before p.tells s, Appends-nil held, u)
+  pub unopened_stops : (held : Option (List ℕ)) (faults faults' : ℕ) (refusal : NoLife) → IsUnopened l p (cluster_of s) first before now gives refusal → IsStopped l p first kept falls before now gives s held held faults faults' (stops.NoLife refusal)
+  unopened_stops held faults faults' refusal u = (s.banks, new_start s, [], none_before p.tells s.banks (new_start s) s, Appends-nil held, u)
 
 -- the text of a part that stands behind those of the lives before
-text_ends : (tells : Bool) (s : Script) (done : List LifePart) (lives : List LifeReport) (items its : List Item) (crash : Option How) (rest : List Item) (r : LifeReport) → parts_of s.items ≡ done ++ parts_of items → IsFirstPart items its crash rest
-    → AreRunLives tells s (done ++ part_of its crash ∷ []) (lives ++ r ∷ []) → IsTextOfRun tells s (lives ++ r ∷ []) (text_so_far s.names (lives ++ r ∷ []) ++ last_text crash)
-text_ends tells s done lives items its None rest r parts f are =
+text_ends : (tells : Bool) (banks : ℕ) (start : RunStart) (few : banks ≤ 16) (s : Script) (done : List LifePart) (lives : List LifeReport) (items its : List Item) (crash : Option How) (rest : List Item) (r : LifeReport) → parts_of s.items ≡ done ++ parts_of items → IsFirstPart items its crash rest
+    → AreRunLives tells banks start (done ++ part_of its crash ∷ []) (lives ++ r ∷ []) → IsTextOfRun tells banks start s (lives ++ r ∷ []) (text_so_far s.names (lives ++ r ∷ []) ++ last_text crash)
+text_ends tells banks start few s done lives items its None rest r parts f are =
     let all : parts_of s.items ≡ done ++ part_of its None ∷ [] = parts ∙ ap (λ (ps : List LifePart). done ++ ps) (last_part items its None rest f refl) in
-    inl (record { names = refl; lives = subst (λ (ps : List LifePart). AreRunLives tells s ps (lives ++ r ∷ [])) (sym all) are }, so_whole s.names lives r)
-text_ends tells s done lives items its (Some how) rest r parts f are =
+    inl (record { few = few; names = refl; lives = subst (λ (ps : List LifePart). AreRunLives tells banks start ps (lives ++ r ∷ [])) (sym all) are }, so_whole s.names lives r)
+text_ends tells banks start few s done lives items its (Some how) rest r parts f are =
     let split : parts_of s.items ≡ (done ++ part_of its (Some how) ∷ []) ++ parts_of rest = parts ∙ (ap (λ (ps : List LifePart). done ++ ps) (next_parts items its (Some how) rest f how refl) ∙ sym (append_assoc done (part_of its (Some how) ∷ []) (parts_of rest))) in
     inr (record { done = done ++ part_of its (Some how) ∷ []; rest = parts_of rest; split = split; more = parts_some [] rest; are = are }, append-nil (text_so_far s.names (lives ++ r ∷ [])))
 
-module _ {L P : Type 0} {l : logs.Ghosts L} {p : disks.Ghosts P} (s : Script) (first : ℕ → Volumes L P → Type 0) (falls : Crash → Volumes L P → Volumes L P → Type 0) where
+module _ {L P : Type 0} {l : logs.Ghosts L} {p : disks.Ghosts P} (s : Script) (first : ℕ → Volumes L P → Type 0) (kept : KeptLog) (falls : Crash → Volumes L P → Volumes L P → Type 0) where
   -- How far a run has come: the next life is open, and these items are left to it and to those behind it. What was written
   -- is the text of the lives before.
   pub record HasCome (held held' : Option (List ℕ)) (items : List Item) (number : ℕ) (life : OpenLife L P l p) : Type 0 where
+    pub banks : ℕ
+    pub start : RunStart
     pub begun : Volumes L P
-    pub began : first s.banks begun
+    pub began : BeginsOver l p first kept s banks start begun
     pub done : List LifePart
     pub lives : List LifeReport
-    pub running : IsRunning s begun falls done lives life
+    pub running : IsRunning s banks start begun falls done lives life
     pub count : number ≡ length lives + 1
     pub parts : parts_of s.items ≡ done ++ parts_of items
     pub wrote : Appends held held' (text_so_far s.names lives)
@@ -112,13 +117,28 @@ module _ {L P : Type 0} {l : logs.Ghosts L} {p : disks.Ghosts P} (s : Script) (f
     pub takers : HasFewTakers items
 
   -- before the first life
-  pub come_first : (held : Option (List ℕ)) (volumes : Volumes L P) (life : OpenLife L P l p) → IsTaken s → first s.banks volumes → IsNewLife (cluster_of s) volumes life → HasCome held held s.items 1 life
-  come_first held volumes life taken began new = record {
-    begun = volumes;
-    began = began;
+  pub come_first : (held : Option (List ℕ)) (life : OpenLife L P l p) → IsTaken s → IsFirst l p s first kept life → HasCome held held s.items 1 life
+  come_first held life taken is = record {
+    banks = is.so.cluster.banks;
+    start = start_so is.so.cluster is.so.begins;
+    begun = is.volumes;
+    began = is.began;
     done = [];
     lives = [];
-    running = first_running s falls volumes life new;
+    running = record {
+      are = record { of = tt; begin = tt; bases = tt; go_on = λ told. tt };
+      cluster = is.so.cluster;
+      begins = is.so.begins;
+      faults = is.so.faults;
+      mounted = is.volumes;
+      banks_are = refl;
+      sessions = is.so.sessions;
+      opened = is.so.opened;
+      comes = refl;
+      opens = is.so.opens;
+      first = λ none. (refl, refl);
+      behind = λ told next from base. tt;
+    };
     count = refl;
     parts = refl;
     wrote = Appends-nil held;
@@ -154,14 +174,17 @@ module _ {L P : Type 0} {l : logs.Ghosts L} {p : disks.Ghosts P} (s : Script) (f
         ∙ (ap (λ (ps : List LifePart). h.done ++ ps) (next_parts items its crash rest f how some ∙ ap (λ (c : Option How). part_of its c ∷ parts_of rest) (sym some))
         ∙ sym (append_assoc h.done (part_of its crash ∷ []) (parts_of rest)))
 
-    lives_before : (how : How) (r : LifeReport) → crash ≡ Some how → AreRunLives p.tells s (h.done ++ part_of its crash ∷ []) (h.lives ++ r ∷ []) → AreLivesBefore p.tells s (h.lives ++ r ∷ [])
+    few_banks : h.banks ≤ 16
+    few_banks = subst (λ n. n ≤ 16) h.running.banks_are h.running.opened.banks.few
+
+    lives_before : (how : How) (r : LifeReport) → crash ≡ Some how → AreRunLives p.tells h.banks h.start (h.done ++ part_of its crash ∷ []) (h.lives ++ r ∷ []) → AreLivesBefore p.tells h.banks h.start s (h.lives ++ r ∷ [])
     lives_before how r some are = record { done = h.done ++ part_of its crash ∷ []; rest = parts_of rest; split = split how some; more = parts_some [] rest; are = are }
 
     so_far : (how : How) (r : LifeReport) → crash ≡ Some how → text_so_far s.names (h.lives ++ r ∷ []) ++ last_text crash ≡ text_so_far s.names (h.lives ++ r ∷ [])
     so_far how r some = ap (λ (c : Option How). text_so_far s.names (h.lives ++ r ∷ []) ++ last_text c) some ∙ append-nil (text_so_far s.names (h.lives ++ r ∷ []))
 
-    module _ (held' : Option (List ℕ)) (r : LifeReport) (left : Volumes L P) (told : IsPartTold l p s h.begun falls h.done h.lives (part_of its crash) r left) where
-      abbrev have_left : HaveLeft l p (first s.banks) falls (h.lives ++ r ∷ []) left
+    module _ (held' : Option (List ℕ)) (r : LifeReport) (left : Volumes L P) (told : IsPartTold l p s h.banks h.start h.begun falls h.done h.lives (part_of its crash) r left) where
+      abbrev have_left : HaveLeft l p (BeginsOver l p first kept s h.banks h.start) falls (h.lives ++ r ∷ []) left
       have_left = record { before = h.lives; last = r; lives_are = refl; begun = h.begun; began = h.began; has_left = told.last }
 
       wrote : (how : How) → crash ≡ Some how → Appends mid held' told.text → Appends held held' (text_so_far s.names (h.lives ++ r ∷ []))
@@ -169,17 +192,19 @@ module _ {L P : Type 0} {l : logs.Ghosts L} {p : disks.Ghosts P} (s : Script) (f
 
       -- it was the last part
       pub run_ends : (gives : Volumes L P → Type 0) → crash ≡ None → Appends mid held' told.text → Only left gives
-          → (report : Report) × IsReportOf p.tells s report × Appends held held' (report_text report) × LeavesVolumes l p (first s.banks) falls gives report.lives
-      run_ends gives none more only = run_told s falls h.begun h.done h.lives (part_of its crash) held mid held' r left (first s.banks) gives told more none (whole none) h.wrote h.began only
+          → (report : Report) × IsReportOf p.tells h.banks h.start s report × Appends held held' (report_text report) × LeavesVolumes l p (BeginsOver l p first kept s h.banks h.start) falls gives report.lives
+      run_ends gives none more only = run_told s h.banks h.start falls h.begun h.done h.lives (part_of its crash) held mid held' r left (BeginsOver l p first kept s h.banks h.start) gives few_banks told more none (whole none) h.wrote h.began only
 
       -- it crashed, and the next life is open
-      pub come_on : (how : How) (next : OpenLife L P l p) → crash ≡ Some how → Appends mid held' told.text → IsRunning s h.begun falls (h.done ++ part_of its crash ∷ []) (h.lives ++ r ∷ []) next → HasCome held held' rest (number + 1) next
+      pub come_on : (how : How) (next : OpenLife L P l p) → crash ≡ Some how → Appends mid held' told.text → IsRunning s h.banks h.start h.begun falls (h.done ++ part_of its crash ∷ []) (h.lives ++ r ∷ []) next → HasCome held held' rest (number + 1) next
       come_on how next some more running =
           let count = h.count in
           let short = h.short in
           let fewer = rest_shorter items its crash rest f how some in
           let size = length-append h.lives (r ∷ []) in
           record {
+            banks = h.banks;
+            start = h.start;
             begun = h.begun;
             began = h.began;
             done = h.done ++ part_of its crash ∷ [];
@@ -194,21 +219,15 @@ module _ {L P : Type 0} {l : logs.Ghosts L} {p : disks.Ghosts P} (s : Script) (f
           }
 
       -- it crashed, and no life goes on
-      crash_stops : (gives : Volumes L P → Type 0) (faults count now : ℕ) (how : How) (refusal : NoLife) → faults ≤ count → crash ≡ Some how → IsCrashed l p falls how count now left gives refusal → StopsBehind l p first falls faults now gives s (h.lives ++ r ∷ []) refusal
+      crash_stops : (gives : Volumes L P → Type 0) (faults count now : ℕ) (how : How) (refusal : NoLife) → faults ≤ count → crash ≡ Some how → IsCrashed l p (cluster_of s) falls how count now left gives refusal
+          → StopsBehind l p first kept falls faults now gives s h.banks h.start (h.lives ++ r ∷ []) refusal
       crash_stops gives faults count now how refusal later some none = (
         left,
         have_left,
-        inr (⊎_elim
-            (λ (a : (refusal ≡ no_lives.Device) × HasRisen count now). inl (a.0, risen_from faults count now later a.1))
-            (λ (b : (e : NotReopened) × (refusal ≡ no_life_by e) × IsNotReopened l p count now (HasFallen l p falls how left) gives e × IsUndamaged l p refusal).
-            inr (
-              b.0,
-              b.1,
-              since l p (HasFallen l p falls how left) (ComesTo l p falls (h.lives ++ r ∷ []) h.begun) gives faults count now later (λ v fell. comes_push s falls h.lives r h.begun told.last.mounted left v told.last.comes told.last.ended
-                  (subst (λ (c : Option How). IfSome c (λ k. HasFallen l p falls k left v)) (sym some ∙ sym told.crash_is) fell)) b.0 b.2,
-              b.3,
-            ))
-            none),
+        since l p (cluster_of s) (λ banks volumes. HasFallen l p falls how left volumes) (λ banks volumes. ComesTo l p falls (h.lives ++ r ∷ []) h.begun volumes) gives faults count now later
+            (λ v fell. comes_push s h.banks h.start falls h.lives r h.begun told.last.mounted left v told.last.comes told.last.ended
+            (subst (λ (c : Option How). IsSomeAnd c (λ k. HasFallen l p falls k left v)) (sym some ∙ sym told.crash_is) fell)) refusal none.0,
+        none.1,
       )
 
   -- ---- a part stopped
@@ -217,23 +236,25 @@ module _ {L P : Type 0} {l : logs.Ghosts L} {p : disks.Ghosts P} (s : Script) (f
       (its : List Item) (crash : Option How) (rest : List Item) (f : IsFirstPart items its crash rest)
       (before between now : ℕ) (gives : Volumes L P → Type 0) (faults mids faults' : ℕ) (later : before ≤ between) (sink : faults ≤ mids) where
     abbrev went : Stopped → Type 0
-    went stop = PartWent l p s h.begun falls h.done h.lives (part_of its crash) mid held' mids faults' between now gives (Err stop)
+    went stop = PartWent l p s h.banks h.start h.begun falls h.done h.lives (part_of its crash) mid held' mids faults' between now gives (Err stop)
 
     abbrev fell : NoLife → Type 0
     fell refusal =
         (how : How) × (crash ≡ Some how) × (r : LifeReport) × (left : Volumes L P)
-        × (told : IsPartTold l p s h.begun falls h.done h.lives (part_of its crash) r left) × Appends mid held' told.text
-        × IsCrashed l p falls how between now left gives refusal
+        × (told : IsPartTold l p s h.banks h.start h.begun falls h.done h.lives (part_of its crash) r left) × Appends mid held' told.text
+        × IsCrashed l p (cluster_of s) falls how between now left gives refusal
 
-    pub part_stops : (stop : Stopped) → went stop → IsStopped l p first falls before now gives s held held' faults faults' stop
+    pub part_stops : (stop : Stopped) → went stop → IsStopped l p first kept falls before now gives s held held' faults faults' stop
     part_stops stops.Sink w =
         let front = text_so_far s.names h.lives in
         let told = w.3 in (
           rose_from faults mids faults' sink w.0,
           front ++ told.text,
           record {
+            banks = h.banks;
+            start = h.start;
             lives = h.lives ++ w.1 ∷ [];
-            text_is = subst (IsTextOfRun p.tells s (h.lives ++ w.1 ∷ [])) (sym told.exact) (text_ends p.tells s h.done h.lives items its crash rest w.1 h.parts f told.are);
+            text_is = subst (IsTextOfRun p.tells h.banks h.start s (h.lives ++ w.1 ∷ [])) (sym told.exact) (text_ends p.tells h.banks h.start (few_banks held mid items number life h its crash rest f) s h.done h.lives items its crash rest w.1 h.parts f told.are);
             leaves = record { left = w.2; have_left = have_left held mid items number life h its crash rest f held' w.1 w.2 told; only = w.6 };
           },
           length front + w.4,
@@ -241,14 +262,18 @@ module _ {L P : Type 0} {l : logs.Ghosts L} {p : disks.Ghosts P} (s : Script) (f
         )
     part_stops (stops.NoLife refusal) w = ⊎_elim
         (λ (a : (refusal ≡ no_lives.Memory) × Appends mid held' []). (
+          h.banks,
+          h.start,
           h.lives,
           record { done = h.done; rest = parts_of items; split = h.parts; more = parts_some [] items; are = h.running.are },
           subst (Appends held held') (append-nil (text_so_far s.names h.lives)) (Appends-trans held mid held' (text_so_far s.names h.lives) [] h.wrote a.1),
-          subst (Stops l p first falls before now gives s h.lives) (sym a.0) (memory_stops l p s first falls before now gives h.lives h.begun h.running.mounted h.began h.running.comes),
+          subst (Stops l p first kept falls before now gives s h.banks h.start h.lives) (sym a.0) (memory_stops l p s first kept falls before now gives h.banks h.start h.lives h.begun h.running.mounted h.began h.running.comes),
         ))
         (λ (b : fell refusal). (
+          h.banks,
+          h.start,
           h.lives ++ b.2 ∷ [],
           lives_before held mid items number life h its crash rest f b.0 b.2 b.1 b.4.are,
           wrote held mid items number life h its crash rest f held' b.2 b.3 b.4 b.0 b.1 b.5,
-          stops_behind l p s first falls before now gives h.lives b.2 refusal (crash_stops held mid items number life h its crash rest f held' b.2 b.3 b.4 gives before between now b.0 refusal later b.1 b.6),
+          stops_behind l p s first kept falls before now gives h.banks h.start h.lives b.2 refusal (crash_stops held mid items number life h its crash rest f held' b.2 b.3 b.4 gives before between now b.0 refusal later b.1 b.6),
         )) w

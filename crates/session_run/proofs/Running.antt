@@ -1,8 +1,9 @@
 -- A run goes on from life to life.
-use Rattle.std.proofs.Common.{List, None, Option, IfSome, [], ap, arith, length, refl, subst, sym, ℕ, ◌++◌, ◌+◌, ◌∙◌, ◌∷◌, ◌≡◌}
+use Rattle.std.proofs.Common.{List, None, Option, [], ap, arith, length, refl, subst, sym, ℕ, ◌++◌, ◌+◌, ◌∙◌, ◌∷◌, ◌≡◌, ◌≤◌}
 use Rattle.std.proofs.KnownBytes.{Appends-trans}
 use Rattle.std.specs.Io.KnownBytes.{Appends}
 use Rattle.std.specs.List.{flat_map}
+use Rattle.std.specs.Prelude.{IsSomeAnd}
 use Rattle.disk_core.specs.declared.log_disk.LogDisk as logs
 use Rattle.disk_core.specs.declared.page_disk.PageDisk as disks
 use Rattle.disk_core.specs.declared.media.Crash.{Crash}
@@ -14,21 +15,20 @@ use Rattle.tx_events.specs.declared.record.Counters.{Counters}
 use Rattle.tx_model.specs.declared.report.How.{How}
 use Rattle.tx_model.specs.declared.report.LifeReport.{LifeReport}
 use Rattle.tx_model.specs.declared.report.Report.{Report}
-use Rattle.tx_model.specs.Rounds.{BeginsLog}
 use Rattle.life_law.specs.LawfulLife.{IsLawfulLife}
 use Rattle.report_text.specs.ReportText.{end_text, report_text, rest_text, step_text}
 use Rattle.script_rounds.specs.declared.keeper.LineKeeper as keepers
 use Rattle.session_lang.specs.declared.script.Item.{Item}
 use Rattle.session_lang.specs.declared.script.Script.{Script}
 use Rattle.session_lang.specs.Rounds.{asked_of}
-use Rattle.run_law.specs.Lives.{AreRunLives, BeginsWithBase, IsFrontOf, LifePart, last_text, parts_of, text_so_far}
+use Rattle.run_law.specs.Lives.{AreRunLives, BeginsRun, BeginsWithBase, IsFrontOf, LifePart, RunStart, last_text, parts_of, text_so_far}
 use Rattle.run_law.specs.Tool.{IsReportOf}
 use Rattle.run_law.proofs.RunLives.{run_lives_push, so_far_push, whole_text}
 use Rattle.engine_host.specs.declared.cluster.Cluster.{Cluster}
-use Rattle.engine_host.specs.Opening.{Beginning, nothing_before}
+use Rattle.engine_host.specs.Opening.{Beginning}
 use Rattle.engine_life.specs.declared.closed.ClosedLife.{ClosedLife}
 use Rattle.engine_life.specs.declared.life.OpenLife.{OpenLife}
-use Rattle.engine_life.specs.Lives.{IsNewLife, number_of, volumes_left}
+use Rattle.engine_life.specs.Lives.{number_of, volumes_left}
 use Rattle.session_run.specs.OneLife.{HasRunLife, life_of}
 use Rattle.session_run.specs.Parts.{report_of}
 use Rattle.session_run.specs.Records.{BankHolds}
@@ -36,12 +36,6 @@ use Rattle.script_source.specs.declared.life_text.LifeText.{LifeText}
 use Rattle.session_run.specs.Going.{IsPartTold, IsRunning, IsToldLife, part_of}
 use Rattle.session_run.specs.Leaves.{LeavesVolumes}
 use Rattle.session_run.specs.Lives.{ComesTo, HasEndedOn, HasFallen}
-use Rattle.session_run.specs.Runs.{cluster_of}
-use Rattle.session_run.proofs.Opening.{new_is_opened}
-
-none_of : {X : Type 0} (xs : List X) → length xs ≡ 0 → xs ≡ []
-none_of [] e = refl
-none_of (x ∷ xs) e = absurd (omega (arith, e))
 
 pub push_some : {X : Type 0} (xs : List X) (x : X) → xs ++ x ∷ [] ≡ [] → ⊥
 push_some [] x e = cc
@@ -64,43 +58,20 @@ told_life l p keep c b mounted names its number crash closed kept base text ran 
   multis = subst (λ (k : Counters). IsFullMulti k.multi × IsFullMulti k.oldest_multi) same multis;
 }
 
-module _ {L P : Type 0} {l : logs.Ghosts L} {p : disks.Ghosts P} (s : Script) (falls : Crash → Volumes L P → Volumes L P → Type 0) where
-  -- a life over a new log is the first one
-  pub first_running : (volumes : Volumes L P) (life : OpenLife L P l p) → IsNewLife (cluster_of s) volumes life → IsRunning s volumes falls [] [] life
-  first_running volumes life new = record {
-    are = record { of = tt; begin = tt; bases = tt; go_on = λ told. tt };
-    cluster = cluster_of s;
-    begins = nothing_before;
-    faults = new.faults;
-    mounted = volumes;
-    banks = refl;
-    sessions = refl;
-    opened = new_is_opened (cluster_of s) volumes life new;
-    comes = refl;
-    new = λ none. (refl, refl);
-    behind = λ told next from base. tt;
-  }
-
+module _ {L P : Type 0} {l : logs.Ghosts L} {p : disks.Ghosts P} (s : Script) (banks : ℕ) (start : RunStart) (falls : Crash → Volumes L P → Volumes L P → Type 0) where
   -- ---- a part
 
-  module _ (begun : Volumes L P) (done : List LifePart) (lives : List LifeReport) (life : OpenLife L P l p) (run : IsRunning s begun falls done lives life)
+  module _ (begun : Volumes L P) (done : List LifePart) (lives : List LifeReport) (life : OpenLife L P l p) (run : IsRunning s banks start begun falls done lives life)
       (its : List Item) (number : ℕ) (crash : Option How) (closed : ClosedLife L P l) (text : LifeText) (count : number ≡ length lives + 1)
       (told : IsToldLife l p s.names its number crash run.cluster run.begins run.mounted closed text) where
     abbrev pub told_of : LifeReport
     told_of = report_of (life_of run.cluster run.begins closed) told.steps crash
 
-    pub lawful : IsLawfulLife p.tells s.banks (asked_of its) told_of
-    lawful = subst (λ n. IsLawfulLife p.tells n (asked_of its) told_of) run.banks (told.lived.lawful crash)
+    pub lawful : IsLawfulLife p.tells banks (asked_of its) told_of
+    lawful = subst (λ n. IsLawfulLife p.tells n (asked_of its) told_of) run.banks_are (told.lived.lawful crash)
 
-    first : lives ≡ [] → BeginsLog s.base told_of.life
-    first none =
-        let new = run.new none in
-        record {
-          from = ap (λ (b : Beginning). b.number) new.1;
-          base_is = ap (λ (c : Cluster). c.base) new.0;
-          committed = ap (λ (b : Beginning). b.committed) new.1;
-          recorded = ap (λ (b : Beginning). b.recorded) new.1;
-        }
+    first : lives ≡ [] → BeginsRun start told_of.life
+    first none = let so = run.first none in record { from = so.0; base = so.1 }
 
     begins : BeginsWithBase told_of
     begins = record {
@@ -109,15 +80,15 @@ module _ {L P : Type 0} {l : logs.Ghosts L} {p : disks.Ghosts P} (s : Script) (f
       oldest_multi = told.multis.1;
     }
 
-    pub part_are : AreRunLives p.tells s (done ++ part_of its crash ∷ []) (lives ++ told_of ∷ [])
-    part_are = run_lives_push p.tells s done lives (part_of its crash) told_of run.are lawful refl first (λ some. begins) (λ tells. run.behind tells told_of.life refl refl)
+    pub part_are : AreRunLives p.tells banks start (done ++ part_of its crash ∷ []) (lives ++ told_of ∷ [])
+    part_are = run_lives_push p.tells banks start done lives (part_of its crash) told_of run.are lawful refl first begins (λ tells. run.behind tells told_of.life refl refl)
 
     pub part_text : text_so_far s.names lives ++ (text.front ++ text.rest) ≡ text_so_far s.names (lives ++ told_of ∷ []) ++ last_text crash
     part_text =
         ap (λ (t : List ℕ). text_so_far s.names lives ++ (text.front ++ t)) told.rest
-        ∙ so_far_push s.names lives told_of number text.front count told.front (λ one. ap (λ (b : Beginning). b.number) (run.new (none_of lives (omega (arith, one, count)))).1)
+        ∙ so_far_push s.names lives told_of number text.front count told.front
 
-    abbrev pub part_told : IsPartTold l p s begun falls done lives (part_of its crash) told_of (volumes_left closed)
+    abbrev pub part_told : IsPartTold l p s banks start begun falls done lives (part_of its crash) told_of (volumes_left closed)
     part_told = record {
       are = part_are;
       lawful = lawful;
@@ -129,11 +100,12 @@ module _ {L P : Type 0} {l : logs.Ghosts L} {p : disks.Ghosts P} (s : Script) (f
         comes = run.comes;
         ended = record {
           same = told.left.same;
+          opened = run.opens;
           causes = told.left.causes;
           log = told.left.log;
           states = λ tells bank low.
-              let banks = run.opened.banks.xact in
-              subst (λ n. BankHolds p told_of.life n bank (volumes_left closed).xact.items) (sym banks) (told.left.states tells bank (omega (arith, low, banks)));
+              let many = run.opened.banks.xact in
+              subst (λ n. BankHolds p told_of.life n bank (volumes_left closed).xact.items) (sym many) (told.left.states tells bank (omega (arith, low, many)));
           fit = told.left.fit;
         };
       };
@@ -141,19 +113,19 @@ module _ {L P : Type 0} {l : logs.Ghosts L} {p : disks.Ghosts P} (s : Script) (f
 
   -- ---- a crash, and the next life
 
-  pub comes_push : (lives : List LifeReport) (r : LifeReport) (begun mounted left next : Volumes L P) → ComesTo l p falls lives begun mounted → HasEndedOn l p r mounted left → IfSome r.crash (λ how. HasFallen l p falls how left next) → ComesTo l p falls (lives ++ r ∷ []) begun next
+  pub comes_push : (lives : List LifeReport) (r : LifeReport) (begun mounted left next : Volumes L P) → ComesTo l p falls lives begun mounted → HasEndedOn l p r mounted left → IsSomeAnd r.crash (λ how. HasFallen l p falls how left next) → ComesTo l p falls (lives ++ r ∷ []) begun next
   comes_push [] r begun mounted left next comes ended fell = (left, next, subst (λ (v : Volumes L P). HasEndedOn l p r v left) comes ended, fell, refl)
   comes_push (q ∷ lives) r begun mounted left next comes ended fell = (comes.0, comes.1, comes.2, comes.3, comes_push lives r comes.1 mounted left next comes.4 ended fell)
 
   -- ---- the last part
 
-  pub run_told : (begun : Volumes L P) (done : List LifePart) (lives : List LifeReport) (part : LifePart) (first held held' : Option (List ℕ)) (r : LifeReport) (left : Volumes L P) (may gives : Volumes L P → Type 0) → (told : IsPartTold l p s begun falls done lives part r left) → Appends held held' told.text
+  pub run_told : (begun : Volumes L P) (done : List LifePart) (lives : List LifeReport) (part : LifePart) (first held held' : Option (List ℕ)) (r : LifeReport) (left : Volumes L P) (may gives : Volumes L P → Type 0) → banks ≤ 16 → (told : IsPartTold l p s banks start begun falls done lives part r left) → Appends held held' told.text
       → part.crash ≡ None → parts_of s.items ≡ done ++ part ∷ [] → Appends first held (text_so_far s.names lives) → may begun → Only left gives
-      → (report : Report) × IsReportOf p.tells s report × Appends first held' (report_text report) × LeavesVolumes l p may falls gives report.lives
-  run_told begun done lives part first held held' r left may gives told wrote last all so_far began only =
+      → (report : Report) × IsReportOf p.tells banks start s report × Appends first held' (report_text report) × LeavesVolumes l p may falls gives report.lives
+  run_told begun done lives part first held held' r left may gives few told wrote last all so_far began only =
       let report : Report = record { names = s.names; lives = lives ++ r ∷ [] } in (
         report,
-        record { names = refl; lives = subst (λ (ps : List LifePart). AreRunLives p.tells s ps (lives ++ r ∷ [])) (sym all) told.are },
+        record { few = few; names = refl; lives = subst (λ (ps : List LifePart). AreRunLives p.tells banks start ps (lives ++ r ∷ [])) (sym all) told.are },
         subst (Appends first held')
             (told.exact ∙ ap (λ (c : Option How). text_so_far s.names (lives ++ r ∷ []) ++ last_text c) last ∙ so_whole s.names lives r)
             (Appends-trans first held held' (text_so_far s.names lives) told.text so_far wrote),

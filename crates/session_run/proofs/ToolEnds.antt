@@ -12,6 +12,7 @@ use Rattle.script_gen.specs.Generated.{generated}
 use Rattle.script_gen.specs.Words.{IsGen}
 use Rattle.script_source.specs.declared.script.NoScript.{NoScript}
 use Rattle.script_source.specs.declared.script.NoScript.TheVariants as no_scripts
+use Rattle.recoverable.specs.Fit.{KeptLog}
 use Rattle.engine_life.specs.declared.refusal.NoLife.{NoLife}
 use Rattle.engine_life.specs.declared.refusal.NoLife.TheVariants as no_lives
 use Rattle.engine_life.specs.Refusals.{IsOfVolumes}
@@ -23,6 +24,7 @@ use Rattle.session_run.specs.Leaves.{LeavesVolumes}
 use Rattle.session_run.specs.Tool.{Ends, HasMounted, HasWritten, IsMemoryLast, IsTask, IsUnread, IsUnrun, IsUnrunBy, IsWholeSummary, TellsRefusal, TellsStop, damage_text, status_of, text_of, unread_by}
 use Rattle.session_run.specs.declared.stop.Stopped.{Stopped}
 use Rattle.session_run.specs.declared.stop.Stopped.TheVariants as stops
+use Rattle.session_run.specs.Starts.{BeginsOver}
 use Rattle.session_run.specs.Stops.{MountsFirst}
 use Rattle.session_run.proofs.Endings.{gen_by, run_asked, run_not_gen}
 
@@ -48,7 +50,6 @@ module _ (held mid new : Option (List ℕ)) (faults between now : ℕ) (later : 
   written_on written endings.Device w f = Appends-trans held mid new written (text_of endings.Device) w f
   written_on written (endings.Damaged text) w f = Appends-trans held mid new written text.items w f
   written_on written endings.Full w f = Appends-trans held mid new written (text_of endings.Full) w f
-  written_on written endings.OldLog w f = Appends-trans held mid new written (text_of endings.OldLog) w f
 
   -- so with its status, or the sink failed
   pub told_on : (written : List ℕ) (status : ℕ) (e : Ending) → HasWritten held mid faults between written e → ((status ≡ status_of e) × Appends mid new (text_of e)) ⊎ ((status ≡ 4) × Rose between now)
@@ -74,7 +75,6 @@ module _ (held mid new : Option (List ℕ)) (faults between now : ℕ) (later : 
   front_on written endings.Device w f = front_behind written (text_of endings.Device) f.0 w f.1
   front_on written (endings.Damaged text) w f = front_behind written text.items f.0 w f.1
   front_on written endings.Full w f = front_behind written (text_of endings.Full) f.0 w f.1
-  front_on written endings.OldLog w f = front_behind written (text_of endings.OldLog) f.0 w f.1
 
 -- ---- of which volumes were mounted
 
@@ -94,7 +94,6 @@ refused_mounted refusal endings.Memory t m = absurd m
 refused_mounted refusal endings.Device t m = absurd m
 refused_mounted refusal (endings.Damaged text) t m = subst IsOfVolumes (sym t.2) tt
 refused_mounted refusal endings.Full t m = subst IsOfVolumes (sym t) tt
-refused_mounted refusal endings.OldLog t m = subst IsOfVolumes (sym t) tt
 
 -- so where a run stopped
 pub stopped_mounted : (stop : Stopped) (e : Ending) → TellsStop stop e → HasMounted e → MountsFirst stop
@@ -103,28 +102,27 @@ stopped_mounted (stops.NoLife refusal) e t m = refused_mounted refusal e t m
 
 -- the statuses of such endings
 abbrev pub Mounted : ℕ → Type 0
-Mounted status = (status ≡ 0) ⊎ ((status ≡ 7) ⊎ ((status ≡ 9) ⊎ (status ≡ 10)))
+Mounted status = (status ≡ 0) ⊎ ((status ≡ 7) ⊎ (status ≡ 9))
 
-module _ (A : Type 0) (status : ℕ) (done : status ≡ 0 → A) (seven : status ≡ 7 → A) (nine : status ≡ 9 → A) (ten : status ≡ 10 → A) where
+module _ (A : Type 0) (status : ℕ) (done : status ≡ 0 → A) (seven : status ≡ 7 → A) (nine : status ≡ 9 → A) where
   by_mounted : Mounted status → A
-  by_mounted m = ⊎_elim done (λ (k : (status ≡ 7) ⊎ ((status ≡ 9) ⊎ (status ≡ 10))). ⊎_elim seven (λ (q : (status ≡ 9) ⊎ (status ≡ 10)). ⊎_elim nine ten q) k) m
+  by_mounted m = ⊎_elim done (λ (k : (status ≡ 7) ⊎ (status ≡ 9)). ⊎_elim seven nine k) m
 
 pub has_mounted : (e : Ending) → Mounted (status_of e) → HasMounted e
 has_mounted endings.Report m = tt
 has_mounted (endings.Summary text) m = tt
 has_mounted (endings.Damaged text) m = tt
 has_mounted endings.Full m = tt
-has_mounted endings.OldLog m = tt
-has_mounted e m = by_mounted _ (status_of e) (λ s. omega (arith, s)) (λ s. omega (arith, s)) (λ s. omega (arith, s)) (λ s. omega (arith, s)) m
+has_mounted e m = by_mounted _ (status_of e) (λ s. omega (arith, s)) (λ s. omega (arith, s)) (λ s. omega (arith, s)) m
 
-unlike : (n status : ℕ) → status ≡ n → n ≢ 0 → n ≢ 7 → n ≢ 9 → n ≢ 10 → Mounted status → ⊥
-unlike n status is done seven nine ten m = by_mounted ⊥ status (λ s. done (sym is ∙ s)) (λ s. seven (sym is ∙ s)) (λ s. nine (sym is ∙ s)) (λ s. ten (sym is ∙ s)) m
+unlike : (n status : ℕ) → status ≡ n → n ≢ 0 → n ≢ 7 → n ≢ 9 → Mounted status → ⊥
+unlike n status is done seven nine m = by_mounted ⊥ status (λ s. done (sym is ∙ s)) (λ s. seven (sym is ∙ s)) (λ s. nine (sym is ∙ s)) m
 
 -- words that are refused mount nothing
 pub words_unmounted : (A B : Type 0) (status : ℕ) → ((status ≡ 2) × A) ⊎ ((status ≡ 4) × B) → Mounted status → ⊥
 words_unmounted A B status ends m = ⊎_elim
-    (λ (a : (status ≡ 2) × A). unlike 2 status a.0 (λ q. omega (arith, q)) (λ q. omega (arith, q)) (λ q. omega (arith, q)) (λ q. omega (arith, q)) m)
-    (λ (b : (status ≡ 4) × B). unlike 4 status b.0 (λ q. omega (arith, q)) (λ q. omega (arith, q)) (λ q. omega (arith, q)) (λ q. omega (arith, q)) m) ends
+    (λ (a : (status ≡ 2) × A). unlike 2 status a.0 (λ q. omega (arith, q)) (λ q. omega (arith, q)) (λ q. omega (arith, q)) m)
+    (λ (b : (status ≡ 4) × B). unlike 4 status b.0 (λ q. omega (arith, q)) (λ q. omega (arith, q)) (λ q. omega (arith, q)) m) ends
 
 -- ---- by the status
 
@@ -133,7 +131,7 @@ no_words endings.Report s = omega (arith, s)
 no_words (endings.Summary text) s = omega (arith, s)
 no_words e s = omega (arith, s)
 
-pub known_status : (e : Ending) → (status_of e ≤ 10) × (status_of e ≢ 8)
+pub known_status : (e : Ending) → (status_of e ≤ 9) × (status_of e ≢ 8)
 known_status endings.Report = (omega arith, λ s. omega (arith, s))
 known_status (endings.Summary text) = (omega arith, λ s. omega (arith, s))
 known_status e = (omega arith, λ s. omega (arith, s))
@@ -173,14 +171,14 @@ module _ (held held' : Option (List ℕ)) (faults faults' : ℕ) (written : List
       by_fault endings.WriteFault q w = w.0
       by_fault d q w = absurd (omega (arith, q))
 
-  known : (status ≤ 10) × (status ≢ 8)
+  known : (status ≤ 9) × (status ≢ 8)
   known = ⊎_elim
-      (λ (a : (status ≡ status_of e) × Whole). subst (λ n. (n ≤ 10) × (n ≢ 8)) (sym a.0) (known_status e))
-      (λ (b : (status ≡ 4) × Rose faults faults'). subst (λ n. (n ≤ 10) × (n ≢ 8)) (sym b.0) (omega arith, λ q. omega (arith, q))) told
+      (λ (a : (status ≡ status_of e) × Whole). subst (λ n. (n ≤ 9) × (n ≢ 8)) (sym a.0) (known_status e))
+      (λ (b : (status ≡ 4) × Rose faults faults'). subst (λ n. (n ≤ 9) × (n ≢ 8)) (sym b.0) (omega arith, λ q. omega (arith, q))) told
 
-module _ {L P : Type 0} (l : logs.Ghosts L) (p : disks.Ghosts P) (words : List (List ℕ)) (task : Task) (is : IsTask words task) (left left' held held' : Option (List ℕ)) (faults faults' sink sink' : ℕ) (first : ℕ → Volumes L P → Type 0) (falls : Crash → Volumes L P → Volumes L P → Type 0) (before now : ℕ) (gives : Volumes L P → Type 0) (written : List ℕ) where
+module _ {L P : Type 0} (l : logs.Ghosts L) (p : disks.Ghosts P) (words : List (List ℕ)) (task : Task) (is : IsTask words task) (left left' held held' : Option (List ℕ)) (faults faults' sink sink' : ℕ) (first : ℕ → Volumes L P → Type 0) (kept : KeptLog) (falls : Crash → Volumes L P → Volumes L P → Type 0) (before now : ℕ) (gives : Volumes L P → Type 0) (written : List ℕ) where
   abbrev Ended : Ending → Type 0
-  Ended e = Ends l p task left left' faults faults' first falls before now gives written e
+  Ended e = Ends l p task left left' faults faults' first kept falls before now gives written e
 
   abbrev Wrote : Ending → Type 0
   Wrote e = HasWritten held held' sink sink' (written ++ text_of e) e
@@ -188,15 +186,15 @@ module _ {L P : Type 0} (l : logs.Ghosts L) (p : disks.Ghosts P) (words : List (
   abbrev HoldsReport : Type 0
   HoldsReport =
       (run : IsWholeRun p.tells left left' held held')
-      × LeavesVolumes l p (first run.answer.script.banks) falls gives run.answer.report.lives
+      × LeavesVolumes l p (BeginsOver l p first kept run.answer.script run.answer.banks run.answer.start) falls gives run.answer.report.lives
 
   abbrev HoldsSummary : Type 0
   HoldsSummary =
       (seed size : ℕ) × IsGen words seed size × (sum : IsWholeSummary p.tells seed size held held')
-      × LeavesVolumes l p (first (generated seed size).banks) falls gives sum.counts.report.lives
+      × LeavesVolumes l p (BeginsOver l p first kept (generated seed size) sum.counts.banks sum.counts.start) falls gives sum.counts.report.lives
 
   abbrev Unrun : NoLife → List ℕ → Type 0
-  Unrun refusal line = IsUnrunBy l p words left left' first falls before now gives held held' refusal line
+  Unrun refusal line = IsUnrunBy l p words left left' first kept falls before now gives held held' refusal line
 
   -- what the ending of each status says
   pub record Says (status : ℕ) (e : Ending) : Type 0 where
@@ -207,11 +205,10 @@ module _ {L P : Type 0} (l : logs.Ghosts L) (p : disks.Ghosts P) (words : List (
     pub read : status ≡ 3 → IsRun words × Rose faults faults' × Appends held held' (codes "read-fault" ++ 10 ∷ [])
     pub write : status ≡ 4 → Rose sink sink'
     pub device : status ≡ 5 → Unrun no_lives.Device (codes "device" ++ 10 ∷ [])
-    pub memory : status ≡ 6 → IsMemoryLast l p words left left' first falls before now gives held held'
+    pub memory : status ≡ 6 → IsMemoryLast l p words left left' first kept falls before now gives held held'
     pub damaged : status ≡ 7 → (at : ℕ) × Unrun (no_lives.Damaged at) (damage_text at)
     pub full : status ≡ 9 → Unrun no_lives.Full (codes "log-full" ++ 10 ∷ [])
-    pub old_log : status ≡ 10 → Unrun no_lives.OldLog (codes "old-log" ++ 10 ∷ [])
-    pub statuses : (status ≤ 10) × (status ≢ 8)
+    pub statuses : (status ≤ 9) × (status ≢ 8)
     pub unread : (status ≡ 1) ⊎ (status ≡ 3) → IsUnread e
     pub mounted : Mounted status → HasMounted e
 
@@ -240,10 +237,10 @@ module _ {L P : Type 0} (l : logs.Ghosts L) (p : disks.Ghosts P) (words : List (
   device endings.Device k w = (task, is, written, k, w.1)
   device e k w = absurd (omega (arith, w.0))
 
-  memory : (e : Ending) → Ended e → (status_of e ≡ 6) × Wrote e → IsMemoryLast l p words left left' first falls before now gives held held'
+  memory : (e : Ending) → Ended e → (status_of e ≡ 6) × Wrote e → IsMemoryLast l p words left left' first kept falls before now gives held held'
   memory endings.Memory k w = ⊎_elim
       (λ (none : written ≡ []). inl (none_before (codes "memory" ++ 10 ∷ []) none w.1))
-      (λ (u : IsUnrun l p task left left' first falls before now gives written no_lives.Memory). inr (task, is, written, u, w.1)) k
+      (λ (u : IsUnrun l p task left left' first kept falls before now gives written no_lives.Memory). inr (task, is, written, u, w.1)) k
   memory e k w = absurd (omega (arith, w.0))
 
   damaged : (e : Ending) → Ended e → (status_of e ≡ 7) × Wrote e → (at : ℕ) × Unrun (no_lives.Damaged at) (damage_text at)
@@ -253,10 +250,6 @@ module _ {L P : Type 0} (l : logs.Ghosts L) (p : disks.Ghosts P) (words : List (
   full : (e : Ending) → Ended e → (status_of e ≡ 9) × Wrote e → Unrun no_lives.Full (codes "log-full" ++ 10 ∷ [])
   full endings.Full k w = (task, is, written, k, w.1)
   full e k w = absurd (omega (arith, w.0))
-
-  old_log : (e : Ending) → Ended e → (status_of e ≡ 10) × Wrote e → Unrun no_lives.OldLog (codes "old-log" ++ 10 ∷ [])
-  old_log endings.OldLog k w = (task, is, written, k, w.1)
-  old_log e k w = absurd (omega (arith, w.0))
 
   pub says : (status : ℕ) (e : Ending) → Ended e → Told held held' sink sink' written status e → Says status e
   says status e k told =
@@ -271,7 +264,6 @@ module _ {L P : Type 0} (l : logs.Ghosts L) (p : disks.Ghosts P) (words : List (
         memory = λ s. memory e k (at 6 (λ q. omega (arith, q)) s);
         damaged = λ s. damaged e k (at 7 (λ q. omega (arith, q)) s);
         full = λ s. full e k (at 9 (λ q. omega (arith, q)) s);
-        old_log = λ s. old_log e k (at 10 (λ q. omega (arith, q)) s);
         statuses = known held held' sink sink' written status e told;
         unread = ⊎_elim
             (λ (s : status ≡ 1). is_unread e (inl (at 1 (λ q. omega (arith, q)) s).0))
@@ -279,6 +271,5 @@ module _ {L P : Type 0} (l : logs.Ghosts L) (p : disks.Ghosts P) (words : List (
         mounted = by_mounted (HasMounted e) status
             (λ s. has_mounted e (inl (at 0 (λ q. omega (arith, q)) s).0))
             (λ s. has_mounted e (inr (inl (at 7 (λ q. omega (arith, q)) s).0)))
-            (λ s. has_mounted e (inr (inr (inl (at 9 (λ q. omega (arith, q)) s).0))))
-            (λ s. has_mounted e (inr (inr (inr (at 10 (λ q. omega (arith, q)) s).0))));
+            (λ s. has_mounted e (inr (inr (at 9 (λ q. omega (arith, q)) s).0)));
       }

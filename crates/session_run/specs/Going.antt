@@ -5,7 +5,6 @@ use Rattle.disk_core.specs.declared.log_disk.LogDisk as logs
 use Rattle.disk_core.specs.declared.page_disk.PageDisk as disks
 use Rattle.disk_core.specs.declared.media.Crash.{Crash}
 use Rattle.disk_core.specs.declared.media.Volumes.{Volumes}
-use Rattle.disk_core.specs.Faults.{HasRisen}
 use Rattle.disk_core.specs.Images.{Only}
 use Rattle.disk_core.specs.Media.{HasBanks}
 use Rattle.tx_events.specs.Ids.{IsFullMulti}
@@ -18,16 +17,17 @@ use Rattle.lives_law.specs.Lives.{GoesBehind, base_of}
 use Rattle.session_lang.specs.declared.script.Item.{Item}
 use Rattle.session_lang.specs.declared.script.Script.{Script}
 use Rattle.session_lang.specs.Rounds.{asked_of}
-use Rattle.run_law.specs.Lives.{AreRunLives, IsFrontOf, LifePart, last_text, life_rest, text_so_far}
+use Rattle.run_law.specs.Lives.{AreRunLives, IsFrontOf, LifePart, RunStart, last_text, life_rest, text_so_far}
 use Rattle.recoverable.specs.Fit.{KeptLog}
 use Rattle.engine_host.specs.declared.cluster.Cluster.{Cluster}
-use Rattle.engine_host.specs.Opening.{Beginning, nothing_before}
+use Rattle.engine_host.specs.Opening.{Beginning}
 use Rattle.engine_life.specs.declared.closed.ClosedLife.{ClosedLife}
 use Rattle.engine_life.specs.declared.life.OpenLife.{OpenLife}
 use Rattle.engine_life.specs.declared.refusal.NoLife.{NoLife}
 use Rattle.engine_life.specs.declared.refusal.NoLife.TheVariants as no_lives
-use Rattle.engine_life.specs.declared.refusal.NotReopened.{NotReopened}
-use Rattle.engine_life.specs.NextLives.{GoesOnLife, IsNotReopened}
+use Rattle.engine_life.specs.FirstLives.{IsFirstLife, with_banks}
+use Rattle.engine_life.specs.Lives.{FitsLog}
+use Rattle.engine_life.specs.Refusals.{IsUnopened}
 use Rattle.session_run.specs.OneLife.{HasLeft, IsOpened, life_of}
 use Rattle.session_run.specs.Parts.{HasLived, report_of}
 use Rattle.tx_io.specs.Causes.{Rose}
@@ -38,8 +38,9 @@ use Rattle.session_run.specs.declared.stop.Stopped.TheVariants as stops
 use Rattle.script_source.specs.declared.life_text.LifeText.{LifeText}
 use Rattle.session_run.specs.Leaves.{HasLeftLast}
 use Rattle.session_run.specs.Lives.{ComesTo, HasFallen}
+use Rattle.session_run.specs.Starts.{OpensFor}
 use Rattle.session_run.specs.Runs.{cluster_of}
-use Rattle.session_run.specs.Stops.{IsUndamaged, no_life_by}
+use Rattle.session_run.specs.Stops.{IsUndamaged}
 
 module _ {L P : Type 0} (l : logs.Ghosts L) (p : disks.Ghosts P) where
   -- A life that began so ran its part of the script, and this is its text.
@@ -51,36 +52,38 @@ module _ {L P : Type 0} (l : logs.Ghosts L) (p : disks.Ghosts P) where
     pub rest : text.rest ≡ life_rest names (report_of (life_of c b closed) steps crash)
     pub multis : IsFullMulti c.base.multi × IsFullMulti c.base.oldest_multi
 
-  -- The crash fell, and a life goes on from a log that the volumes fitted before it. The log tells what it holds if the pages
-  -- do.
-  pub record HasGoneOn (falls : Crash → Volumes L P → Volumes L P → Type 0) (how : How) (kept : KeptLog) (banks sessions : ℕ) (left : Volumes L P) (life : OpenLife L P l p) : Type 0 where
+  -- The crash fell, and a life is open over what it left, in so many banks. If the pages tell what they hold, the log does, and
+  -- the volumes fit the log that they fitted before.
+  pub record HasGoneOn (falls : Crash → Volumes L P → Volumes L P → Type 0) (how : How) (kept : KeptLog) (c : Cluster) (banks : ℕ) (left : Volumes L P) (life : OpenLife L P l p) : Type 0 where
     pub tells : IsTrue p.tells → IsTrue l.tells
     pub mounted : Volumes L P
     pub fallen : HasFallen l p falls how left mounted
     pub banks_are : HasBanks banks mounted
-    pub goes : GoesOnLife kept sessions mounted life
+    pub fits : IsTrue p.tells → FitsLog l p kept mounted
+    pub goes : IsFirstLife kept (with_banks c banks) mounted life
 
   -- why none goes on
-  abbrev pub IsCrashed : (Crash → Volumes L P → Volumes L P → Type 0) → How → ℕ → ℕ → Volumes L P → (Volumes L P → Type 0) → NoLife → Type 0
-  IsCrashed falls how before now left gives refusal =
-      ((refusal ≡ no_lives.Device) × HasRisen before now)
-      ⊎ ((e : NotReopened) × (refusal ≡ no_life_by e) × IsNotReopened l p before now (HasFallen l p falls how left) gives e × IsUndamaged l p refusal)
+  abbrev pub IsCrashed : Cluster → (Crash → Volumes L P → Volumes L P → Type 0) → How → ℕ → ℕ → Volumes L P → (Volumes L P → Type 0) → NoLife → Type 0
+  IsCrashed c falls how before now left gives refusal =
+      IsUnopened l p c (λ banks volumes. HasFallen l p falls how left volumes) before now gives refusal × IsUndamaged l p refusal
 
 module _ {L P : Type 0} {l : logs.Ghosts L} {p : disks.Ghosts P} where
   -- The script was run as far as these parts, and their lives were these. The next life is open, over the volumes to which
-  -- they came from those that were mounted first. Over a new log it is the first one; a later one goes on from where the log
-  -- of the one before it can be read.
-  pub record IsRunning (s : Script) (begun : Volumes L P) (falls : Crash → Volumes L P → Volumes L P → Type 0) (done : List LifePart) (lives : List LifeReport) (life : OpenLife L P l p) : Type 0 where
-    pub are : AreRunLives p.tells s done lives
+  -- they came from those that were mounted first, so many banks. The first one begins as the run does; a later one goes on from
+  -- where the log of the one before it can be read: each behind the last record to which the log opens.
+  pub record IsRunning (s : Script) (banks : ℕ) (start : RunStart) (begun : Volumes L P) (falls : Crash → Volumes L P → Volumes L P → Type 0) (done : List LifePart) (lives : List LifeReport) (life : OpenLife L P l p) : Type 0 where
+    pub are : AreRunLives p.tells banks start done lives
     pub cluster : Cluster
     pub begins : Beginning
     pub faults : List ℕ
     pub mounted : Volumes L P
-    pub banks : cluster.banks ≡ s.banks
+    pub banks_are : cluster.banks ≡ banks
     pub sessions : cluster.sessions ≡ length s.names
     pub opened : IsOpened cluster begins faults mounted life
     pub comes : ComesTo l p falls lives begun mounted
-    pub new : lives ≡ [] → (cluster ≡ cluster_of s) × (begins ≡ nothing_before)
+    pub opens : IsTrue l.tells → OpensFor begins.number cluster.base (l.reads mounted.log)
+    pub first : lives ≡ [] → (begins.number ≡ start.number)
+        × (record { counters = cluster.base; committed = begins.committed; recorded = begins.recorded } ≡ start.base)
     pub behind : IsTrue p.tells → (life : Life) → life.from ≡ begins.number
         → base_of life ≡ record { counters = cluster.base; committed = begins.committed; recorded = begins.recorded } → GoesBehind lives life
 
@@ -94,9 +97,9 @@ EndsIdle result = Unit {0}
 
 module _ {L P : Type 0} (l : logs.Ghosts L) (p : disks.Ghosts P) where
   -- A part of the script was run behind these, with this text, and left these volumes.
-  pub record IsPartTold (s : Script) (begun : Volumes L P) (falls : Crash → Volumes L P → Volumes L P → Type 0) (done : List LifePart) (lives : List LifeReport) (part : LifePart) (r : LifeReport) (left : Volumes L P) : Type 0 where
-    pub are : AreRunLives p.tells s (done ++ part ∷ []) (lives ++ r ∷ [])
-    pub lawful : IsLawfulLife p.tells s.banks (asked_of part.items) r
+  pub record IsPartTold (s : Script) (banks : ℕ) (start : RunStart) (begun : Volumes L P) (falls : Crash → Volumes L P → Volumes L P → Type 0) (done : List LifePart) (lives : List LifeReport) (part : LifePart) (r : LifeReport) (left : Volumes L P) : Type 0 where
+    pub are : AreRunLives p.tells banks start (done ++ part ∷ []) (lives ++ r ∷ [])
+    pub lawful : IsLawfulLife p.tells banks (asked_of part.items) r
     pub crash_is : r.crash ≡ part.crash
     pub text : List ℕ
     pub exact : text_so_far s.names lives ++ text ≡ text_so_far s.names (lives ++ r ∷ []) ++ last_text part.crash
@@ -105,20 +108,20 @@ module _ {L P : Type 0} (l : logs.Ghosts L) (p : disks.Ghosts P) where
   -- How it ended: it was the last one, it crashed and the next life is open, or the run stopped. Where the sink failed it
   -- holds a front of the part's text, and the media has what the life left; where memory was wanting for that text nothing of
   -- it was written.
-  abbrev pub PartWent : Script → Volumes L P → (Crash → Volumes L P → Volumes L P → Type 0) → List LifePart → List LifeReport → LifePart → Option (List ℕ) → Option (List ℕ) → ℕ → ℕ
+  abbrev pub PartWent : Script → ℕ → RunStart → Volumes L P → (Crash → Volumes L P → Volumes L P → Type 0) → List LifePart → List LifeReport → LifePart → Option (List ℕ) → Option (List ℕ) → ℕ → ℕ
       → ℕ → ℕ → (Volumes L P → Type 0) → Result (PartEnd L P l p) Stopped → Type 0
-  PartWent s begun falls done lives part held held' faults faults' before now gives (Ok ends.Last) =
+  PartWent s banks start begun falls done lives part held held' faults faults' before now gives (Ok ends.Last) =
       (part.crash ≡ None) × (r : LifeReport) × (left : Volumes L P)
-      × (told : IsPartTold s begun falls done lives part r left) × Appends held held' told.text × Only left gives
-  PartWent s begun falls done lives part held held' faults faults' before now gives (Ok (ends.Next life)) =
+      × (told : IsPartTold s banks start begun falls done lives part r left) × Appends held held' told.text × Only left gives
+  PartWent s banks start begun falls done lives part held held' faults faults' before now gives (Ok (ends.Next life)) =
       (how : How) × (part.crash ≡ Some how) × (r : LifeReport) × (left : Volumes L P)
-      × (told : IsPartTold s begun falls done lives part r left) × Appends held held' told.text
-      × IsRunning s begun falls (done ++ part ∷ []) (lives ++ r ∷ []) life
-  PartWent s begun falls done lives part held held' faults faults' before now gives (Err stops.Sink) =
+      × (told : IsPartTold s banks start begun falls done lives part r left) × Appends held held' told.text
+      × IsRunning s banks start begun falls (done ++ part ∷ []) (lives ++ r ∷ []) life
+  PartWent s banks start begun falls done lives part held held' faults faults' before now gives (Err stops.Sink) =
       Rose faults faults' × (r : LifeReport) × (left : Volumes L P)
-      × (told : IsPartTold s begun falls done lives part r left) × (n : ℕ) × Appends held held' (take n told.text) × Only left gives
-  PartWent s begun falls done lives part held held' faults faults' before now gives (Err (stops.NoLife refusal)) =
+      × (told : IsPartTold s banks start begun falls done lives part r left) × (n : ℕ) × Appends held held' (take n told.text) × Only left gives
+  PartWent s banks start begun falls done lives part held held' faults faults' before now gives (Err (stops.NoLife refusal)) =
       ((refusal ≡ no_lives.Memory) × Appends held held' [])
       ⊎ ((how : How) × (part.crash ≡ Some how) × (r : LifeReport) × (left : Volumes L P)
-      × (told : IsPartTold s begun falls done lives part r left) × Appends held held' told.text
-      × IsCrashed l p falls how before now left gives refusal)
+      × (told : IsPartTold s banks start begun falls done lives part r left) × Appends held held' told.text
+      × IsCrashed l p (cluster_of s) falls how before now left gives refusal)

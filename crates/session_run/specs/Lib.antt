@@ -6,9 +6,11 @@ pub mod Causes
 pub mod Parts
 pub mod Fits
 pub mod OneLife
+pub mod Starts
 pub mod Lives
 pub mod Leaves
 pub mod Runs
 pub mod Stops
 pub mod Going
 pub mod Tool
+pub mod Again

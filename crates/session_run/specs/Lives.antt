@@ -1,5 +1,5 @@
 -- The volumes of a media from one life of a run to the next, through a crash.
-use Rattle.std.specs.Prelude.{◌≡◌, ◌<◌, ℕ, IfSome, IsTrue, List, [], ◌∷◌, length}
+use Rattle.std.specs.Prelude.{◌≡◌, ◌<◌, ℕ, IsSomeAnd, IsTrue, List, [], ◌∷◌, length}
 use Rattle.disk_core.specs.declared.log_disk.LogDisk as logs
 use Rattle.disk_core.specs.declared.page_disk.PageDisk as disks
 use Rattle.disk_core.specs.declared.media.Crash.{Crash}
@@ -12,6 +12,7 @@ use Rattle.tx_model.specs.declared.report.LifeReport.{LifeReport}
 use Rattle.session_run.specs.Causes.{HaveCauses}
 use Rattle.session_run.specs.Fits.{FitLife}
 use Rattle.session_run.specs.Records.{BankHolds, LogHolds}
+use Rattle.session_run.specs.Starts.{OpensFor}
 
 -- the crash of a media that a script asks for
 abbrev pub crash_of : How → Crash
@@ -21,11 +22,13 @@ crash_of hows.Torn = crashes.Torn
 
 module _ {L P : Type 0} (l : logs.Ghosts L) (p : disks.Ghosts P) where
   -- What a life left of the volumes that it mounted: as many of each kind, and none counted fewer faults in it than any one
-  -- session's commands were told of, or its checkpoints. If the volumes tell what they hold, the log's has the life's records,
-  -- from the first one on or from a checkpoint on, those of pg_xact say committed only of what is on disk, and they fit a log
-  -- that ends with the life: so recovery may begin from whatever a crash leaves of them.
+  -- session's commands were told of, or its checkpoints. If the volumes tell what they hold, the life began behind the last
+  -- record to which the log opened; the log's has the life's records, from the first one on or from a checkpoint on, those of
+  -- pg_xact say committed only of what is on disk, and they fit a log that ends with the life: so recovery may begin from
+  -- whatever a crash leaves of them.
   pub record HasEndedOn (r : LifeReport) (mounted left : Volumes L P) : Type 0 where
     pub same : HaveSameBanks mounted left
+    pub opened : IsTrue l.tells → OpensFor r.life.from r.life.base (l.reads mounted.log)
     pub causes : HaveCauses l p r.steps mounted left
     pub log : IsTrue l.tells → LogHolds l r.life left.log
     pub states : IsTrue p.tells → (bank : ℕ) → bank < length mounted.xact.items
@@ -45,4 +48,4 @@ module _ {L P : Type 0} (l : logs.Ghosts L) (p : disks.Ghosts P) (falls : Crash 
   ComesTo [] mounted next = next ≡ mounted
   ComesTo (r ∷ lives) mounted next =
       (left behind : Volumes L P) × HasEndedOn l p r mounted left
-      × IfSome r.crash (λ how. HasFallen how left behind) × ComesTo lives behind next
+      × IsSomeAnd r.crash (λ how. HasFallen how left behind) × ComesTo lives behind next

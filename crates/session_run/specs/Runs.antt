@@ -1,4 +1,4 @@
--- The run of a script over a new media.
+-- The run of a script over a media.
 use Rattle.std.specs.Prelude.{◌≤◌, length}
 use Rattle.std.specs.List.{All}
 use Rattle.session_lang.specs.declared.script.Script.{Script}

@@ -26,10 +26,8 @@ pub enum Ending {
     Device,
     /// The line that tells at which place the log is damaged.
     Damaged(Vec<u8>),
-    /// The log has no room for the first checkpoint.
+    /// The log has no room for a life's first checkpoint.
     Full,
-    /// The log has records.
-    OldLog,
 }
 
 impl Ending {
@@ -46,7 +44,6 @@ impl Ending {
             Ending::Memory => 6,
             Ending::Damaged(_) => 7,
             Ending::Full => 9,
-            Ending::OldLog => 10,
         }
     }
 
@@ -63,7 +60,6 @@ impl Ending {
             Ending::Memory => b"memory\n",
             Ending::Damaged(text) => text.as_slice(),
             Ending::Full => b"log-full\n",
-            Ending::OldLog => b"old-log\n",
         }
     }
 }
@@ -109,7 +105,6 @@ pub fn unopened(alloc: Global, refusal: NoLife) -> Ending
         NoLife::Device => Ending::Device,
         NoLife::Memory => Ending::Memory,
         NoLife::Full => Ending::Full,
-        NoLife::OldLog => Ending::OldLog,
         NoLife::Damaged { at } => match damage_text(alloc, at) {
             Ok(text) => Ending::Damaged(text),
             Err(Memory) => Ending::Memory,

@@ -1,5 +1,6 @@
-//! The laws by which a life goes on over one lock table, round by round. The functions do nothing; their contracts are the
-//! laws.
+//! The laws by which a life goes on over one lock table, round by round, and a run behind an earlier one. The functions do
+//! nothing; their contracts are the laws.
+ghost use Rattle.session_run.specs.Again.{RunsGoOn};
 ghost use Rattle.session_run.specs.GoesOn.{LifeBegins, LifeEnds, LifeGoesOn};
 
 use disk_core::{LogDisk, PageDisk};
@@ -19,4 +20,9 @@ pub fn life_goes_on<L: LogDisk, P: PageDisk>(hall: &Hall<EngineLaw<L, P>>)
 /// Behind any round it may be over.
 pub fn life_ends<L: LogDisk, P: PageDisk>(hall: &Hall<EngineLaw<L, P>>)
     ensures { LifeEnds hall.now }
+{}
+
+/// A media that a run left with status 0 may be handed to a next one, whose lives go on from its own: all are of one log.
+pub fn runs_go_on<L: LogDisk, P: PageDisk>()
+    ensures { RunsGoOn L.LogDisk P.PageDisk }
 {}

@@ -5,7 +5,7 @@
 mod commands;
 mod ended;
 mod ending;
-mod laws;
+pub mod laws;
 mod life;
 mod member;
 mod round;

@@ -1,17 +1,18 @@
 //! Runs a script over a media, life by life, and writes the text of its report; or tells the counts of what it did.
 ghost use Rattle.std.specs.Prelude.{◌≡◌, ◌+◌, ◌≤◌, ℕ, List, IfErr, IfOk, IsTrue, OnErr, OnOk, false, length};
 ghost use Rattle.std.specs.Io.KnownBytes.{Appends};
-ghost use Rattle.disk_core.specs.Media.{HasBanks, MayBeFirst};
+ghost use Rattle.disk_core.specs.Media.{HasBanks};
 ghost use Rattle.disk_core.specs.declared.media.Volumes.{Volumes as Mounted};
 ghost use Rattle.tx_model.specs.declared.report.LifeReport.{LifeReport};
 ghost use Rattle.tx_model.specs.declared.report.Report.{Report};
 ghost use Rattle.report_text.specs.ReportText.{report_text};
 ghost use Rattle.recoverable.specs.Fit.{KeptLog};
-ghost use Rattle.run_law.specs.Lives.{LifePart};
+ghost use Rattle.run_law.specs.Lives.{LifePart, RunStart};
 ghost use Rattle.run_law.specs.Tool.{IsReportOf};
 ghost use Rattle.script_gen.specs.Summaries.{IsSummaryOf};
 ghost use Rattle.engine_host.specs.declared.cluster.Cluster.{Cluster as Clustered};
 ghost use Rattle.engine_host.specs.Opening.{Beginning, IsCluster};
+ghost use Rattle.engine_life.specs.FirstLives.{MayBeginOver, MayMount};
 ghost use Rattle.engine_life.specs.Lives.{FitsLog};
 ghost use Rattle.engine_life.specs.Refusals.{IsOfVolumes, IsUnopened};
 ghost use Rattle.session_run.specs.OneLife.{IsOpened, MayRunIn};
@@ -20,22 +21,23 @@ ghost use Rattle.session_run.specs.Going.{EndsIdle, HasGoneOn, IsCrashed, IsRunn
 ghost use Rattle.session_run.specs.Lives.{crash_of};
 ghost use Rattle.session_run.specs.Leaves.{LeavesVolumes};
 ghost use Rattle.session_run.specs.Runs.{IsTaken, IsTakenAlone, cluster_of};
+ghost use Rattle.session_run.specs.Starts.{BeginsOver};
 ghost use Rattle.session_run.specs.Stops.{IsStopped, MountsFirst};
 
 use crate::ended::{Ended, FittedLog, log_left};
 use crate::life::run_life;
-use crate::stop::{Stopped, no_life_of};
+use crate::stop::Stopped;
 use crate::text::put_end;
 use disk_core::{Crash, LogDisk, Media, PageDisk, Volumes};
 use engine_host::Cluster;
 use engine_life::laws::crash_goes_on;
-use engine_life::{ClosedLife, NoLife, OpenLife, open_life, reopen_life};
+use engine_life::{ClosedLife, NoLife, OpenLife, open_life};
 use engine_parts::Gate;
 use notes::Note;
 use report_text::Text;
 use script_gen::Summary;
 use script_rounds::{LineKeeper, RoundThreads, Tally, next_part};
-use script_source::{LifeText, front_of, put_life};
+use script_source::{LifeText, front_of, have_full_multis, put_life};
 use session_lang::{Items, Script};
 use std::alloc::Global;
 use std::sync::Wait;
@@ -101,36 +103,32 @@ fn tell_life<L: LogDisk + Send + Sync + Drop, P: PageDisk + Send + Sync + Drop>(
 }
 
 /// Crashes the volumes of a closed life, which fit this log, and opens the next one over what that left. A caller picks the
-/// log from its note.
+/// log from its note. The cluster is the script's: over volumes that tell nothing a log may have lost all records.
 fn go_on<M: Media>(
     alloc: Global,
     media: &mut M,
     volumes: Volumes<M::Log, M::Pages>,
     _log: &Note<FittedLog>,
     how: How,
-    banks: u32,
-    sessions: u32,
+    cluster: Cluster,
 ) -> Result<OpenLife<M::Log, M::Pages>, NoLife>
     ghost kept: { KeptLog }
-    requires banks { HasBanks banks volumes }
-    requires sessions { sessions ≤ 64 }
+    requires cluster { IsCluster cluster }
+    requires banks { HasBanks (length volumes.xact.items) volumes }
     requires fit { IsTrue M.Pages.tells → IsTrue M.Log.tells → FitsLog M.Log.LogDisk M.Pages.PageDisk kept volumes }
-    ensures next { IfOk result (HasGoneOn M.Log.LogDisk M.Pages.PageDisk M.falls how kept banks sessions volumes) }
+    ensures next { IfOk result (HasGoneOn M.Log.LogDisk M.Pages.PageDisk M.falls how kept cluster (length volumes.xact.items) volumes) }
     ensures mounted { OnOk result (M.is_idle media.new ≡ false) }
     ensures idle { OnErr result (IsTrue (M.is_idle media.new)) }
     ensures count { M.faults media.old ≤ M.faults media.new }
     ensures used { OnErr result (M.is_new media.new ≡ false) }
-    ensures refused { IfErr result (IsCrashed M.Log.LogDisk M.Pages.PageDisk M.falls how
+    ensures refused { IfErr result (IsCrashed M.Log.LogDisk M.Pages.PageDisk cluster M.falls how
         (M.faults media.old) (M.faults media.new) volumes (M.gives media.new)) }
 {
     match media.crash(volumes, crash_of(how)) {
         Ok(()) => crash_goes_on::<M::Log, M::Pages>(),
         Err(_) => return Err(NoLife::Device),
     }
-    match reopen_life(alloc, media, banks, sessions) {
-        Ok(life) => Ok(life),
-        Err(refusal) => Err(no_life_of(refusal)),
-    }
+    open_life(alloc, media, cluster)
 }
 
 /// How a part of a script has ended.
@@ -161,11 +159,12 @@ where
     M::Pages: Sync,
     requires taken { IsTaken script.now }
     requires part { IsTakenPart (length script.now.names) part }
-    requires running { (begun : Mounted M.Log M.Pages) × (done : List LifePart) × (lives : List LifeReport)
-        × IsRunning script.now begun M.falls done lives life × (number ≡ length lives + 1) }
-    ensures went { (begun : Mounted M.Log M.Pages) (done : List LifePart) (lives : List LifeReport)
-        → IsRunning script.now begun M.falls done lives life → number ≡ length lives + 1
-        → PartWent M.Log.LogDisk M.Pages.PageDisk script.now begun M.falls done lives (part_of part.entry crash)
+    requires running { (banks : ℕ) × (start : RunStart) × (begun : Mounted M.Log M.Pages) × (done : List LifePart)
+        × (lives : List LifeReport) × IsRunning script.now banks start begun M.falls done lives life
+        × (number ≡ length lives + 1) }
+    ensures went { (banks : ℕ) (start : RunStart) (begun : Mounted M.Log M.Pages) (done : List LifePart)
+        (lives : List LifeReport) → IsRunning script.now banks start begun M.falls done lives life → number ≡ length lives + 1
+        → PartWent M.Log.LogDisk M.Pages.PageDisk script.now banks start begun M.falls done lives (part_of part.entry crash)
         (K.held sink.old) (K.held sink.new) (K.faults sink.old) (K.faults sink.new)
         (M.faults media.old) (M.faults media.new) (M.gives media.new) result }
     ensures idle { EndsIdle result → IsTrue (M.is_idle media.new) }
@@ -201,15 +200,14 @@ where
     let log = log_left(&ended);
     let Ended { start: _, closed } = ended;
     let volumes = closed.into_volumes();
-    let sessions = names.items().len() as u32;
-    match go_on(alloc, media, volumes, &log, how, script.banks, sessions) {
+    match go_on(alloc, media, volumes, &log, how, cluster_of(script)) {
         Ok(life) => Ok(PartEnd::Next(life)),
         Err(refusal) => Err(Stopped::NoLife(refusal)),
     }
 }
 
-/// Runs a script over a new media, life by life, from the script's counters, and writes the text of its report: that of a
-/// life before its crash. The media holds its volumes again then, and also after an error.
+/// Runs a script over a media, life by life, from the script's counters or behind the records of an old log, and writes the
+/// text of its report: that of a life before its crash. The media holds its volumes again then, and also after an error.
 pub fn run_script<R: Threads + Wait + Sync, K: Sink, M: Media, G: Gate + Sync>(
     rt: &R,
     alloc: Global,
@@ -222,18 +220,23 @@ pub fn run_script<R: Threads + Wait + Sync, K: Sink, M: Media, G: Gate + Sync>(
 where
     M::Log: Sync,
     M::Pages: Sync,
+    ghost kept: { KeptLog }
     requires taken { IsTaken script.now }
     requires idle { IsTrue (M.is_idle media.old) }
-    requires new { IsTrue (M.is_new media.old) }
-    ensures report { OnOk result ((r : Report) × (is : IsReportOf M.Pages.tells script.now r)
-        × Appends (K.held sink.old) (K.held sink.new) (report_text r)
-        × LeavesVolumes M.Log.LogDisk M.Pages.PageDisk (MayBeFirst (M.begins media.old) script.now.banks) M.falls
+    requires may { (volumes : Mounted M.Log M.Pages)
+        → MayMount (M.is_new media.old) (M.begins media.old) (M.gives media.old) script.now.banks volumes
+        → MayBeginOver M.Log.LogDisk M.Pages.PageDisk kept volumes }
+    ensures report { OnOk result ((banks : ℕ) × (start : RunStart) × (r : Report)
+        × (is : IsReportOf M.Pages.tells banks start script.now r) × Appends (K.held sink.old) (K.held sink.new) (report_text r)
+        × LeavesVolumes M.Log.LogDisk M.Pages.PageDisk (BeginsOver M.Log.LogDisk M.Pages.PageDisk
+        (MayMount (M.is_new media.old) (M.begins media.old) (M.gives media.old)) kept script.now banks start) M.falls
         (M.gives media.new) r.lives) }
     ensures idle { IsTrue (M.is_idle media.new) }
     ensures count { M.faults media.old ≤ M.faults media.new }
     ensures used { OnOk result (M.is_new media.new ≡ false) }
     ensures used_so { IfErr result (λ stop. MountsFirst stop → M.is_new media.new ≡ false) }
-    ensures stopped { IfErr result (IsStopped M.Log.LogDisk M.Pages.PageDisk (MayBeFirst (M.begins media.old)) M.falls
+    ensures stopped { IfErr result (IsStopped M.Log.LogDisk M.Pages.PageDisk
+        (MayMount (M.is_new media.old) (M.begins media.old) (M.gives media.old)) kept M.falls
         (M.faults media.old) (M.faults media.new) (M.gives media.new) script.now (K.held sink.old) (K.held sink.new)
         (K.faults sink.old) (K.faults sink.new)) }
     ensures sink { K.faults sink.old ≤ K.faults sink.new }
@@ -257,7 +260,7 @@ where
     }
 }
 
-/// Runs a script without a crash over a new media, in one life, and answers the line that tells the counts of what it did in
+/// Runs a script without a crash over a media, in one life, and answers the line that tells the counts of what it did in
 /// place of the report.
 pub fn count_script<R: Threads + Wait + Sync, M: Media, G: Gate + Sync>(
     rt: &R,
@@ -270,20 +273,26 @@ pub fn count_script<R: Threads + Wait + Sync, M: Media, G: Gate + Sync>(
 where
     M::Log: Sync,
     M::Pages: Sync,
+    ghost kept: { KeptLog }
     requires taken { IsTakenAlone script.now }
     requires idle { IsTrue (M.is_idle media.old) }
-    requires new { IsTrue (M.is_new media.old) }
+    requires may { (volumes : Mounted M.Log M.Pages)
+        → MayMount (M.is_new media.old) (M.begins media.old) (M.gives media.old) script.now.banks volumes
+        → MayBeginOver M.Log.LogDisk M.Pages.PageDisk kept volumes }
     ensures counts { IfOk result (λ text. (counts : IsSummaryOf M.Pages.tells script.now text.items)
-        × LeavesVolumes M.Log.LogDisk M.Pages.PageDisk (MayBeFirst (M.begins media.old) script.now.banks) M.falls
-        (M.gives media.new) counts.report.lives) }
+        × LeavesVolumes M.Log.LogDisk M.Pages.PageDisk (BeginsOver M.Log.LogDisk M.Pages.PageDisk
+        (MayMount (M.is_new media.old) (M.begins media.old) (M.gives media.old)) kept script.now counts.banks counts.start)
+        M.falls (M.gives media.new) counts.report.lives) }
     ensures idle { IsTrue (M.is_idle media.new) }
     ensures count { M.faults media.old ≤ M.faults media.new }
     ensures used { OnOk result (M.is_new media.new ≡ false) }
     ensures used_so { IfErr result (λ refusal. IsOfVolumes refusal → M.is_new media.new ≡ false) }
     ensures refused { IfErr result (λ refusal. IsUnopened M.Log.LogDisk M.Pages.PageDisk (cluster_of script.now)
-        (MayBeFirst (M.begins media.old)) (M.faults media.old) (M.faults media.new) (M.gives media.new) refusal) }
+        (MayMount (M.is_new media.old) (M.begins media.old) (M.gives media.old))
+        (M.faults media.old) (M.faults media.new) (M.gives media.new) refusal) }
 {
     let life = open_life(alloc, media, cluster_of(script))?;
+    have_full_multis(&life.host.cluster.base);
     let mut tally = Tally::none(alloc);
     let names = &script.names;
     let items = script.items.items();

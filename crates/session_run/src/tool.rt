@@ -1,9 +1,11 @@
 //! The tool's top call, with the main guarantee (`docs/GUARANTEES.md`).
 ghost use Rattle.std.specs.Prelude.{◌≡◌, ◌≢◌, ◌≤◌, ◌⊎◌, ◌++◌, ◌∷◌, ℕ, List, Option, [], IsTrue, codes, false, map, string_bytes, take};
 ghost use Rattle.std.specs.Io.KnownBytes.{Appends};
-ghost use Rattle.disk_core.specs.Media.{MayBeFirst};
+ghost use Rattle.disk_core.specs.declared.media.Volumes.{Volumes as Mounted};
+ghost use Rattle.recoverable.specs.Fit.{KeptLog};
 ghost use Rattle.tx_io.specs.Amounts.{ReadsUpTo, most_read};
 ghost use Rattle.tx_io.specs.Causes.{Rose};
+ghost use Rattle.engine_life.specs.FirstLives.{MayBeginOver, MayMount};
 ghost use Rattle.engine_life.specs.declared.refusal.NoLife.TheVariants as no_lives;
 ghost use Rattle.run_law.specs.Tool.{IsRefused, IsRun, IsWholeRun};
 ghost use Rattle.script_gen.specs.Generated.{generated};
@@ -11,6 +13,7 @@ ghost use Rattle.script_gen.specs.Laws.{most_transactions};
 ghost use Rattle.script_gen.specs.Words.{IsGen};
 ghost use Rattle.script_gen.specs.declared.task.Task.TheVariants as tasks;
 ghost use Rattle.session_run.specs.Leaves.{LeavesVolumes};
+ghost use Rattle.session_run.specs.Starts.{BeginsOver};
 ghost use Rattle.session_run.specs.Tool.{Ends, HasMounted, HasWritten, HoldsFront, IsAccepted, IsMemoryLast, IsSized, IsUnread, IsUnrunBy, IsWholeSummary, WritesLast, damage_text, status_of, text_of};
 
 use crate::ending::{Ending, stopped, unopened, unread};
@@ -40,10 +43,14 @@ fn run_source<R: Threads + Wait + Sync, S: Source, K: Sink, M: Media, G: Gate + 
 where
     M::Log: Sync,
     M::Pages: Sync,
+    ghost kept: { KeptLog }
     requires idle { IsTrue (M.is_idle media.old) }
-    requires new { IsTrue (M.is_new media.old) }
+    requires may { (banks : ℕ) (volumes : Mounted M.Log M.Pages)
+        → MayMount (M.is_new media.old) (M.begins media.old) (M.gives media.old) banks volumes
+        → MayBeginOver M.Log.LogDisk M.Pages.PageDisk kept volumes }
     ensures ends { (written : List ℕ) × Ends M.Log.LogDisk M.Pages.PageDisk tasks.Run (S.left source.old) (S.left source.new)
-        (S.faults source.old) (S.faults source.new) (MayBeFirst (M.begins media.old)) M.falls
+        (S.faults source.old) (S.faults source.new)
+        (MayMount (M.is_new media.old) (M.begins media.old) (M.gives media.old)) kept M.falls
         (M.faults media.old) (M.faults media.new) (M.gives media.new) written result
         × HasWritten (K.held sink.old) (K.held sink.new) (K.faults sink.old) (K.faults sink.new) written result }
     ensures sink { K.faults sink.old ≤ K.faults sink.new }
@@ -77,11 +84,14 @@ fn run_generated<R: Threads + Wait + Sync, M: Media, G: Gate + Sync>(
 where
     M::Log: Sync,
     M::Pages: Sync,
+    ghost kept: { KeptLog }
     requires few { size ≤ most_transactions }
     requires idle { IsTrue (M.is_idle media.old) }
-    requires new { IsTrue (M.is_new media.old) }
+    requires may { (banks : ℕ) (volumes : Mounted M.Log M.Pages)
+        → MayMount (M.is_new media.old) (M.begins media.old) (M.gives media.old) banks volumes
+        → MayBeginOver M.Log.LogDisk M.Pages.PageDisk kept volumes }
     ensures ends { (left : Option (List ℕ)) (faults : ℕ) → Ends M.Log.LogDisk M.Pages.PageDisk (tasks.Gen seed size)
-        left left faults faults (MayBeFirst (M.begins media.old)) M.falls
+        left left faults faults (MayMount (M.is_new media.old) (M.begins media.old) (M.gives media.old)) kept M.falls
         (M.faults media.old) (M.faults media.new) (M.gives media.new) [] result }
     ensures written { WritesLast result }
     ensures idle { IsTrue (M.is_idle media.new) }
@@ -113,11 +123,15 @@ fn work<R: Threads + Wait + Sync, S: Source, K: Sink, M: Media, G: Gate + Sync>(
 where
     M::Log: Sync,
     M::Pages: Sync,
+    ghost kept: { KeptLog }
     requires sized { IsSized task }
     requires idle { IsTrue (M.is_idle media.old) }
-    requires new { IsTrue (M.is_new media.old) }
+    requires may { (banks : ℕ) (volumes : Mounted M.Log M.Pages)
+        → MayMount (M.is_new media.old) (M.begins media.old) (M.gives media.old) banks volumes
+        → MayBeginOver M.Log.LogDisk M.Pages.PageDisk kept volumes }
     ensures ends { (written : List ℕ) × Ends M.Log.LogDisk M.Pages.PageDisk task (S.left source.old) (S.left source.new)
-        (S.faults source.old) (S.faults source.new) (MayBeFirst (M.begins media.old)) M.falls
+        (S.faults source.old) (S.faults source.new)
+        (MayMount (M.is_new media.old) (M.begins media.old) (M.gives media.old)) kept M.falls
         (M.faults media.old) (M.faults media.new) (M.gives media.new) written result
         × HasWritten (K.held sink.old) (K.held sink.new) (K.faults sink.old) (K.faults sink.new) written result }
     ensures sink { K.faults sink.old ≤ K.faults sink.new }
@@ -173,8 +187,10 @@ pub fn say_out_of_memory<K: Sink>(sink: &mut K) -> u8
 /// script, or have a line that the run doesn't do yet, and the line `script LINE KIND` is written, 2 the words are
 /// refused, 3 the source failed, 4 the sink failed, 5 the media or a volume failed before a life began, or at a crash,
 /// 6 out of memory, 7 the log is damaged, and the line `damaged AT` is written, 9 the log has no room for a life's first
-/// checkpoint, 10 the log isn't new at the first opening. Before the last line of 5, 6, 7, 9 and 10 the text of the lives
-/// before may stand.
+/// checkpoint. Before the last line of 5, 6, 7 and 9 the text of the lives before may stand.
+///
+/// A log that has records is gone on from: it is recovered, and the first life begins behind the last of them. Where pages
+/// tell what they hold, the volumes then fit a log, which contracts alone see (`kept`).
 ///
 /// The words are `run`, or `gen SEED SIZE`, SEED being 1 to 10 decimal digits, from 1 to 2147483646, and SIZE as many,
 /// from 1 to 100,000. `run` reads at most 16,777,217 bytes of the source; for other words none is read.
@@ -194,23 +210,28 @@ pub fn run_tool<R: Threads + Wait + Sync, S: Source, K: Sink, M: Media, G: Gate 
 where
     M::Log: Sync,
     M::Pages: Sync,
+    ghost kept: { KeptLog }
     requires idle { IsTrue (M.is_idle media.old) }
-    requires new { IsTrue (M.is_new media.old) }
+    requires may { (banks : ℕ) (volumes : Mounted M.Log M.Pages)
+        → MayMount (M.is_new media.old) (M.begins media.old) (M.gives media.old) banks volumes
+        → MayBeginOver M.Log.LogDisk M.Pages.PageDisk kept volumes }
 
     // The main guarantee, for `run`: the bytes written report one legal history, each command once and in order, and
     // each reply lawful. The media holds a log with the records that the report tells, and no session's commands are told
     // of more faults of a volume than it has counted.
     ensures done { result ≡ 0 → IsRun (map string_bytes words.now)
         → (run : IsWholeRun M.Pages.tells (S.left source.old) (S.left source.new) (K.held sink.old) (K.held sink.new))
-        × LeavesVolumes M.Log.LogDisk M.Pages.PageDisk (MayBeFirst (M.begins media.old) run.answer.script.banks) M.falls
-        (M.gives media.new) run.answer.report.lives }
+        × LeavesVolumes M.Log.LogDisk M.Pages.PageDisk
+        (BeginsOver M.Log.LogDisk M.Pages.PageDisk (MayMount (M.is_new media.old) (M.begins media.old) (M.gives media.old)) kept
+        run.answer.script run.answer.banks run.answer.start) M.falls (M.gives media.new) run.answer.report.lives }
 
     // And for `gen`: the line written has the counts of such a report of the generated script.
     ensures counted { result ≡ 0 → (IsRun (map string_bytes words.now) → ⊥) → (seed size : ℕ)
         × IsGen (map string_bytes words.now) seed size
         × (sum : IsWholeSummary M.Pages.tells seed size (K.held sink.old) (K.held sink.new))
-        × LeavesVolumes M.Log.LogDisk M.Pages.PageDisk (MayBeFirst (M.begins media.old) (generated seed size).banks) M.falls
-        (M.gives media.new) sum.counts.report.lives }
+        × LeavesVolumes M.Log.LogDisk M.Pages.PageDisk
+        (BeginsOver M.Log.LogDisk M.Pages.PageDisk (MayMount (M.is_new media.old) (M.begins media.old) (M.gives media.old)) kept
+        (generated seed size) sum.counts.banks sum.counts.start) M.falls (M.gives media.new) sum.counts.report.lives }
 
     // Why it ends otherwise.
     ensures script { result ≡ 1 → IsRun (map string_bytes words.now)
@@ -221,28 +242,29 @@ where
     ensures write { result ≡ 4 → Rose (K.faults sink.old) (K.faults sink.new) }
     ensures front { result ≡ 4 → HoldsFront M.Log.LogDisk M.Pages.PageDisk (map string_bytes words.now)
         (S.left source.old) (S.left source.new) (S.faults source.old) (S.faults source.new)
-        (MayBeFirst (M.begins media.old)) M.falls (M.faults media.old) (M.faults media.new) (M.gives media.new)
+        (MayMount (M.is_new media.old) (M.begins media.old) (M.gives media.old)) kept M.falls
+        (M.faults media.old) (M.faults media.new) (M.gives media.new)
         (K.held sink.old) (K.held sink.new) }
     ensures device { result ≡ 5 → IsUnrunBy M.Log.LogDisk M.Pages.PageDisk (map string_bytes words.now)
-        (S.left source.old) (S.left source.new) (MayBeFirst (M.begins media.old)) M.falls
+        (S.left source.old) (S.left source.new)
+        (MayMount (M.is_new media.old) (M.begins media.old) (M.gives media.old)) kept M.falls
         (M.faults media.old) (M.faults media.new) (M.gives media.new) (K.held sink.old) (K.held sink.new)
         no_lives.Device (codes "device" ++ 10 ∷ []) }
     ensures memory { result ≡ 6 → IsMemoryLast M.Log.LogDisk M.Pages.PageDisk (map string_bytes words.now)
-        (S.left source.old) (S.left source.new) (MayBeFirst (M.begins media.old)) M.falls
+        (S.left source.old) (S.left source.new)
+        (MayMount (M.is_new media.old) (M.begins media.old) (M.gives media.old)) kept M.falls
         (M.faults media.old) (M.faults media.new) (M.gives media.new) (K.held sink.old) (K.held sink.new) }
     ensures damaged { result ≡ 7 → (at : ℕ)
         × IsUnrunBy M.Log.LogDisk M.Pages.PageDisk (map string_bytes words.now) (S.left source.old) (S.left source.new)
-        (MayBeFirst (M.begins media.old)) M.falls (M.faults media.old) (M.faults media.new) (M.gives media.new)
+        (MayMount (M.is_new media.old) (M.begins media.old) (M.gives media.old)) kept M.falls
+        (M.faults media.old) (M.faults media.new) (M.gives media.new)
         (K.held sink.old) (K.held sink.new) (no_lives.Damaged at) (damage_text at) }
     ensures full { result ≡ 9 → IsUnrunBy M.Log.LogDisk M.Pages.PageDisk (map string_bytes words.now)
-        (S.left source.old) (S.left source.new) (MayBeFirst (M.begins media.old)) M.falls
+        (S.left source.old) (S.left source.new)
+        (MayMount (M.is_new media.old) (M.begins media.old) (M.gives media.old)) kept M.falls
         (M.faults media.old) (M.faults media.new) (M.gives media.new) (K.held sink.old) (K.held sink.new)
         no_lives.Full (codes "log-full" ++ 10 ∷ []) }
-    ensures old_log { result ≡ 10 → IsUnrunBy M.Log.LogDisk M.Pages.PageDisk (map string_bytes words.now)
-        (S.left source.old) (S.left source.new) (MayBeFirst (M.begins media.old)) M.falls
-        (M.faults media.old) (M.faults media.new) (M.gives media.new) (K.held sink.old) (K.held sink.new)
-        no_lives.OldLog (codes "old-log" ++ 10 ∷ []) }
-    ensures statuses { (result ≤ 10) × (result ≢ 8) }
+    ensures statuses { (result ≤ 9) × (result ≢ 8) }
 
     // What it reads, and how it leaves the media.
     ensures amount { ReadsUpTo most_read (S.left source.old) (S.left source.new) }
@@ -250,7 +272,7 @@ where
     ensures unused { (IsAccepted (map string_bytes words.now) → ⊥) → media.new ≡ media.old }
     ensures unmounted { (result ≡ 1) ⊎ (result ≡ 3) → media.new ≡ media.old }
     ensures rested { IsTrue (M.is_idle media.new) }
-    ensures used { (result ≡ 0) ⊎ ((result ≡ 7) ⊎ ((result ≡ 9) ⊎ (result ≡ 10))) → M.is_new media.new ≡ false }
+    ensures used { (result ≡ 0) ⊎ ((result ≡ 7) ⊎ (result ≡ 9)) → M.is_new media.new ≡ false }
 
     // And the line that it then writes, where no life ran.
     ensures no_words { result ≡ 2 → Appends (K.held sink.old) (K.held sink.new) (codes "words" ++ 10 ∷ []) }

@@ -1,4 +1,4 @@
 use Rattle.session_run.proofs.run.go_on.Given as goal
 
-abbrev pub ghost-reopen_life : goal.ghost-reopen_life
-ghost-reopen_life g a = g.kept
+abbrev pub ghost-open_life : goal.ghost-open_life
+ghost-open_life g a = g.kept

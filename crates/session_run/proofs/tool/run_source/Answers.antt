@@ -1,5 +1,5 @@
 use Rattle.std.proofs.Common.{List, subst, sym, ℕ}
-use Rattle.disk_core.specs.Media.{MayBeFirst}
+use Rattle.engine_life.specs.FirstLives.{MayMount}
 use Rattle.session_run.specs.declared.ending.Ending.{Ending}
 use Rattle.script_gen.specs.declared.task.Task.TheVariants as tasks
 use Rattle.session_run.specs.Tool.{Ends, HasMounted, HasWritten}
@@ -17,11 +17,11 @@ returns-in-Err-clause-ends g c =
     let new = c.take_script.new.source in
     let held = g.K.Sink.held c.args.sink.now in
     let faults = g.K.Sink.faults c.args.sink.now in
-    let first = MayBeFirst (m.begins c.args.media.now) in
+    let first = MayMount (m.is_new c.args.media.now) (m.begins c.args.media.now) (m.gives c.args.media.now) in
     let before = m.faults c.args.media.now in
     let gives = m.gives c.args.media.now in
-    subst (λ (e : Ending). (written : List ℕ) × Ends l p tasks.Run (s.left old) (s.left new) (s.faults old) (s.faults new) first m.falls before before gives written e × HasWritten held held faults faults written e)
-    (sym c.unread.ensures) (unread_ends l p (s.left old) (s.left new) held (s.faults old) (s.faults new) faults first m.falls before before gives c.in-Err.refusal c.in-Err.ensures.refused)
+    subst (λ (e : Ending). (written : List ℕ) × Ends l p tasks.Run (s.left old) (s.left new) (s.faults old) (s.faults new) first g.kept m.falls before before gives written e × HasWritten held held faults faults written e)
+    (sym c.unread.ensures) (unread_ends l p (s.left old) (s.left new) held (s.faults old) (s.faults new) faults first g.kept m.falls before before gives c.in-Err.refusal c.in-Err.ensures.refused)
 
 pub returns-in-Ok-run_script-clause-ends : goal.returns-in-Ok-run_script-clause-ends
 returns-in-Ok-run_script-clause-ends g c =
@@ -29,7 +29,7 @@ returns-in-Ok-run_script-clause-ends g c =
     let k = g.K.Sink in
     let m = g.M.Media in
     answers g.M.Log.LogDisk g.M.Pages.PageDisk (s.left c.args.source.now) (s.left c.take_script.new.source) (k.held c.args.sink.now) (k.held c.run_script.new.sink) (s.faults c.args.source.now) (s.faults c.take_script.new.source) (k.faults c.args.sink.now) (k.faults c.run_script.new.sink) c.in-Ok.script
-    (MayBeFirst (m.begins c.args.media.now)) m.falls (m.faults c.args.media.now) (m.faults c.run_script.new.media) (m.gives c.run_script.new.media) c.in-Ok.ensures.script c.in-Ok-run_script.ensures.report
+    (MayMount (m.is_new c.args.media.now) (m.begins c.args.media.now) (m.gives c.args.media.now)) g.kept m.falls (m.faults c.args.media.now) (m.faults c.run_script.new.media) (m.gives c.run_script.new.media) c.in-Ok.ensures.script c.in-Ok-run_script.ensures.report
 
 pub returns-clause-ends : goal.returns-clause-ends
 returns-clause-ends g c =
@@ -37,7 +37,7 @@ returns-clause-ends g c =
     let k = g.K.Sink in
     let m = g.M.Media in
     stopped_ends g.M.Log.LogDisk g.M.Pages.PageDisk (s.left c.args.source.now) (s.left c.take_script.new.source) (k.held c.args.sink.now) (k.held c.run_script.new.sink) (s.faults c.args.source.now) (s.faults c.take_script.new.source) (k.faults c.args.sink.now) (k.faults c.run_script.new.sink)
-    (MayBeFirst (m.begins c.args.media.now)) m.falls (m.faults c.args.media.now) (m.faults c.run_script.new.media) (m.gives c.run_script.new.media) c.in-Ok.script c.in-Ok.ensures.script c.in-Err-run_script.stop c.stopped.result c.stopped.ensures c.in-Err-run_script.ensures.stopped
+    (MayMount (m.is_new c.args.media.now) (m.begins c.args.media.now) (m.gives c.args.media.now)) g.kept m.falls (m.faults c.args.media.now) (m.faults c.run_script.new.media) (m.gives c.run_script.new.media) c.in-Ok.script c.in-Ok.ensures.script c.in-Err-run_script.stop c.stopped.result c.stopped.ensures c.in-Err-run_script.ensures.stopped
 
 pub returns-in-Err-clause-used : goal.returns-in-Err-clause-used
 returns-in-Err-clause-used g c = λ mounted. absurd (unread_unmounted c.in-Err.refusal (subst HasMounted c.unread.ensures mounted))

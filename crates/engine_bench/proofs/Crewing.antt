@@ -93,6 +93,19 @@ module _ {H L P : Type 0} {l : logs.Ghosts L} {p : disks.Ghosts P} where
     pub parked : (n : ℕ) (s : Session) → count ≤ n → n < first.cluster.sessions → IsNewSession s → IsParked hall host n s
     pub each : All (MayWork hall first.cluster.banks) members
 
+  pub none_in : (hall : Hall H (Part L P l p) Entry Start) (host : Host L P l p) (members : List (Member L P l p))
+      → IsHost hall host → HoldsAllBut host []
+      → ((n : ℕ) (s : Session) → n < host.cluster.sessions → IsNewSession s → IsParked hall host n s) → members ≡ []
+      → AreIn hall host 0 host members
+  none_in hall host members is names parked none = record {
+    is = is;
+    cluster = refl;
+    many = ap length none;
+    names = subst (λ (ms : List (Member L P l p)). HoldsAllBut host (numbers_of ms)) (sym none) names;
+    parked = λ n s low high new. parked n s high new;
+    each = λ k d low. absurd (let e = ap length none in omega (arith, low, e));
+  }
+
   pub one_more_in : (hall : Hall H (Part L P l p) Entry Start) (first : Host L P l p) (count : ℕ) (host host' : Host L P l p)
       (members : List (Member L P l p)) (m : Member L P l p) → AreIn hall first count host members
       → IsHost hall host' → host'.cluster ≡ host.cluster

@@ -15,7 +15,7 @@ returns-in-Save g c =
 pub returns-in-Write : goal.returns-in-Write
 returns-in-Write g c =
     let few = c.if-caller-ge-MOST_COMMANDS.false in
-    ran_one c.args.hall.now c.args.banks _ _ c.is_ok-in-Write.result c.args.caller.now c.write.new.caller c.requires (omega (arith, few)) c.write.ensures
+    ran_one c.args.hall.now c.args.banks _ _ c.is_ok-in-Write.result c.args.caller.now c.write.new.caller c.requires (omega (arith, few)) c.write.ensures.ran
 
 pub returns-in-Release : goal.returns-in-Release
 returns-in-Release g c =

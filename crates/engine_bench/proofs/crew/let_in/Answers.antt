@@ -1,6 +1,6 @@
 use Rattle.std.proofs.Common.{◌≡◌, ◌+◌, arith, refl, ap, subst, sym, ◌∙◌, take}
 use Rattle.engine_bench.specs.declared.crew.Member.{Member}
-use Rattle.engine_bench.proofs.Crewing.{AreIn, one_more_in}
+use Rattle.engine_bench.proofs.Crewing.{AreIn, none_in, one_more_in}
 use Rattle.engine_bench.proofs.crew.let_in.Goals as goal
 
 pub admit-requires-clause-parked : goal.admit-requires-clause-parked
@@ -18,3 +18,9 @@ loop-number-preserved g c =
           c.loop-number.invariant.are_in a.host a.cluster a.names a.stay a.number a.caller);
       room = (let w = c.loop-number.invariant.room in let e = c.push_reserved.ensures.capacity in omega (arith, w, e));
     }
+
+pub loop-number-init : goal.loop-number-init
+loop-number-init g c = record {
+  are_in = none_in c.args.hall.now c.args.host.now c.args.members.now.items c.requires.host c.requires.names c.requires.parked c.requires.none;
+  room = c.requires.room;
+}

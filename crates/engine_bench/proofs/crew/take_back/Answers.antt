@@ -6,8 +6,8 @@ dismiss-requires-clause-caller g c =
     last_may c.args.hall.now c.args.host.now c.loop-member.host c.loop-member.members.items c.pop.new.self.items c.in-Some.member
     c.in-Some.ensures.items c.loop-member.invariant
 
-pub loop-member-preserved-in-Some : goal.loop-member-preserved-in-Some
-loop-member-preserved-in-Some g c =
+pub loop-member-preserved : goal.loop-member-preserved
+loop-member-preserved g c =
     let d = c.dismiss.ensures in
     one_back c.args.hall.now c.args.host.now c.loop-member.host c.dismiss.new.host c.loop-member.members.items c.pop.new.self.items c.in-Some.member
     c.in-Some.ensures.items c.loop-member.invariant d.host d.cluster d.names

@@ -121,19 +121,18 @@ fn clear(into: &mut [u8; 8192])
     *into = [0; 8192];
 }
 
-// The bytes from a place on are all 0.
+// The bytes from a place on are all 0. It looks at each, so that several are compared at once.
 fn are_zeros(bytes: &[u8; 8192], at: usize) -> bool
     requires { at ≤ 8192 }
     ensures { IsTrue result → bytes.now ≡ cleared_from at bytes.now }
 {
+    let mut zeros = true;
     let mut i = at;
     while i < 8192 {
-        if bytes[i] != 0 {
-            return false;
-        }
+        zeros &= bytes[i] == 0;
         i += 1;
     }
-    true
+    zeros
 }
 
 fn zero_from(bytes: &mut [u8; 8192], at: usize)

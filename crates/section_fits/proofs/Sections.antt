@@ -1,5 +1,5 @@
 -- The law on all volumes, while a critical section runs.
-use Rattle.std.proofs.Common.{◌≡◌, ◌≢◌, ◌⊎◌, inl, inr, ⊎_elim, ℕ, ◌+◌, ◌*◌, ◌<◌, List, [], ◌∷◌, ◌++◌, None, Option, arith, length, refl, subst, sym, ap, ◌∙◌}
+use Rattle.std.proofs.Common.{◌≡◌, ◌≢◌, inl, inr, ⊎_elim, ℕ, ◌<◌, List, [], ◌∷◌, ◌++◌, None, arith, length, refl, subst, sym, ap, ◌∙◌}
 use Rattle.disk_core.specs.Pages.{Pages}
 use Rattle.notes.specs.Lists.{add, at}
 use Rattle.notes.proofs.Growing.{at_else, at_here}
@@ -8,20 +8,17 @@ use Rattle.tx_events.specs.Multis.{made}
 use Rattle.tx_core.specs.declared.entry.Entry.{Entry}
 use Rattle.tx_core.specs.declared.entry.Kind.{Kind}
 use Rattle.tx_core.specs.declared.entry.Kind.TheVariants as kinds
-use Rattle.tx_core.specs.declared.entry.LogCall.{LogCall}
-use Rattle.tx_core.specs.declared.entry.LogCall.TheVariants as calls
 use Rattle.tx_core.specs.declared.entry.Start.{Start}
 use Rattle.tx_core.specs.Entries.{appended, appended_in, events_in}
 use Rattle.tx_core.specs.Locks.{log_lock, members_lock, multi_lock, offsets_lock, proc_lock, subtrans_lock, xact_lock}
 use Rattle.tx_core.specs.MultiEntries.{multis_in}
-use Rattle.tx_events.specs.declared.event.By.{By}
 use Rattle.recoverable.specs.Fit.{KeptLog}
 use Rattle.recoverable.specs.Laws.{LogFollows, LogOf}
 use Rattle.recoverable.specs.Whole.{IsShort}
 use Rattle.recoverable.proofs.LogSteps.{log_goes_on}
 use Rattle.recoverable.proofs.Whole.{image_fits}
 use Rattle.bank_follows.proofs.Stores.{images_follow}
-use Rattle.section_fits.specs.Sections.{AsksVolume, IsBankLock, IsForget, IsInside, MembersMoments, OffsetsMoments, SectionsFit, StatesMoments}
+use Rattle.section_fits.specs.Sections.{AsksVolume, IsBankLock, IsForget, MembersMoments, OffsetsMoments, SectionsFit, StatesMoments}
 
 -- a bank's lock is none of the others
 past_others : (lock : ℕ) → IsBankLock lock → 2 < lock

@@ -50,17 +50,17 @@ module _ {S K M L P : Type 0} (s : sources.Ghosts S) (k : sinks.Ghosts K) (m : m
 
   pub refuses : (IsAccepted typed → ⊥) → Ended → (n : ℕ) × Appends (k.held sink) (k.held sink') (take n Line) → IsTrue (m.is_idle media)
       → RunsTool s k m l p kept typed source source sink sink' media media status
-  refuses no ends front idle = record {
+  refuses unknown ends front idle = record {
     done = λ is. other _ 0 (λ q. omega (arith, q)) (λ q. omega (arith, q)) ends is;
     counted = λ is. other _ 0 (λ q. omega (arith, q)) (λ q. omega (arith, q)) ends is;
     script = λ is. other _ 1 (λ q. omega (arith, q)) (λ q. omega (arith, q)) ends is;
-    words = λ is. no;
+    words = λ is. unknown;
     words_only = λ refused. ⊎_elim
         (λ (a : (status ≡ 2) × Wrote). inl a.0)
         (λ (b : (status ≡ 4) × Failed). inr b.0) ends;
     read = λ is. other _ 3 (λ q. omega (arith, q)) (λ q. omega (arith, q)) ends is;
     write = failed ends;
-    front = λ is. record { text = Line; whole = inl (no, refl); count = front.0; front = front.1 };
+    front = λ is. record { text = Line; whole = inl (unknown, refl); count = front.0; front = front.1 };
     device = λ is. other _ 5 (λ q. omega (arith, q)) (λ q. omega (arith, q)) ends is;
     memory = λ is. other _ 6 (λ q. omega (arith, q)) (λ q. omega (arith, q)) ends is;
     damaged = λ is. other _ 7 (λ q. omega (arith, q)) (λ q. omega (arith, q)) ends is;

@@ -1,5 +1,5 @@
 -- A media on which a run was done, handed to a next one.
-use Rattle.std.proofs.Common.{Bool, IsTrue, List, None, Option, Some, [], false, length, refl, subst, sym, true, ℕ, ◌++◌, ◌∙◌, ◌∷◌, ◌≡◌}
+use Rattle.std.proofs.Common.{Bool, List, None, Option, Some, [], length, subst, sym, ℕ, ◌++◌, ◌∙◌, ◌∷◌}
 use Rattle.std.specs.Prelude.{IsSomeAnd}
 use Rattle.disk_core.specs.declared.log_disk.LogDisk as logs
 use Rattle.disk_core.specs.declared.page_disk.PageDisk as disks
@@ -13,7 +13,6 @@ use Rattle.lives_law.specs.Lives.{GoOn, GoesBehind}
 use Rattle.lives_law.proofs.GoingOn.{behind_push}
 use Rattle.session_lang.specs.Rounds.{asked_of}
 use Rattle.run_law.specs.Lives.{AreLivesOf, LifePart, parts_of}
-use Rattle.recoverable.specs.Fit.{KeptLog}
 use Rattle.engine_life.specs.Lives.{FitsLog}
 use Rattle.session_run.specs.Again.{RunsGoOn}
 use Rattle.session_run.specs.Fits.{FitsLife}

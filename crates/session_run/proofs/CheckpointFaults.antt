@@ -3,7 +3,7 @@ use Rattle.std.proofs.Common.{Bool, IfSome, List, None, Option, Some, [], ap, ap
 use Rattle.disk_core.specs.Faults.{HasRisen}
 use Rattle.engine_checkpoints.specs.Made.{IsBuilt}
 use Rattle.engine_parts.proofs.Leaving.{grows_then}
-use Rattle.notes.specs.Lists.{Begins, Grows, at}
+use Rattle.notes.specs.Lists.{Grows, at}
 use Rattle.run_law.proofs.PartSums.{count_push}
 use Rattle.session_promise.specs.Causes.{HasRisenBy, failed_volume, is_behind}
 use Rattle.session_run.specs.Causes.{AreCheckpointsCounted, AreOfBuilt, checkpoint_faults, failed_by}

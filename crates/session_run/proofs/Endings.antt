@@ -26,7 +26,7 @@ use Rattle.session_run.specs.declared.ending.Ending.TheVariants as endings
 use Rattle.script_gen.specs.declared.task.Task.{Task}
 use Rattle.script_gen.specs.declared.task.Task.TheVariants as tasks
 use Rattle.session_run.specs.Leaves.{LeavesVolumes}
-use Rattle.session_run.specs.Runs.{IsTakenAlone, cluster_of}
+use Rattle.session_run.specs.Runs.{IsTakenAlone}
 use Rattle.session_run.specs.Tool.{Ends, HasWritten, IsScriptOf, IsSized, IsTask, IsUnread, IsUnrun, TellsRefusal, TellsStop, WritesLast, unread_by}
 use Rattle.run_law.specs.Lives.{RunStart, new_start, text_so_far}
 use Rattle.session_run.specs.declared.stop.Stopped.{Stopped}

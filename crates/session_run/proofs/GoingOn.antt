@@ -33,15 +33,16 @@ use Rattle.engine_life.specs.declared.refusal.NoLife.{NoLife}
 use Rattle.engine_life.specs.declared.refusal.NoLife.TheVariants as no_lives
 use Rattle.engine_life.specs.Lives.{FitsLog}
 use Rattle.engine_life.specs.FirstLives.{MayBeginOver, MayMount, with_banks}
-use Rattle.engine_life.specs.NextLives.{CrashGoesOn, MayGoOn}
+use Rattle.engine_life.specs.NextLives.{CrashGoesOn, MayGoOn, StayFit, WhenRefused}
 use Rattle.engine_life.specs.Refusals.{HasRestedVolumes, IsUnopened}
+use Rattle.engine_life.specs.Reopening.{LeavesLog}
 use Rattle.engine_life.proofs.GoingOn.{may_begin}
 use Rattle.session_run.specs.Fits.{EndsWithLife, FitsLife}
 use Rattle.session_run.specs.Going.{HasGoneOn, IsCrashed, IsPartTold, IsRunning}
 use Rattle.session_run.specs.Lives.{HasFallen}
 use Rattle.session_run.specs.OneLife.{life_of, life_over}
 use Rattle.session_run.specs.Runs.{cluster_of}
-use Rattle.session_run.specs.Stops.{IsUndamaged}
+use Rattle.session_run.specs.Stops.{IsUndamaged, StayFitBehind, StillFit}
 use Rattle.session_run.proofs.Handed.{no_log}
 use Rattle.session_run.proofs.Opening.{opened_so}
 use Rattle.session_run.proofs.Running.{comes_push, push_some}
@@ -166,6 +167,41 @@ module _ {L P : Type 0} (l : logs.Ghosts L) (p : disks.Ghosts P) where
   -- the media failed at the crash
   pub crash_failed : (c : Cluster) (falls : Crash → Volumes L P → Volumes L P → Type 0) (how : How) (left : Volumes L P) (gives : Volumes L P → Type 0) (before now : ℕ) → HasRisen before now → IsCrashed l p c falls how before now left gives no_lives.Device
   crash_failed c falls how left gives before now risen = (inl risen, λ at same lt pt. absurd (let q : no_lives.Device ≡ no_lives.Damaged at = same in cc))
+
+-- ---- what is left then
+
+module _ {L P : Type 0} (l : logs.Ghosts L) (p : disks.Ghosts P) (log : KeptLog) where
+  -- what the media gave and a refused opening left fits the log
+  module _ (came gave gives : Volumes L P → Type 0) (before now : ℕ) (fits : (v : Volumes L P) → gave v → came v × FitsLog l p log v) where
+    by_stay : (refusal : NoLife) → ((old new : Volumes L P) → WhenRefused l p log old new refusal → LeavesLog l p old new log) → StayFit l p log gave gives refusal → StillFit l p log came gives
+    by_stay refusal leaves stay new given = ⊎_elim
+        (λ (again : gave new). inl (fits new again))
+        (λ (k : (old : Volumes L P) × gave old × (FitsLog l p log old → WhenRefused l p log old new refusal)).
+        let f = fits k.0 k.1 in
+        inr (k.0, f.0, f.1, leaves k.0 new (k.2 f.1)))
+        (stay new given)
+
+    pub still_fit : (refusal : NoLife) → StayFit l p log gave gives refusal → StayFitBehind l p log came before now gives refusal
+    still_fit (no_lives.Damaged at) stay = by_stay (no_lives.Damaged at) (λ old new w. w) stay
+    still_fit no_lives.Device stay = inr (by_stay no_lives.Device (λ old new w. w) stay)
+    still_fit no_lives.Full stay = by_stay no_lives.Full (λ old new w. w) stay
+    still_fit no_lives.Memory stay = tt
+
+  -- counted from before, of volumes of which more is said
+  module _ (came more gives : Volumes L P → Type 0) (before mid now : ℕ) (later : before ≤ mid) (wider : (v : Volumes L P) → came v → more v) where
+    still_wider : StillFit l p log came gives → StillFit l p log more gives
+    still_wider still new given = ⊎_elim
+        (λ (a : came new × FitsLog l p log new). inl (wider new a.0, a.1))
+        (λ (b : (old : Volumes L P) × came old × FitsLog l p log old × LeavesLog l p old new log). inr (b.0, wider b.0 b.1, b.2, b.3))
+        (still new given)
+
+    pub stay_wider : (refusal : NoLife) → StayFitBehind l p log came mid now gives refusal → StayFitBehind l p log more before now gives refusal
+    stay_wider (no_lives.Damaged at) still = still_wider still
+    stay_wider no_lives.Device still = ⊎_elim
+        (λ (risen : HasRisen mid now). inl (risen_from before mid now later risen))
+        (λ (k : StillFit l p log came gives). inr (still_wider k)) still
+    stay_wider no_lives.Full still = still_wider still
+    stay_wider no_lives.Memory still = tt
 
 -- ---- the next life is open
 

@@ -1,5 +1,5 @@
 -- Which media may be handed to a run.
-use Rattle.std.proofs.Common.{Bool, IsTrue, List, None, [], ap, arith, false, length, refl, subst, sym, true, ℕ, ◌∙◌, ◌≡◌}
+use Rattle.std.proofs.Common.{IsTrue, List, None, [], ap, false, length, refl, subst, sym, true, ℕ, ◌∙◌, ◌≡◌}
 use Rattle.std.proofs.lemmas.Bool.{false≢true}
 use Rattle.std.specs.Prelude.{IsSome, Option}
 use Rattle.disk_core.specs.declared.log_disk.LogDisk as logs

@@ -1,9 +1,9 @@
 -- The members of a round keep nothing any more once it is kept for the run, and call as before.
-use Rattle.std.proofs.Common.{◌≡◌, ℕ, ◌+◌, ◌<◌, false, List, [], ◌∷◌, refl, sym, ap, subst, ◌∙◌, arith, drop, get_or, length, map, set, take}
+use Rattle.std.proofs.Common.{◌≡◌, ℕ, ◌+◌, ◌<◌, List, [], ◌∷◌, refl, sym, ap, subst, ◌∙◌, arith, drop, get_or, length, map, set}
 use Rattle.std.proofs.Math.ListN.{get_or-map}
 use Rattle.std.proofs.Math.Seq.{map-set_same}
 use Rattle.std.proofs.lemmas.Grind.{drop_more_same}
-use Rattle.std.proofs.lemmas.List.{drop-set-lt, get_or-drop, get_or_default, length-map}
+use Rattle.std.proofs.lemmas.List.{drop-set-lt, get_or-drop, length-map}
 use Rattle.std.specs.List.{All}
 use Rattle.disk_core.specs.declared.log_disk.LogDisk as logs
 use Rattle.disk_core.specs.declared.page_disk.PageDisk as disks

@@ -17,6 +17,7 @@ mod LifeFits
 mod LifeLived
 mod Endings
 mod ToolEnds
+mod Refusing
 pub mod Handed
 mod Opening
 mod Running

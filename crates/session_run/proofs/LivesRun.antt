@@ -33,8 +33,8 @@ use Rattle.session_run.specs.Lives.{ComesTo, HasFallen}
 use Rattle.session_run.specs.Parts.{IsTakenPart}
 use Rattle.session_run.specs.Runs.{IsTaken, cluster_of}
 use Rattle.session_run.specs.Starts.{BeginsOver}
-use Rattle.session_run.specs.Stops.{IsStopped, IsTextOfRun, IsUndamaged, IsUnopenedFirst, Stops, StopsBehind}
-use Rattle.session_run.proofs.GoingOn.{since}
+use Rattle.session_run.specs.Stops.{IsStopped, IsTextOfRun, IsUndamaged, IsUnopenedFirst, KeepsLog, Stops, StopsBehind}
+use Rattle.session_run.proofs.GoingOn.{since, stay_wider}
 use Rattle.session_run.proofs.Opening.{IsFirst, start_so}
 use Rattle.session_run.proofs.Running.{comes_push, run_told, so_whole}
 
@@ -76,12 +76,12 @@ module _ {L P : Type 0} (l : logs.Ghosts L) (p : disks.Ghosts P) (s : Script) (f
   memory_stops banks start [] begun mounted began comes = (tt, λ was told other. absurd (other refl))
   memory_stops banks start (q ∷ lives) begun mounted began comes =
       let k = last_left l p falls q lives begun mounted comes in
-      (k.3, record { before = k.0; last = k.1; lives_are = k.2; begun = begun; began = began; has_left = k.4 }, tt, memory_undamaged)
+      (k.3, record { before = k.0; last = k.1; lives_are = k.2; begun = begun; began = began; has_left = k.4 }, tt, memory_undamaged, λ pt lt. let f = k.4.ended.fit pt lt in (f.0, f.1, tt))
 
   -- or for the line that tells of another stop
   pub then_memory : (banks : ℕ) (start : RunStart) (lives : List LifeReport) (refusal : NoLife) → Stopped_by banks start lives refusal → Stopped_by banks start lives no_lives.Memory
   then_memory banks start [] refusal u = (tt, λ was told other. absurd (other refl))
-  then_memory banks start (q ∷ lives) refusal u = (u.0, u.1, tt, memory_undamaged)
+  then_memory banks start (q ∷ lives) refusal u = (u.0, u.1, tt, memory_undamaged, λ pt lt. let f = u.4 pt lt in (f.0, f.1, tt))
 
   -- the first life wasn't opened
   pub unopened_stops : (held : Option (List ℕ)) (faults faults' : ℕ) (refusal : NoLife) → IsUnopenedFirst l p first kept used falls before now gives s refusal → IsStopped l p first kept used falls before now gives s held held faults faults' (stops.NoLife refusal)
@@ -218,15 +218,19 @@ module _ {L P : Type 0} {l : logs.Ghosts L} {p : disks.Ghosts P} (s : Script) (f
           }
 
       -- it crashed, and no life goes on
-      crash_stops : (gives : Volumes L P → Type 0) (faults count now : ℕ) (how : How) (refusal : NoLife) → faults ≤ count → crash ≡ Some how → IsCrashed l p (cluster_of s) falls how count now left gives refusal
-          → StopsBehind l p first kept used falls faults now gives s h.banks h.start (h.lives ++ r ∷ []) refusal
-      crash_stops gives faults count now how refusal later some none = (
+      came : (how : How) → crash ≡ Some how → (v : Volumes L P) → HasFallen l p falls how left v → ComesTo l p falls (h.lives ++ r ∷ []) h.begun v
+      came how some v fell =
+          comes_push s h.banks h.start falls h.lives r h.begun told.last.mounted left v told.last.comes told.last.ended
+          (subst (λ (c : Option How). IsSomeAnd c (λ k. HasFallen l p falls k left v)) (sym some ∙ sym told.crash_is) fell)
+
+      pub crash_stops : (gives : Volumes L P → Type 0) (faults count now : ℕ) (how : How) (refusal : NoLife) → faults ≤ count → crash ≡ Some how → IsCrashed l p (cluster_of s) falls how count now left gives refusal
+          → KeepsLog l p r.life left (HasFallen l p falls how left) count now gives refusal → StopsBehind l p first kept used falls faults now gives s h.banks h.start (h.lives ++ r ∷ []) refusal
+      crash_stops gives faults count now how refusal later some none keeps = (
         left,
         have_left,
-        since l p (cluster_of s) (λ banks volumes. HasFallen l p falls how left volumes) (λ banks volumes. ComesTo l p falls (h.lives ++ r ∷ []) h.begun volumes) gives faults count now later
-            (λ v fell. comes_push s h.banks h.start falls h.lives r h.begun told.last.mounted left v told.last.comes told.last.ended
-            (subst (λ (c : Option How). IsSomeAnd c (λ k. HasFallen l p falls k left v)) (sym some ∙ sym told.crash_is) fell)) refusal none.0,
+        since l p (cluster_of s) (λ banks volumes. HasFallen l p falls how left volumes) (λ banks volumes. ComesTo l p falls (h.lives ++ r ∷ []) h.begun volumes) gives faults count now later (came how some) refusal none.0,
         none.1,
+        λ pt lt. let k = keeps pt lt in (k.0, k.1, stay_wider l p k.0 (HasFallen l p falls how left) (ComesTo l p falls (h.lives ++ r ∷ []) h.begun) gives faults count now later (came how some) refusal k.2),
       )
 
   -- ---- a part stopped
@@ -242,6 +246,7 @@ module _ {L P : Type 0} {l : logs.Ghosts L} {p : disks.Ghosts P} (s : Script) (f
         (how : How) × (crash ≡ Some how) × (r : LifeReport) × (left : Volumes L P)
         × (told : IsPartTold l p s h.banks h.start h.begun falls h.done h.lives (part_of its crash) r left) × Appends mid held' told.text
         × IsCrashed l p (cluster_of s) falls how between now left gives refusal
+        × KeepsLog l p r.life left (HasFallen l p falls how left) between now gives refusal
 
     pub part_stops : (stop : Stopped) → went stop → IsStopped l p first kept used falls before now gives s held held' faults faults' stop
     part_stops stops.Sink w =
@@ -274,5 +279,5 @@ module _ {L P : Type 0} {l : logs.Ghosts L} {p : disks.Ghosts P} (s : Script) (f
           h.lives ++ b.2 ∷ [],
           lives_before held mid items number life h its crash rest f b.0 b.2 b.1 b.4.are,
           wrote held mid items number life h its crash rest f held' b.2 b.3 b.4 b.0 b.1 b.5,
-          stops_behind l p s first kept used falls before now gives h.banks h.start h.lives b.2 refusal (crash_stops held mid items number life h its crash rest f held' b.2 b.3 b.4 gives before between now b.0 refusal later b.1 b.6),
+          stops_behind l p s first kept used falls before now gives h.banks h.start h.lives b.2 refusal (crash_stops held mid items number life h its crash rest f held' b.2 b.3 b.4 gives before between now b.0 refusal later b.1 b.6 b.7),
         )) w

@@ -1,5 +1,5 @@
 -- The log's volume holds the records of a life.
-use Rattle.std.proofs.Common.{IsTrue, List, None, Option, Result, Ok, Err, Some, [], ap, arith, drop, inl, inr, length, length-append, refl, subst, suc, sym, zero, ℕ, ⊎_elim, ◌++◌, ◌+◌, ◌-◌, ◌<◌, ◌∙◌, ◌∷◌, ◌≡◌, ◌≤◌}
+use Rattle.std.proofs.Common.{IsTrue, List, None, Option, Result, Ok, Err, Some, [], ap, arith, drop, inl, inr, length, length-append, refl, suc, sym, ℕ, ⊎_elim, ◌++◌, ◌+◌, ◌-◌, ◌<◌, ◌∙◌, ◌∷◌, ◌≡◌, ◌≤◌}
 use Rattle.std.proofs.Math.Seq.{drop-append_seam}
 use Rattle.std.proofs.lemmas.List.{drop-append-le, length-drop}
 use Rattle.std.specs.List.{slice_get}

@@ -1,5 +1,5 @@
 -- What rounds leave of a life.
-use Rattle.std.proofs.Common.{◌≡◌, ℕ, zero, suc, ◌+◌, ◌^◌, ◌<◌, ◌≤◌, List, [], ◌∷◌, ◌++◌, Some, refl, sym, ap, subst, ◌∙◌, arith, get_or, length, append-nil}
+use Rattle.std.proofs.Common.{◌≡◌, ℕ, zero, suc, ◌+◌, ◌^◌, ◌<◌, List, [], ◌∷◌, ◌++◌, Some, refl, sym, ap, subst, ◌∙◌, arith, get_or, length, append-nil}
 use Rattle.std.proofs.lemmas.List.Elements.{All-get_or, filter-append}
 use Rattle.std.proofs.lemmas.Option.{get_or_from_slice_get, slice_get_within}
 use Rattle.std.specs.List.{All, AllByRecursion, filter, slice_get}
@@ -34,7 +34,7 @@ use Rattle.session_promise.specs.Causes.{failed_volume}
 use Rattle.session_promise.specs.Checkpoints.{AreCheckpointsTold, WentCheckpoint}
 use Rattle.session_promise.specs.Dumps.{AreDumpsTold, IsStepTold}
 use Rattle.session_promise.specs.SoFar.{IsSoFar}
-use Rattle.session_promise.specs.Told.{ToldRound, steps_of}
+use Rattle.session_promise.specs.Told.{steps_of}
 use Rattle.session_promise.proofs.CheckpointsStay.{checkpoint_goes_on, checkpoints_begin, checkpoints_stay_dump, dumps_stay_checkpoint, so_far_checkpoint}
 use Rattle.session_promise.proofs.LawfulDumps.{dumps_stay}
 use Rattle.session_lang.specs.declared.script.Item.{Item}

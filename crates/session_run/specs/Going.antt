@@ -40,7 +40,7 @@ use Rattle.session_run.specs.Leaves.{HasLeftLast}
 use Rattle.session_run.specs.Lives.{ComesTo, HasFallen}
 use Rattle.session_run.specs.Starts.{OpensFor}
 use Rattle.session_run.specs.Runs.{cluster_of}
-use Rattle.session_run.specs.Stops.{IsUndamaged}
+use Rattle.session_run.specs.Stops.{IsUndamaged, KeepsLog}
 
 module _ {L P : Type 0} (l : logs.Ghosts L) (p : disks.Ghosts P) where
   -- A life that began so ran its part of the script, and this is its text.
@@ -124,4 +124,5 @@ module _ {L P : Type 0} (l : logs.Ghosts L) (p : disks.Ghosts P) where
       ((refusal ≡ no_lives.Memory) × Appends held held' [])
       ⊎ ((how : How) × (part.crash ≡ Some how) × (r : LifeReport) × (left : Volumes L P)
       × (told : IsPartTold s banks start begun falls done lives part r left) × Appends held held' told.text
-      × IsCrashed l p (cluster_of s) falls how before now left gives refusal)
+      × IsCrashed l p (cluster_of s) falls how before now left gives refusal
+      × KeepsLog l p r.life left (HasFallen l p falls how left) before now gives refusal)

@@ -15,3 +15,4 @@ pub mod Going
 pub mod Tool
 pub mod Again
 pub mod Unknown
+pub mod Guarantee

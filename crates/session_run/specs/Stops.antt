@@ -5,6 +5,8 @@ use Rattle.disk_core.specs.declared.log_disk.LogDisk as logs
 use Rattle.disk_core.specs.declared.page_disk.PageDisk as disks
 use Rattle.disk_core.specs.declared.media.Crash.{Crash}
 use Rattle.disk_core.specs.declared.media.Volumes.{Volumes}
+use Rattle.disk_core.specs.Faults.{HasRisen}
+use Rattle.tx_model.specs.declared.report.Life.{Life}
 use Rattle.tx_model.specs.declared.report.LifeReport.{LifeReport}
 use Rattle.tx_model.specs.declared.report.Report.{Report}
 use Rattle.report_text.specs.ReportText.{report_text}
@@ -14,11 +16,14 @@ use Rattle.run_law.specs.Tool.{IsReportOf}
 use Rattle.recoverable.specs.Fit.{KeptLog}
 use Rattle.engine_life.specs.declared.refusal.NoLife.{NoLife}
 use Rattle.engine_life.specs.declared.refusal.NoLife.TheVariants as no_lives
+use Rattle.engine_life.specs.Lives.{FitsLog}
 use Rattle.engine_life.specs.NextLives.{StayFit}
 use Rattle.engine_life.specs.Refusals.{IsOfVolumes, IsUnopened}
+use Rattle.engine_life.specs.Reopening.{LeavesLog}
 use Rattle.tx_io.specs.Causes.{Rose}
 use Rattle.session_run.specs.declared.stop.Stopped.{Stopped}
 use Rattle.session_run.specs.declared.stop.Stopped.TheVariants as stops
+use Rattle.session_run.specs.Fits.{FitsLife}
 use Rattle.session_run.specs.Leaves.{HaveLeft, LeavesVolumes}
 use Rattle.session_run.specs.Lives.{ComesTo}
 use Rattle.session_run.specs.Runs.{cluster_of}
@@ -28,14 +33,33 @@ use Rattle.session_run.specs.Starts.{BeginsOver}
 abbrev pub IsUndamaged : {L P : Type 0} → logs.Ghosts L → disks.Ghosts P → NoLife → Type 0
 IsUndamaged l p refusal = (at : ℕ) → refusal ≡ no_lives.Damaged at → IsTrue l.tells → IsTrue p.tells → ⊥
 
+module _ {L P : Type 0} (l : logs.Ghosts L) (p : disks.Ghosts P) where
+  -- What the media gives fits the log: it is such as came of the crash, or what an opening made of such that it refused, and
+  -- from which a later recovery may go on.
+  abbrev pub StillFit : KeptLog → (Volumes L P → Type 0) → (Volumes L P → Type 0) → Type 0
+  StillFit log came gives = (new : Volumes L P) → gives new
+      → (came new × FitsLog l p log new) ⊎ ((old : Volumes L P) × came old × FitsLog l p log old × LeavesLog l p old new log)
+
+  -- But where memory was wanting nothing is said, nor where the media's count of faults rose, as at a crash that failed.
+  abbrev pub StayFitBehind : KeptLog → (Volumes L P → Type 0) → ℕ → ℕ → (Volumes L P → Type 0) → NoLife → Type 0
+  StayFitBehind log came before now gives no_lives.Memory = Unit {0}
+  StayFitBehind log came before now gives no_lives.Device = HasRisen before now ⊎ StillFit log came gives
+  StayFitBehind log came before now gives refusal = StillFit log came gives
+
+  -- Where all volumes tell what they hold: those that the life left fit a log that ends with it, and that holds still.
+  abbrev pub KeepsLog : Life → Volumes L P → (Volumes L P → Type 0) → ℕ → ℕ → (Volumes L P → Type 0) → NoLife → Type 0
+  KeepsLog life left came before now gives refusal = IsTrue p.tells → IsTrue l.tells
+      → (log : KeptLog) × FitsLife l p life left log × StayFitBehind log came before now gives refusal
+
 module _ {L P : Type 0} (l : logs.Ghosts L) (p : disks.Ghosts P) (first : ℕ → Volumes L P → Type 0) (kept : KeptLog) (used : Type 0) (falls : Crash → Volumes L P → Volumes L P → Type 0) (before now : ℕ) (gives : Volumes L P → Type 0) where
   -- Behind these lives, which left those volumes, memory was wanting, the media failed, or no life was opened over the volumes
-  -- to which they came: their log isn't damaged if all tell what they hold.
+  -- to which they came: their log isn't damaged if all tell what they hold, and what the last of the lives left isn't lost.
   abbrev pub StopsBehind : Script → ℕ → RunStart → List LifeReport → NoLife → Type 0
   StopsBehind s banks start lives refusal =
       (left : Volumes L P) × (by : HaveLeft l p (BeginsOver l p first kept s banks start) falls lives left)
       × IsUnopened l p (cluster_of s) (λ banks volumes. ComesTo l p falls lives by.begun volumes) before now gives refusal
       × IsUndamaged l p refusal
+      × KeepsLog l p by.last.life left (ComesTo l p falls lives by.begun) before now gives refusal
 
   -- Before the first life: why none was opened. If the media was used before, and its pages tell what they hold, it gives
   -- volumes that it gave, or such as fit the log if those did, but where memory was wanting.

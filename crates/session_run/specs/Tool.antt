@@ -1,5 +1,5 @@
 -- How a run of the tool ends.
-use Rattle.std.specs.Prelude.{◌≡◌, ℕ, ◌≤◌, Bool, List, [], ◌∷◌, ◌++◌, ◌⊎◌, Option, codes, take}
+use Rattle.std.specs.Prelude.{◌≡◌, ℕ, Bool, List, [], ◌∷◌, ◌++◌, ◌⊎◌, Option, codes, take}
 use Rattle.std.specs.Fmt.{decimal}
 use Rattle.std.specs.Io.KnownBytes.{Appends}
 use Rattle.disk_core.specs.declared.log_disk.LogDisk as logs
@@ -10,7 +10,7 @@ use Rattle.tx_model.specs.declared.report.LifeReport.{LifeReport}
 use Rattle.report_text.specs.Words.{line_text}
 use Rattle.session_lang.specs.declared.script.Script.{Script}
 use Rattle.run_law.specs.Lives.{AreLivesBefore, RunStart, text_so_far}
-use Rattle.run_law.specs.Tool.{IsAnswer, IsNoScript, IsRun}
+use Rattle.run_law.specs.Tool.{IsAnswer, IsNoScript}
 use Rattle.script_gen.specs.Generated.{generated}
 use Rattle.script_gen.specs.declared.task.Task.{Task}
 use Rattle.script_gen.specs.declared.task.Task.TheVariants as tasks

@@ -18,11 +18,11 @@ ghost use Rattle.engine_life.specs.Refusals.{IsOfVolumes};
 ghost use Rattle.session_run.specs.OneLife.{IsOpened, MayRunIn};
 ghost use Rattle.session_run.specs.Parts.{IsTakenPart};
 ghost use Rattle.session_run.specs.Going.{EndsIdle, HasGoneOn, IsCrashed, IsRunning, IsToldLife, PartWent, part_of};
-ghost use Rattle.session_run.specs.Lives.{crash_of};
+ghost use Rattle.session_run.specs.Lives.{HasFallen, crash_of};
 ghost use Rattle.session_run.specs.Leaves.{LeavesVolumes};
 ghost use Rattle.session_run.specs.Runs.{IsTaken, IsTakenAlone, cluster_of};
 ghost use Rattle.session_run.specs.Starts.{BeginsOver};
-ghost use Rattle.session_run.specs.Stops.{IsStopped, IsUnopenedFirst, MountsFirst};
+ghost use Rattle.session_run.specs.Stops.{IsStopped, IsUnopenedFirst, MountsFirst, StayFitBehind};
 
 use crate::ended::{Ended, FittedLog, log_left};
 use crate::life::run_life;
@@ -123,6 +123,8 @@ fn go_on<M: Media>(
     ensures used { OnErr result (M.is_new media.new ≡ false) }
     ensures refused { IfErr result (IsCrashed M.Log.LogDisk M.Pages.PageDisk cluster M.falls how
         (M.faults media.old) (M.faults media.new) volumes (M.gives media.new)) }
+    ensures still { IsTrue M.Pages.tells → IsTrue M.Log.tells → IfErr result (StayFitBehind M.Log.LogDisk M.Pages.PageDisk kept
+        (HasFallen M.Log.LogDisk M.Pages.PageDisk M.falls how volumes) (M.faults media.old) (M.faults media.new) (M.gives media.new)) }
 {
     match media.crash(volumes, crash_of(how)) {
         Ok(()) => crash_goes_on::<M::Log, M::Pages>(),

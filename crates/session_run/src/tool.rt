@@ -1,21 +1,15 @@
 //! The tool's top call, with the main guarantee (`docs/GUARANTEES.md`).
-ghost use Rattle.std.specs.Prelude.{◌≡◌, ◌≢◌, ◌≤◌, ◌⊎◌, ◌++◌, ◌∷◌, ℕ, List, Option, [], IsTrue, codes, false, map, string_bytes, take};
+ghost use Rattle.std.specs.Prelude.{◌≡◌, ◌≤◌, ◌⊎◌, ◌++◌, ◌∷◌, ℕ, List, Option, [], IsTrue, codes, false, map, string_bytes, take};
 ghost use Rattle.std.specs.Io.KnownBytes.{Appends};
-ghost use Rattle.disk_core.specs.declared.media.Volumes.{Volumes as Mounted};
 ghost use Rattle.recoverable.specs.Fit.{KeptLog};
 ghost use Rattle.tx_io.specs.Amounts.{ReadsUpTo, most_read};
 ghost use Rattle.tx_io.specs.Causes.{Rose};
-ghost use Rattle.engine_life.specs.FirstLives.{MayBeginOver, MayMount};
-ghost use Rattle.engine_life.specs.declared.refusal.NoLife.TheVariants as no_lives;
-ghost use Rattle.run_law.specs.Tool.{IsRefused, IsRun, IsWholeRun};
-ghost use Rattle.script_gen.specs.Generated.{generated};
+ghost use Rattle.engine_life.specs.FirstLives.{MayMount};
 ghost use Rattle.script_gen.specs.Laws.{most_transactions};
-ghost use Rattle.script_gen.specs.Words.{IsGen};
 ghost use Rattle.script_gen.specs.declared.task.Task.TheVariants as tasks;
-ghost use Rattle.session_run.specs.Leaves.{LeavesVolumes};
-ghost use Rattle.session_run.specs.Starts.{BeginsOver};
+ghost use Rattle.session_run.specs.Guarantee.{MayRunOver, RunsTool};
 ghost use Rattle.session_run.specs.Unknown.{no_log};
-ghost use Rattle.session_run.specs.Tool.{Ends, HasMounted, HasWritten, HoldsFront, IsAccepted, IsMemoryLast, IsSized, IsUnread, IsUnrunBy, IsWholeSummary, WritesLast, damage_text, status_of, text_of};
+ghost use Rattle.session_run.specs.Tool.{Ends, HasMounted, HasWritten, IsSized, IsUnread, WritesLast, status_of, text_of};
 
 use crate::ending::{Ending, stopped, unopened, unread};
 use crate::run::{count_script, run_script};
@@ -46,9 +40,7 @@ where
     M::Pages: Sync,
     ghost kept: { KeptLog }
     requires idle { IsTrue (M.is_idle media.old) }
-    requires may { (banks : ℕ) (volumes : Mounted M.Log M.Pages)
-        → MayMount (M.is_new media.old) (M.begins media.old) (M.gives media.old) banks volumes
-        → MayBeginOver M.Log.LogDisk M.Pages.PageDisk kept volumes }
+    requires may { MayRunOver M.Media M.Log.LogDisk M.Pages.PageDisk kept media.old }
     ensures ends { (written : List ℕ) × Ends M.Log.LogDisk M.Pages.PageDisk tasks.Run (S.left source.old) (S.left source.new)
         (S.faults source.old) (S.faults source.new)
         (MayMount (M.is_new media.old) (M.begins media.old) (M.gives media.old)) kept (M.is_new media.old ≡ false) M.falls
@@ -88,9 +80,7 @@ where
     ghost kept: { KeptLog }
     requires few { size ≤ most_transactions }
     requires idle { IsTrue (M.is_idle media.old) }
-    requires may { (banks : ℕ) (volumes : Mounted M.Log M.Pages)
-        → MayMount (M.is_new media.old) (M.begins media.old) (M.gives media.old) banks volumes
-        → MayBeginOver M.Log.LogDisk M.Pages.PageDisk kept volumes }
+    requires may { MayRunOver M.Media M.Log.LogDisk M.Pages.PageDisk kept media.old }
     ensures ends { (left : Option (List ℕ)) (faults : ℕ) → Ends M.Log.LogDisk M.Pages.PageDisk (tasks.Gen seed size)
         left left faults faults (MayMount (M.is_new media.old) (M.begins media.old) (M.gives media.old)) kept (M.is_new media.old ≡ false) M.falls
         (M.faults media.old) (M.faults media.new) (M.gives media.new) [] result }
@@ -127,9 +117,7 @@ where
     ghost kept: { KeptLog }
     requires sized { IsSized task }
     requires idle { IsTrue (M.is_idle media.old) }
-    requires may { (banks : ℕ) (volumes : Mounted M.Log M.Pages)
-        → MayMount (M.is_new media.old) (M.begins media.old) (M.gives media.old) banks volumes
-        → MayBeginOver M.Log.LogDisk M.Pages.PageDisk kept volumes }
+    requires may { MayRunOver M.Media M.Log.LogDisk M.Pages.PageDisk kept media.old }
     ensures ends { (written : List ℕ) × Ends M.Log.LogDisk M.Pages.PageDisk task (S.left source.old) (S.left source.new)
         (S.faults source.old) (S.faults source.new)
         (MayMount (M.is_new media.old) (M.begins media.old) (M.gives media.old)) kept (M.is_new media.old ≡ false) M.falls
@@ -201,71 +189,11 @@ where
     M::Pages: Sync,
     ghost kept: { KeptLog }
     requires idle { IsTrue (M.is_idle media.old) }
-    requires may { (banks : ℕ) (volumes : Mounted M.Log M.Pages)
-        → MayMount (M.is_new media.old) (M.begins media.old) (M.gives media.old) banks volumes
-        → MayBeginOver M.Log.LogDisk M.Pages.PageDisk kept volumes }
+    requires may { MayRunOver M.Media M.Log.LogDisk M.Pages.PageDisk kept media.old }
 
-    // The main guarantee, for `run`: the bytes written report one legal history, each command once and in order, and
-    // each reply lawful. The media holds a log with the records that the report tells, and no session's commands are told
-    // of more faults of a volume than it has counted.
-    ensures done { result ≡ 0 → IsRun (map string_bytes words.now)
-        → (run : IsWholeRun M.Pages.tells (S.left source.old) (S.left source.new) (K.held sink.old) (K.held sink.new))
-        × LeavesVolumes M.Log.LogDisk M.Pages.PageDisk
-        (BeginsOver M.Log.LogDisk M.Pages.PageDisk (MayMount (M.is_new media.old) (M.begins media.old) (M.gives media.old)) kept
-        run.answer.script run.answer.banks run.answer.start) M.falls (M.gives media.new) run.answer.report.lives }
-
-    // And for `gen`: the line written has the counts of such a report of the generated script.
-    ensures counted { result ≡ 0 → (IsRun (map string_bytes words.now) → ⊥) → (seed size : ℕ)
-        × IsGen (map string_bytes words.now) seed size
-        × (sum : IsWholeSummary M.Pages.tells seed size (K.held sink.old) (K.held sink.new))
-        × LeavesVolumes M.Log.LogDisk M.Pages.PageDisk
-        (BeginsOver M.Log.LogDisk M.Pages.PageDisk (MayMount (M.is_new media.old) (M.begins media.old) (M.gives media.old)) kept
-        (generated seed size) sum.counts.banks sum.counts.start) M.falls (M.gives media.new) sum.counts.report.lives }
-
-    // Why it ends otherwise.
-    ensures script { result ≡ 1 → IsRun (map string_bytes words.now)
-        × IsRefused (S.left source.old) (S.left source.new) (K.held sink.old) (K.held sink.new) }
-    ensures words { result ≡ 2 → IsAccepted (map string_bytes words.now) → ⊥ }
-    ensures words_only { (IsAccepted (map string_bytes words.now) → ⊥) → (result ≡ 2) ⊎ (result ≡ 4) }
-    ensures read { result ≡ 3 → IsRun (map string_bytes words.now) × Rose (S.faults source.old) (S.faults source.new) }
-    ensures write { result ≡ 4 → Rose (K.faults sink.old) (K.faults sink.new) }
-    ensures front { result ≡ 4 → HoldsFront M.Log.LogDisk M.Pages.PageDisk (map string_bytes words.now)
-        (S.left source.old) (S.left source.new) (S.faults source.old) (S.faults source.new)
-        (MayMount (M.is_new media.old) (M.begins media.old) (M.gives media.old)) kept (M.is_new media.old ≡ false) M.falls
-        (M.faults media.old) (M.faults media.new) (M.gives media.new)
-        (K.held sink.old) (K.held sink.new) }
-    ensures device { result ≡ 5 → IsUnrunBy M.Log.LogDisk M.Pages.PageDisk (map string_bytes words.now)
-        (S.left source.old) (S.left source.new)
-        (MayMount (M.is_new media.old) (M.begins media.old) (M.gives media.old)) kept (M.is_new media.old ≡ false) M.falls
-        (M.faults media.old) (M.faults media.new) (M.gives media.new) (K.held sink.old) (K.held sink.new)
-        no_lives.Device (codes "device" ++ 10 ∷ []) }
-    ensures memory { result ≡ 6 → IsMemoryLast M.Log.LogDisk M.Pages.PageDisk (map string_bytes words.now)
-        (S.left source.old) (S.left source.new)
-        (MayMount (M.is_new media.old) (M.begins media.old) (M.gives media.old)) kept (M.is_new media.old ≡ false) M.falls
-        (M.faults media.old) (M.faults media.new) (M.gives media.new) (K.held sink.old) (K.held sink.new) }
-    ensures damaged { result ≡ 7 → (at : ℕ)
-        × IsUnrunBy M.Log.LogDisk M.Pages.PageDisk (map string_bytes words.now) (S.left source.old) (S.left source.new)
-        (MayMount (M.is_new media.old) (M.begins media.old) (M.gives media.old)) kept (M.is_new media.old ≡ false) M.falls
-        (M.faults media.old) (M.faults media.new) (M.gives media.new)
-        (K.held sink.old) (K.held sink.new) (no_lives.Damaged at) (damage_text at) }
-    ensures full { result ≡ 9 → IsUnrunBy M.Log.LogDisk M.Pages.PageDisk (map string_bytes words.now)
-        (S.left source.old) (S.left source.new)
-        (MayMount (M.is_new media.old) (M.begins media.old) (M.gives media.old)) kept (M.is_new media.old ≡ false) M.falls
-        (M.faults media.old) (M.faults media.new) (M.gives media.new) (K.held sink.old) (K.held sink.new)
-        no_lives.Full (codes "log-full" ++ 10 ∷ []) }
-    ensures statuses { (result ≤ 9) × (result ≢ 8) }
-
-    // What it reads, and how it leaves the media.
-    ensures amount { ReadsUpTo most_read (S.left source.old) (S.left source.new) }
-    ensures untouched { (IsRun (map string_bytes words.now) → ⊥) → source.new ≡ source.old }
-    ensures unused { (IsAccepted (map string_bytes words.now) → ⊥) → media.new ≡ media.old }
-    ensures unmounted { (result ≡ 1) ⊎ (result ≡ 3) → media.new ≡ media.old }
-    ensures rested { IsTrue (M.is_idle media.new) }
-    ensures used { (result ≡ 0) ⊎ ((result ≡ 7) ⊎ (result ≡ 9)) → M.is_new media.new ≡ false }
-
-    // And the line that it then writes, where no life ran.
-    ensures no_words { result ≡ 2 → Appends (K.held sink.old) (K.held sink.new) (codes "words" ++ 10 ∷ []) }
-    ensures read_fault { result ≡ 3 → Appends (K.held sink.old) (K.held sink.new) (codes "read-fault" ++ 10 ∷ []) }
+    // What each status tells, and what stands then.
+    ensures runs { RunsTool S.Source K.Sink M.Media M.Log.LogDisk M.Pages.PageDisk kept
+        (map string_bytes words.now) source.old source.new sink.old sink.new media.old media.new result }
 {
     match task_of(words) {
         Some(task) => {
@@ -304,71 +232,11 @@ where
     M::Log: Sync,
     M::Pages: Sync,
     requires idle { IsTrue (M.is_idle media.old) }
-    requires may { (banks : ℕ) (volumes : Mounted M.Log M.Pages)
-        → MayMount (M.is_new media.old) (M.begins media.old) (M.gives media.old) banks volumes
-        → MayBeginOver M.Log.LogDisk M.Pages.PageDisk no_log volumes }
+    requires may { MayRunOver M.Media M.Log.LogDisk M.Pages.PageDisk no_log media.old }
 
-    // The main guarantee, for `run`: the bytes written report one legal history, each command once and in order, and
-    // each reply lawful. The media holds a log with the records that the report tells, and no session's commands are told
-    // of more faults of a volume than it has counted.
-    ensures done { result ≡ 0 → IsRun (map string_bytes words.now)
-        → (run : IsWholeRun M.Pages.tells (S.left source.old) (S.left source.new) (K.held sink.old) (K.held sink.new))
-        × LeavesVolumes M.Log.LogDisk M.Pages.PageDisk
-        (BeginsOver M.Log.LogDisk M.Pages.PageDisk (MayMount (M.is_new media.old) (M.begins media.old) (M.gives media.old)) no_log
-        run.answer.script run.answer.banks run.answer.start) M.falls (M.gives media.new) run.answer.report.lives }
-
-    // And for `gen`: the line written has the counts of such a report of the generated script.
-    ensures counted { result ≡ 0 → (IsRun (map string_bytes words.now) → ⊥) → (seed size : ℕ)
-        × IsGen (map string_bytes words.now) seed size
-        × (sum : IsWholeSummary M.Pages.tells seed size (K.held sink.old) (K.held sink.new))
-        × LeavesVolumes M.Log.LogDisk M.Pages.PageDisk
-        (BeginsOver M.Log.LogDisk M.Pages.PageDisk (MayMount (M.is_new media.old) (M.begins media.old) (M.gives media.old)) no_log
-        (generated seed size) sum.counts.banks sum.counts.start) M.falls (M.gives media.new) sum.counts.report.lives }
-
-    // Why it ends otherwise.
-    ensures script { result ≡ 1 → IsRun (map string_bytes words.now)
-        × IsRefused (S.left source.old) (S.left source.new) (K.held sink.old) (K.held sink.new) }
-    ensures words { result ≡ 2 → IsAccepted (map string_bytes words.now) → ⊥ }
-    ensures words_only { (IsAccepted (map string_bytes words.now) → ⊥) → (result ≡ 2) ⊎ (result ≡ 4) }
-    ensures read { result ≡ 3 → IsRun (map string_bytes words.now) × Rose (S.faults source.old) (S.faults source.new) }
-    ensures write { result ≡ 4 → Rose (K.faults sink.old) (K.faults sink.new) }
-    ensures front { result ≡ 4 → HoldsFront M.Log.LogDisk M.Pages.PageDisk (map string_bytes words.now)
-        (S.left source.old) (S.left source.new) (S.faults source.old) (S.faults source.new)
-        (MayMount (M.is_new media.old) (M.begins media.old) (M.gives media.old)) no_log (M.is_new media.old ≡ false) M.falls
-        (M.faults media.old) (M.faults media.new) (M.gives media.new)
-        (K.held sink.old) (K.held sink.new) }
-    ensures device { result ≡ 5 → IsUnrunBy M.Log.LogDisk M.Pages.PageDisk (map string_bytes words.now)
-        (S.left source.old) (S.left source.new)
-        (MayMount (M.is_new media.old) (M.begins media.old) (M.gives media.old)) no_log (M.is_new media.old ≡ false) M.falls
-        (M.faults media.old) (M.faults media.new) (M.gives media.new) (K.held sink.old) (K.held sink.new)
-        no_lives.Device (codes "device" ++ 10 ∷ []) }
-    ensures memory { result ≡ 6 → IsMemoryLast M.Log.LogDisk M.Pages.PageDisk (map string_bytes words.now)
-        (S.left source.old) (S.left source.new)
-        (MayMount (M.is_new media.old) (M.begins media.old) (M.gives media.old)) no_log (M.is_new media.old ≡ false) M.falls
-        (M.faults media.old) (M.faults media.new) (M.gives media.new) (K.held sink.old) (K.held sink.new) }
-    ensures damaged { result ≡ 7 → (at : ℕ)
-        × IsUnrunBy M.Log.LogDisk M.Pages.PageDisk (map string_bytes words.now) (S.left source.old) (S.left source.new)
-        (MayMount (M.is_new media.old) (M.begins media.old) (M.gives media.old)) no_log (M.is_new media.old ≡ false) M.falls
-        (M.faults media.old) (M.faults media.new) (M.gives media.new)
-        (K.held sink.old) (K.held sink.new) (no_lives.Damaged at) (damage_text at) }
-    ensures full { result ≡ 9 → IsUnrunBy M.Log.LogDisk M.Pages.PageDisk (map string_bytes words.now)
-        (S.left source.old) (S.left source.new)
-        (MayMount (M.is_new media.old) (M.begins media.old) (M.gives media.old)) no_log (M.is_new media.old ≡ false) M.falls
-        (M.faults media.old) (M.faults media.new) (M.gives media.new) (K.held sink.old) (K.held sink.new)
-        no_lives.Full (codes "log-full" ++ 10 ∷ []) }
-    ensures statuses { (result ≤ 9) × (result ≢ 8) }
-
-    // What it reads, and how it leaves the media.
-    ensures amount { ReadsUpTo most_read (S.left source.old) (S.left source.new) }
-    ensures untouched { (IsRun (map string_bytes words.now) → ⊥) → source.new ≡ source.old }
-    ensures unused { (IsAccepted (map string_bytes words.now) → ⊥) → media.new ≡ media.old }
-    ensures unmounted { (result ≡ 1) ⊎ (result ≡ 3) → media.new ≡ media.old }
-    ensures rested { IsTrue (M.is_idle media.new) }
-    ensures used { (result ≡ 0) ⊎ ((result ≡ 7) ⊎ (result ≡ 9)) → M.is_new media.new ≡ false }
-
-    // And the line that it then writes, where no life ran.
-    ensures no_words { result ≡ 2 → Appends (K.held sink.old) (K.held sink.new) (codes "words" ++ 10 ∷ []) }
-    ensures read_fault { result ≡ 3 → Appends (K.held sink.old) (K.held sink.new) (codes "read-fault" ++ 10 ∷ []) }
+    // The main guarantee is its `done`.
+    ensures runs { RunsTool S.Source K.Sink M.Media M.Log.LogDisk M.Pages.PageDisk no_log
+        (map string_bytes words.now) source.old source.new sink.old sink.new media.old media.new result }
 {
     run_tool_behind(rt, alloc, words, source, sink, media, threads, gate)
 }

@@ -1,4 +1,3 @@
-use Rattle.std.proofs.Common.{arith}
 use Rattle.script_rounds.proofs.PlanLemmas.{plan_listed}
 use Rattle.session_run.proofs.RoundsRun.{home_again, ran_more}
 use Rattle.run_law.specs.Turns.{turns_in}

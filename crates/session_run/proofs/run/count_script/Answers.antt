@@ -1,5 +1,5 @@
 use mir.Syntax.{of_param}
-use Rattle.std.proofs.Common.{List, None, ap, arith, length, refl, subst, sym, ℕ, ◌<◌, ◌^◌, ◌∙◌, ◌≡◌, false, rules}
+use Rattle.std.proofs.Common.{List, None, ap, arith, length, refl, subst, sym, ℕ, ◌<◌, ◌^◌, ◌∙◌, ◌≡◌, rules}
 use Rattle.std.proofs.lemmas.Result.{err_from_is_err_and}
 use Rattle.std.specs.List.{flat_map}
 use Rattle.disk_core.specs.Images.{Only}

@@ -8,6 +8,8 @@ use Rattle.engine_host.specs.declared.cluster.Cluster.{Cluster}
 use Rattle.engine_life.specs.Lives.{FitsLog, volumes_left}
 use Rattle.session_run.specs.Fits.{FitLife, FitsLife}
 use Rattle.session_run.specs.Going.{HasGoneOn, IsCrashed, part_of}
+use Rattle.session_run.specs.Lives.{HasFallen}
+use Rattle.session_run.specs.Stops.{StayFitBehind}
 use Rattle.session_run.proofs.GoingOn.{life_over_is, running_on, same_banks}
 use Rattle.session_run.proofs.Running.{part_told, told_of}
 use Rattle.session_run.proofs.run.run_part.Goals as goal
@@ -115,7 +117,9 @@ returns-clause-went g c = λ banks start begun done lives run count.
     let text = c.in-Ok.text in
     let how = c.in-Some.how in
     let refusal = c.in-Err-go_on.refusal in
+    let kept = c.log_left-log.result.value.kept in
     let told = rw c.in-Ok.is at (c.tell_life-closed.ensures.told run.cluster run.begins run.faults run.mounted run.opened) in
+    let same = life_over_is run.cluster run.begins run.faults c.by-start.result.value closed (c.by-start.ensures ∙ (run.opened.begun.host.start ∙ run.opened.begun.start_is)) in
     inr (
       how,
       c.in-Some.is,
@@ -125,4 +129,9 @@ returns-clause-went g c = λ banks start begun done lives run count.
       c.in-Ok-put_life.ensures.ok,
       subst (λ (x : Cluster). IsCrashed l p x m.falls how (m.faults c.args.media.now) (m.faults c.go_on.new.media) (volumes_left closed) (m.gives c.go_on.new.media) refusal) c.cluster_of.ensures.is
           (subst (λ volumes. IsCrashed l p c.cluster_of.result m.falls how (m.faults c.args.media.now) (m.faults c.go_on.new.media) volumes (m.gives c.go_on.new.media) refusal) c.into_volumes-volumes.ensures c.in-Err-go_on.ensures.refused),
+      λ pt lt. (
+        kept,
+        subst (λ (life : Life). FitsLife l p life (volumes_left closed) kept) same (c.log_left-log.ensures.fits pt lt),
+        subst (λ volumes. StayFitBehind l p kept (HasFallen l p m.falls how volumes) (m.faults c.args.media.now) (m.faults c.go_on.new.media) (m.gives c.go_on.new.media) refusal) c.into_volumes-volumes.ensures (c.in-Err-go_on.ensures.still pt lt),
+      ),
     )

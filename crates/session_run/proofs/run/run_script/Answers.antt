@@ -3,7 +3,6 @@ use Rattle.std.proofs.Common.{List, arith, subst, sym, false, ◌≡◌, rules}
 use Rattle.std.proofs.lemmas.Result.{err_from_is_err_and}
 use Rattle.session_lang.specs.declared.script.Item.{Item}
 use Rattle.run_law.proofs.Lives.{rest_shorter}
-use Rattle.engine_host.specs.declared.cluster.Cluster.{Cluster}
 use Rattle.engine_life.specs.FirstLives.{MayMount}
 use Rattle.session_run.proofs.LivesRun.{HasCome, come_first, come_on, part_stops, part_taken, run_ends, unopened_stops}
 use Rattle.session_run.proofs.Opening.{is_first, may_over, unopened_first}

@@ -97,6 +97,9 @@ impl<M: Media> Media for Fuse<M> {
         ensures begins { IsTrue (fuse_is_new (M.is_new self.old.inner) self.old.held) → IfOk result (fuse_begins (M.begins self.old.inner banks) self.old.at self.old.fails self.old.refused) }
         ensures mounted { OnOk result (not self.new.is_mounted ≡ false) }
         ensures idle { OnErr result (IsTrue (not self.new.is_mounted)) }
+        ensures at { self.new.at ≡ self.old.at }
+        ensures fails { self.new.fails ≡ self.old.fails }
+        ensures refused { self.new.refused ≡ self.old.refused }
         ensures kept { OnErr result (fuse_is_new (M.is_new self.old.inner) self.old.held ≡ false → (fuse_is_new (M.is_new self.new.inner) self.new.held ≡ false)
             × NoMore (fuse_gives (M.gives self.old.inner) self.old.held self.old.at self.old.fails self.old.refused) (fuse_gives (M.gives self.new.inner) self.new.held self.new.at self.new.fails self.new.refused)) }
         ensures cause { CountsMount result (M.faults self.old.inner + self.old.faults) (M.faults self.new.inner + self.new.faults) }

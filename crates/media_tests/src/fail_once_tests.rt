@@ -49,9 +49,13 @@ log flushed 5 end 207
 3 multi 2 2 3:sh
 4 checkpoint next 4 oldest 3 multi 3 offset 3 oldest-multi 1 oldest-offset 1
 end
---- log 0 12
+--- log 0 1 8
 +++ device
-+++ with
+--- log 0 9 12
++++ report
+txid report 1
+life 1 from 0 next 3 oldest 3 multi 1 offset 1 oldest-multi 1 oldest-offset 1
+round 1
 a 1 begin -> ok
 a 2 write -> ok 3
 a 3 commit -> log-fault
@@ -113,7 +117,7 @@ log flushed 2 end 80
 0 checkpoint next 3 oldest 3 multi 1 offset 1 oldest-multi 1 oldest-offset 1
 1 commit 3
 end
---- xact 0 8
+--- xact 0 1 8
 +++ device
 +++ but
 a 5 undo -> disk-fault xact 0
@@ -146,7 +150,7 @@ log flushed 1 end 62
 0 checkpoint next 3 oldest 3 multi 1 offset 1 oldest-multi 1 oldest-offset 1
 1 abort 3
 end
---- xact 0 8
+--- xact 0 1 8
 +++ device
 +++ but
 a 3 abort -> disk-fault xact 0
@@ -183,7 +187,7 @@ log flushed 2 end 88
 0 checkpoint next 3 oldest 3 multi 1 offset 1 oldest-multi 1 oldest-offset 1
 1 commit 3 4
 end
---- subtrans 0 8
+--- subtrans 0 1 8
 +++ device
 +++ but
 a 3 write -> disk-fault subtrans 0
@@ -226,7 +230,7 @@ log flushed 4 end 189
 2 multi 2 2 3:sh
 3 checkpoint next 4 oldest 3 multi 3 offset 3 oldest-multi 1 oldest-offset 1
 end
---- offsets 0 10
+--- offsets 0 1 10
 +++ device
 +++ but
 a 3 multi 3:sh -> disk-fault offsets 0
@@ -238,7 +242,7 @@ log flushed 3 end 127
 2 multi 2 2 3:sh
 end
 +++ but
---- members 0 10
+--- members 0 1 10
 +++ device
 +++ but
 a 3 multi 3:sh -> disk-fault members 0
@@ -292,7 +296,7 @@ log flushed 6 end 328
 4 checkpoint next 4 oldest 3 multi 1 offset 1 oldest-multi 1 oldest-offset 1
 5 checkpoint next 4 oldest 3 multi 1 offset 1 oldest-multi 1 oldest-offset 1
 end
---- xact 0 20
+--- xact 0 1 20
 +++ device
 +++ with
 a 3 commit -> disk-fault xact 0
@@ -332,7 +336,7 @@ b 2 see s 3 -> visible
 checkpoint -> disk-fault xact 0
 log flushed 5 end 266
 +++ but
---- log 0 50
+--- log 0 1 50
 +++ device
 +++ with
 a 3 commit -> log-fault

@@ -34,10 +34,7 @@ fn status_once(
 }
 
 fn source_of(alloc: Global, text: &str) -> Result<MemSource, Fail> {
-    Ok(MemSource::new(
-        Vec::from_slice(alloc, text.as_bytes())?,
-        Vec::new(alloc),
-    ))
+    Ok(MemSource::new(Vec::from_slice(alloc, text.as_bytes())?, Vec::new(alloc)))
 }
 
 /// Runs a script so. Answers the status and what was written.
@@ -108,14 +105,15 @@ fn ends_with_device(status: u8, written: &str, plain: &str) -> bool {
 }
 
 /// Whether a run came out so. `device`: a life couldn't be opened, and the report is the plain one as far as the lives that
-/// were over. `but`: it is the plain one but for these lines. `one`: but for one line, which ends so. `with`: it has these lines, in
-/// this order. Each report is lawful.
+/// were over. `report`: it is this. `but`: it is the plain one but for these lines. `one`: but for one line, which ends so.
+/// `with`: it has these lines, in this order. Each report is lawful.
 fn is_so(alloc: Global, row: Row<'_>, status: u8, written: &str, way: &str) -> Result<bool, Fail> {
     let (kind, lines) = way.split_once("\n").ok_or("a way without a kind")?;
     if kind == "device" {
         return Ok(ends_with_device(status, written, row.plain));
     }
     let is_as_told = match kind {
+        "report" => written == lines,
         "but" => changed_lines(alloc, written, row.plain)?.as_str() == lines,
         "one" => {
             let changed = changed_lines(alloc, written, row.plain)?;
@@ -146,8 +144,7 @@ fn volume_of(words: &mut SplitWhitespace<'_>) -> Result<Which, Fail> {
     }
 }
 
-/// The call that fails goes up from the volume's first. The first runs come out the first of the ways, the next ones the
-/// next, and so on.
+/// The number of the call that fails goes up. The first runs come out the first of the ways, the next ones the next, and so on.
 fn check_volume(
     rt: &(impl Abort + AllocGlobal + Threads + Wait + Sync),
     row: Row<'_>,
@@ -158,9 +155,10 @@ fn check_volume(
     let front = ways.next().ok_or("a part without a volume")?;
     let mut words = front.split_whitespace();
     let at = volume_of(&mut words)?;
-    let most = number_of(&mut words)?;
+    let first = number_of(&mut words)?;
+    let last = number_of(&mut words)?;
     let mut way = ways.next().ok_or("a part without a way")?;
-    for call in 1..=most {
+    for call in first..=last {
         let (status, written) = run_once(rt, row.script, at, call)?;
         let written = written.as_str();
         if !is_so(alloc, row, status, written, way)? {
@@ -178,8 +176,8 @@ fn check_volume(
 }
 
 /// Runs the scripts of these rows. A row is a line `=== NAME`, the script, a line `--- report` with the report of a run in
-/// which no call fails, and parts. A part is a line `--- STORE BANK MOST` and the ways in which runs come out over this volume
-/// that fails one call, from the first to that of the number MOST. A way is a line `+++ KIND` and its lines (`is_so`).
+/// which no call fails, and parts. A part is a line `--- STORE BANK FIRST LAST` and the ways in which runs come out over this
+/// volume that fails one call, of the number FIRST to LAST. A way is a line `+++ KIND` and its lines (`is_so`).
 pub fn check_rows(
     rt: &(impl Abort + AllocGlobal + Threads + Wait + Sync),
     rows: &str,
@@ -198,7 +196,10 @@ pub fn check_rows(
             plain,
         };
         let (status, written) = run_once(rt, script, Which::Log, 0)?;
-        assert!(rt; status == 0 && written.as_str() == plain, "{name}: {written}");
+        assert!(rt;
+            status == 0 && written.as_str() == plain,
+            "{name}: {written}"
+        );
         for part in parts {
             check_volume(rt, row, part)?;
         }

@@ -88,7 +88,7 @@ multis
 log flushed 5 end 242
 4 checkpoint next 1048572 oldest 3 multi 2 offset 2 oldest-multi 1 oldest-offset 1
 end
---- xact 0 40
+--- xact 0 1 40
 +++ device
 +++ one
  -> disk-fault xact 0
@@ -114,7 +114,7 @@ log flushed 4 end 180
 +++ but
 b 2 see t 1048570 -> disk-fault xact 0
 +++ but
---- subtrans 0 20
+--- subtrans 0 1 20
 +++ device
 +++ but
 a 3 write -> disk-fault subtrans 0
@@ -134,7 +134,7 @@ log flushed 4 end 180
 3 checkpoint next 1048572 oldest 3 multi 2 offset 2 oldest-multi 1 oldest-offset 1
 +++ device
 +++ but
---- offsets 0 20
+--- offsets 0 1 20
 +++ device
 +++ with
 a 4 multi 1048570:sh -> disk-fault offsets 0
@@ -161,7 +161,7 @@ log flushed 4 end 180
 3 checkpoint next 1048572 oldest 3 multi 2 offset 2 oldest-multi 1 oldest-offset 1
 +++ device
 +++ but
---- members 0 20
+--- members 0 1 20
 +++ device
 +++ with
 a 4 multi 1048570:sh -> disk-fault members 0
@@ -188,8 +188,9 @@ log flushed 4 end 180
 3 checkpoint next 1048572 oldest 3 multi 2 offset 2 oldest-multi 1 oldest-offset 1
 +++ device
 +++ but
---- log 0 40
+--- log 0 1 8
 +++ device
+--- log 0 9 12
 +++ with
 a 22 see s 524291 -> hidden
 a 23 commit -> log-fault
@@ -205,6 +206,7 @@ b 2 see t 1048570 -> hidden
 b 3 see t 1048571 -> hidden
 log flushed 2 end 124
 1 checkpoint next 1048570 oldest 3 multi 1 offset 1 oldest-multi 1 oldest-offset 1
+--- log 0 13 16
 +++ with
 a 23 commit -> ok
 a 24 commit -> no-transaction
@@ -214,6 +216,7 @@ crash torn
 life 2 from 3 next 1048572 oldest 3 multi 2 offset 2 oldest-multi 1 oldest-offset 1
 b 2 see t 1048570 -> visible
 b 3 see t 1048571 -> visible
+--- log 0 17 17
 +++ with
 a 23 commit -> ok
 a 24 commit -> no-transaction
@@ -223,6 +226,7 @@ crash torn
 life 2 from 4 next 1048572 oldest 3 multi 2 offset 2 oldest-multi 1 oldest-offset 1
 b 2 see t 1048570 -> visible
 b 3 see t 1048571 -> visible
+--- log 0 18 40
 +++ device
 +++ but
 === a_commit_over_two_pages_is_gone_on_with
@@ -311,7 +315,7 @@ multis
 log flushed 5 end 242
 4 checkpoint next 1048577 oldest 3 multi 2 offset 2 oldest-multi 1 oldest-offset 1
 end
---- xact 0 40
+--- xact 0 1 40
 +++ device
 +++ one
  -> disk-fault xact 0

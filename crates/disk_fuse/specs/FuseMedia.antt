@@ -1,5 +1,7 @@
--- The volumes of a fused media: each passes its calls on, and one of them only so many.
-use Rattle.std.specs.Prelude.{◌≡◌, ℕ, ◌+◌, ◌≤◌, ◌==◌, Bool, true, false, List, [], ◌∷◌, length, slice_index, vec_capacity, Option, Some, None}
+-- The volumes of a fused media: each fails its calls on, and one of them only so many.
+use Rattle.std.specs.Prelude.{◌≡◌, ℕ, ◌+◌, ◌≤◌, ◌==◌, Bool, true, false, List, [], ◌∷◌, length, slice_index, slice_get, vec_capacity, Option, Some, None}
+use Rattle.disk_fuse.specs.declared.fails.Fails.{Fails}
+use Rattle.disk_fuse.specs.declared.fails.Fails.TheVariants.{Never}
 use Rattle.disk_fuse.specs.declared.fused_log.FusedLog.{FusedLog}
 use Rattle.disk_fuse.specs.declared.fused_pages.FusedPages.{FusedPages}
 use Rattle.disk_core.specs.declared.media.Volumes.{Volumes}
@@ -46,16 +48,29 @@ abbrev pub is_at : Option ℕ → ℕ → Bool
 is_at None i = false
 is_at (Some n) i = n == i
 
--- the limit, where the volume is the fused one
-abbrev pub limit_of : Bool → Option ℕ → Option ℕ
-limit_of true passes = passes
-limit_of false passes = None
+-- which calls fail: these, where the volume is the fused one
+abbrev pub fails_if : Bool → Fails → Fails
+fails_if true fails = fails
+fails_if false fails = Never
 
 -- the banks from number i on, with the counts of what each refused before
-abbrev pub fused_banks : {P : Type 0} → Option ℕ → Option ℕ → List ℕ → ℕ → List P → List (FusedPages P)
-fused_banks at passes refused i [] = []
-fused_banks at passes refused i (p ∷ ps) =
-    record { inner = p; left = limit_of (is_at at i) passes; refused = slice_index refused i } ∷ fused_banks at passes refused (i + 1) ps
+abbrev pub fused_banks : {P : Type 0} → Option ℕ → Fails → List ℕ → ℕ → List P → List (FusedPages P)
+fused_banks at fails refused i [] = []
+fused_banks at fails refused i (p ∷ ps) =
+    record { inner = p; fails = fails_if (is_at at i) fails; refused = slice_index refused i } ∷ fused_banks at fails refused (i + 1) ps
+
+-- which calls of a bank fail; none of one that isn't there
+abbrev pub bank_fails : {P : Type 0} → Option (FusedPages P) → Fails
+bank_fails None = Never
+bank_fails (Some f) = f.fails
+
+-- which calls of that volume fail
+abbrev pub fails_in : {L P : Type 0} → Which → Volumes (FusedLog L) (FusedPages P) → Fails
+fails_in Log volumes = volumes.log.fails
+fails_in (Xact n) volumes = bank_fails (slice_get volumes.xact.items n)
+fails_in (Subtrans n) volumes = bank_fails (slice_get volumes.subtrans.items n)
+fails_in (Offsets n) volumes = bank_fails (slice_get volumes.offsets.items n)
+fails_in (Members n) volumes = bank_fails (slice_get volumes.members.items n)
 
 abbrev pub inner_banks : {P : Type 0} → List (FusedPages P) → List P
 inner_banks [] = []
@@ -73,13 +88,13 @@ pub record HaveRefusedNone (refused : Volumes ℕ ℕ) : Type 0 where
   pub offsets : refused.offsets.items ≡ []
   pub members : refused.members.items ≡ []
 
--- the volumes with a limit on one, and with the counts of what each refused in the lives before
-pub record IsFused {L P : Type 0} (at : Which) (passes : Option ℕ) (refused : Volumes ℕ ℕ) (volumes : Volumes L P) (fused : Volumes (FusedLog L) (FusedPages P)) : Type 0 where
-  pub log : fused.log ≡ record { inner = volumes.log; left = limit_of (is_log at) passes; refused = refused.log }
-  pub xact : fused.xact.items ≡ fused_banks (xact_bank at) passes refused.xact.items 0 volumes.xact.items
-  pub subtrans : fused.subtrans.items ≡ fused_banks (subtrans_bank at) passes refused.subtrans.items 0 volumes.subtrans.items
-  pub offsets : fused.offsets.items ≡ fused_banks (offsets_bank at) passes refused.offsets.items 0 volumes.offsets.items
-  pub members : fused.members.items ≡ fused_banks (members_bank at) passes refused.members.items 0 volumes.members.items
+-- the volumes, of which one fails these calls, and with the counts of what each refused in the lives before
+pub record IsFused {L P : Type 0} (at : Which) (fails : Fails) (refused : Volumes ℕ ℕ) (volumes : Volumes L P) (fused : Volumes (FusedLog L) (FusedPages P)) : Type 0 where
+  pub log : fused.log ≡ record { inner = volumes.log; fails = fails_if (is_log at) fails; refused = refused.log }
+  pub xact : fused.xact.items ≡ fused_banks (xact_bank at) fails refused.xact.items 0 volumes.xact.items
+  pub subtrans : fused.subtrans.items ≡ fused_banks (subtrans_bank at) fails refused.subtrans.items 0 volumes.subtrans.items
+  pub offsets : fused.offsets.items ≡ fused_banks (offsets_bank at) fails refused.offsets.items 0 volumes.offsets.items
+  pub members : fused.members.items ≡ fused_banks (members_bank at) fails refused.members.items 0 volumes.members.items
 
 -- the volumes within
 pub record AreWithin {L P : Type 0} (fused : Volumes (FusedLog L) (FusedPages P)) (volumes : Volumes L P) : Type 0 where
@@ -113,13 +128,13 @@ pub record HasRoomFor {L P U T : Type 0} (volumes : Volumes L P) (room : Volumes
   pub members : (room.members.items ≡ []) × (length volumes.members.items ≤ vec_capacity room.members)
 
 -- what the next mount gives: what was given back, or what the media within gives
-abbrev pub fuse_gives : {L P : Type 0} → (Volumes L P → Type 0) → Option (Volumes (FusedLog L) (FusedPages P)) → Which → Option ℕ → Volumes ℕ ℕ → Volumes (FusedLog L) (FusedPages P) → Type 0
-fuse_gives inner (Some held) at passes refused volumes = volumes ≡ held
-fuse_gives {L = L} {P = P} inner None at passes refused volumes = (w : Volumes L P) × inner w × IsFused at passes refused w volumes
+abbrev pub fuse_gives : {L P : Type 0} → (Volumes L P → Type 0) → Option (Volumes (FusedLog L) (FusedPages P)) → Which → Fails → Volumes ℕ ℕ → Volumes (FusedLog L) (FusedPages P) → Type 0
+fuse_gives inner (Some held) at fails refused volumes = volumes ≡ held
+fuse_gives {L = L} {P = P} inner None at fails refused volumes = (w : Volumes L P) × inner w × IsFused at fails refused w volumes
 
--- what a first mount gives: such volumes of the media within, with a limit on one, and with those counts
-abbrev pub fuse_begins : {L P : Type 0} → (Volumes L P → Type 0) → Which → Option ℕ → Volumes ℕ ℕ → Volumes (FusedLog L) (FusedPages P) → Type 0
-fuse_begins {L = L} {P = P} inner at passes refused volumes = (w : Volumes L P) × inner w × IsFused at passes refused w volumes
+-- what a first mount gives: such volumes of the media within, of which one fails these calls, and with those counts
+abbrev pub fuse_begins : {L P : Type 0} → (Volumes L P → Type 0) → Which → Fails → Volumes ℕ ℕ → Volumes (FusedLog L) (FusedPages P) → Type 0
+fuse_begins {L = L} {P = P} inner at fails refused volumes = (w : Volumes L P) × inner w × IsFused at fails refused w volumes
 
 abbrev pub fuse_is_new : {V : Type 0} → Bool → Option V → Bool
 fuse_is_new inner (Some held) = false

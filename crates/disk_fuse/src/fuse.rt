@@ -3,7 +3,7 @@ ghost use Rattle.std.specs.Prelude.{◌≡◌, ◌+◌, ◌≤◌, Some, None, I
 ghost use Rattle.disk_core.specs.Faults.{CountsFault};
 
 use crate::fused_volumes::{fuse_all, unfuse_all};
-use crate::{FusedLog, FusedPages};
+use crate::{Fails, FusedLog, FusedPages};
 use disk_core::{Crash, Failed, Media, MountRefusal, Volumes, Which};
 use std::alloc::Global;
 
@@ -12,8 +12,8 @@ pub struct Fuse<M: Media> {
     alloc: Global,
     inner: M,
     at: Which,
-    // How many calls the volume passes, until the first crash.
-    passes: Option<u64>,
+    // Which calls the volume fails, until the first crash.
+    fails: Fails,
     // How often each volume refused a call in the lives before.
     refused: Volumes<u64, u64>,
     held: Option<Volumes<FusedLog<M::Log>, FusedPages<M::Pages>>>,
@@ -23,7 +23,8 @@ pub struct Fuse<M: Media> {
 }
 
 impl<M: Media> Fuse<M> {
-    ghost use Rattle.std.specs.Prelude.{◌≡◌, Some, None, IsTrue};
+    ghost use Rattle.std.specs.Prelude.{◌≡◌, None, IsTrue};
+    ghost use Rattle.disk_fuse.specs.declared.fails.Fails.TheVariants.{Behind};
     ghost use Rattle.disk_fuse.specs.FuseMedia.{HaveRefusedNone};
 
     /// A media whose volume `at` passes so many calls.
@@ -31,7 +32,7 @@ impl<M: Media> Fuse<M> {
         requires { IsTrue (M.is_idle inner) }
         ensures inner { result.inner ≡ inner }
         ensures at { result.at ≡ at }
-        ensures passes { result.passes ≡ Some passes }
+        ensures fails { result.fails ≡ Behind passes }
         ensures refused { HaveRefusedNone result.refused }
         ensures idle { result.is_mounted ≡ false }
         ensures held { result.held ≡ None }
@@ -48,7 +49,7 @@ impl<M: Media> Fuse<M> {
             alloc,
             inner,
             at,
-            passes: Some(passes),
+            fails: Fails::Behind(passes),
             refused,
             held: None,
             is_mounted: false,
@@ -67,6 +68,7 @@ impl<M: Media> Media for Fuse<M> {
     ghost use Rattle.disk_core.specs.Images.{NoMore, Only};
     ghost use Rattle.disk_core.specs.Media.{HasBanks, HaveSameBanks, CountsMount, LogCrashed, PagesCrashed, AllCrashed};
     ghost use Rattle.disk_core.specs.declared.media.Volumes.{Volumes};
+    ghost use Rattle.disk_fuse.specs.declared.fails.Fails.TheVariants.{Never};
     ghost use Rattle.disk_fuse.specs.declared.fused_log.FusedLog.{FusedLog};
     ghost use Rattle.disk_fuse.specs.declared.fused_pages.FusedPages.{FusedPages};
     ghost use Rattle.disk_fuse.specs.FuseMedia.{fuse_begins, fuse_gives, fuse_is_new, FuseFell};
@@ -75,9 +77,9 @@ impl<M: Media> Media for Fuse<M> {
 
     ghost is_new = { λ f. fuse_is_new (M.is_new f.inner) f.held };
 
-    ghost begins = { λ f banks. fuse_begins (M.begins f.inner banks) f.at f.passes f.refused };
+    ghost begins = { λ f banks. fuse_begins (M.begins f.inner banks) f.at f.fails f.refused };
 
-    ghost gives = { λ f. fuse_gives (M.gives f.inner) f.held f.at f.passes f.refused };
+    ghost gives = { λ f. fuse_gives (M.gives f.inner) f.held f.at f.fails f.refused };
 
     ghost falls = { λ how. FuseFell (M.falls how) };
 
@@ -90,13 +92,16 @@ impl<M: Media> Media for Fuse<M> {
         requires idle { self.old.is_mounted ≡ false }
         requires some { 1 ≤ banks }
         requires few { banks ≤ 16 }
-        ensures again { fuse_is_new (M.is_new self.old.inner) self.old.held ≡ false → IfOk result (fuse_gives (M.gives self.old.inner) self.old.held self.old.at self.old.passes self.old.refused) }
+        ensures again { fuse_is_new (M.is_new self.old.inner) self.old.held ≡ false → IfOk result (fuse_gives (M.gives self.old.inner) self.old.held self.old.at self.old.fails self.old.refused) }
         ensures first { IsTrue (fuse_is_new (M.is_new self.old.inner) self.old.held) → IfOk result (HasBanks banks) }
-        ensures begins { IsTrue (fuse_is_new (M.is_new self.old.inner) self.old.held) → IfOk result (fuse_begins (M.begins self.old.inner banks) self.old.at self.old.passes self.old.refused) }
+        ensures begins { IsTrue (fuse_is_new (M.is_new self.old.inner) self.old.held) → IfOk result (fuse_begins (M.begins self.old.inner banks) self.old.at self.old.fails self.old.refused) }
         ensures mounted { OnOk result (not self.new.is_mounted ≡ false) }
         ensures idle { OnErr result (IsTrue (not self.new.is_mounted)) }
+        ensures at { self.new.at ≡ self.old.at }
+        ensures fails { self.new.fails ≡ self.old.fails }
+        ensures refused { self.new.refused ≡ self.old.refused }
         ensures kept { OnErr result (fuse_is_new (M.is_new self.old.inner) self.old.held ≡ false → (fuse_is_new (M.is_new self.new.inner) self.new.held ≡ false)
-            × NoMore (fuse_gives (M.gives self.old.inner) self.old.held self.old.at self.old.passes self.old.refused) (fuse_gives (M.gives self.new.inner) self.new.held self.new.at self.new.passes self.new.refused)) }
+            × NoMore (fuse_gives (M.gives self.old.inner) self.old.held self.old.at self.old.fails self.old.refused) (fuse_gives (M.gives self.new.inner) self.new.held self.new.at self.new.fails self.new.refused)) }
         ensures cause { CountsMount result (M.faults self.old.inner + self.old.faults) (M.faults self.new.inner + self.new.faults) }
     {
         match self.held.take() {
@@ -106,7 +111,7 @@ impl<M: Media> Media for Fuse<M> {
             }
             None => {
                 let volumes = self.inner.mount(banks)?;
-                match fuse_all(self.alloc, volumes, self.at, self.passes, &self.refused) {
+                match fuse_all(self.alloc, volumes, self.at, self.fails, &self.refused) {
                     Ok(fused) => {
                         self.is_mounted = true;
                         Ok(fused)
@@ -127,22 +132,22 @@ impl<M: Media> Media for Fuse<M> {
     ) -> Result<(), Failed>
         ensures idle { IsTrue (not self.new.is_mounted) }
         ensures old { fuse_is_new (M.is_new self.new.inner) self.new.held ≡ false }
-        ensures disarmed { self.new.passes ≡ None }
+        ensures disarmed { self.new.fails ≡ Never }
         // The next mount wraps the volumes anew, with no limit.
         ensures unheld { OnOk result (self.new.held ≡ None) }
         ensures left { IsTrue M.Log.tells → IsTrue M.Pages.tells → OnOk result ((next : Volumes (FusedLog M.Log) (FusedPages M.Pages))
-            → fuse_gives (M.gives self.new.inner) self.new.held self.new.at self.new.passes self.new.refused next
+            → fuse_gives (M.gives self.new.inner) self.new.held self.new.at self.new.fails self.new.refused next
             → AllCrashed (LogCrashed (λ f. M.Log.reads f.inner) (λ f. M.Log.images f.inner) (λ f. M.Log.faults f.inner + f.refused))
             (PagesCrashed (λ f. M.Pages.pages f.inner) (λ f. M.Pages.images f.inner) (λ f. M.Pages.faults f.inner + f.refused)) volumes next) }
         ensures fell { OnOk result ((next : Volumes (FusedLog M.Log) (FusedPages M.Pages))
-            → fuse_gives (M.gives self.new.inner) self.new.held self.new.at self.new.passes self.new.refused next → FuseFell (M.falls how) volumes next) }
+            → fuse_gives (M.gives self.new.inner) self.new.held self.new.at self.new.fails self.new.refused next → FuseFell (M.falls how) volumes next) }
         ensures banks { (next : Volumes (FusedLog M.Log) (FusedPages M.Pages))
-            → fuse_gives (M.gives self.new.inner) self.new.held self.new.at self.new.passes self.new.refused next → HaveSameBanks volumes next }
+            → fuse_gives (M.gives self.new.inner) self.new.held self.new.at self.new.fails self.new.refused next → HaveSameBanks volumes next }
         ensures tells { OnOk result (IsTrue M.Pages.tells → IsTrue M.Log.tells) }
         ensures cause { CountsFault result (M.faults self.old.inner + self.old.faults) (M.faults self.new.inner + self.new.faults) }
     {
         self.is_mounted = false;
-        self.passes = None;
+        self.fails = Fails::Never;
         match unfuse_all(self.alloc, volumes) {
             Ok((inner, refused)) => {
                 self.held = None;
@@ -160,7 +165,7 @@ impl<M: Media> Media for Fuse<M> {
     fn rest(&mut self, volumes: Volumes<FusedLog<M::Log>, FusedPages<M::Pages>>)
         ensures idle { IsTrue (not self.new.is_mounted) }
         ensures old { fuse_is_new (M.is_new self.new.inner) self.new.held ≡ false }
-        ensures same { Only volumes (fuse_gives (M.gives self.new.inner) self.new.held self.new.at self.new.passes self.new.refused) }
+        ensures same { Only volumes (fuse_gives (M.gives self.new.inner) self.new.held self.new.at self.new.fails self.new.refused) }
         ensures faults { M.faults self.new.inner + self.new.faults ≡ M.faults self.old.inner + self.old.faults }
     {
         self.held = Some(volumes);

@@ -1,17 +1,17 @@
 //! The banks of a fused media are wrapped and unwrapped one by one.
 ghost use Rattle.std.specs.Prelude.{◌≡◌, ◌≤◌, length, vec_capacity, [], slice_index};
-ghost use Rattle.disk_fuse.specs.FuseMedia.{is_at, limit_of, fused_banks, inner_banks, refusals};
+ghost use Rattle.disk_fuse.specs.FuseMedia.{is_at, fails_if, fused_banks, inner_banks, refusals};
 
-use crate::FusedPages;
+use crate::{Fails, FusedPages};
 use disk_core::PageDisk;
 
-// The limit of a bank, if it is the fused one.
-fn limit_at(at: Option<u32>, passes: Option<u64>, i: usize) -> Option<u64>
-    ensures { result ≡ limit_of (is_at at i) passes }
+// Which calls of a bank fail: these, if it is the fused one.
+fn fails_at(at: Option<u32>, fails: Fails, i: usize) -> Fails
+    ensures { result ≡ fails_if (is_at at i) fails }
 {
     match at {
-        Some(bank) if bank as usize == i => passes,
-        _ => None,
+        Some(bank) if bank as usize == i => fails,
+        _ => Fails::Never,
     }
 }
 
@@ -26,22 +26,22 @@ pub(crate) fn fuse_banks<P: PageDisk + Drop>(
     banks: Vec<P>,
     into: Vec<FusedPages<P>>,
     at: Option<u32>,
-    passes: Option<u64>,
+    fails: Fails,
     refused: &[u64],
 ) -> Vec<FusedPages<P>>
     requires empty { into.items ≡ [] }
     requires room { length banks.items ≤ vec_capacity into }
-    ensures { result.items ≡ fused_banks at passes refused.now 0 banks.items }
+    ensures { result.items ≡ fused_banks at fails refused.now 0 banks.items }
 {
     let mut banks = banks;
     let mut into = into;
     while let Some(inner) = banks.pop() {
         let i = banks.len();
-        let left = limit_at(at, passes, i);
+        let fails = fails_at(at, fails, i);
         let refused = count_at(refused, i);
         let Ok(()) = into.push(FusedPages {
             inner,
-            left,
+            fails,
             refused,
         }) else {
             unreachable!()
@@ -70,7 +70,7 @@ pub(crate) fn unfuse_banks<P: PageDisk + Drop>(
     while let Some(bank) = banks.pop() {
         let FusedPages {
             inner,
-            left: _,
+            fails: _,
             refused,
         } = bank;
         let Ok(()) = into.push(inner) else {

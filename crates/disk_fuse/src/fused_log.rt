@@ -1,38 +1,20 @@
-//! A log volume that passes so many calls on, and then fails each without doing it.
+//! A log volume that fails some of its calls without doing them.
 ghost use Rattle.std.specs.Prelude.{◌≡◌, ◌⊎◌, ◌+◌, ◌≤◌, IsTrue, length, max, IfOk, OnOk, OnErr, IsErr, Some};
 ghost use Rattle.disk_core.specs.Faults.{CountsFault};
-ghost use Rattle.disk_fuse.specs.Fuse.{spent, Spends};
+ghost use Rattle.disk_fuse.specs.Fuse.{Spends};
 ghost use Rattle.disk_core.specs.Images.{NoMore, Follows, Only, Elapses};
 ghost use Rattle.disk_core.specs.Volume.{overlaid, Wrote, Forgot, IsRead};
 
+use crate::Fails;
+use crate::fails::spend;
 use disk_core::{Extent, Failed, LogDisk};
 
 #[derive(Drop)]
 pub struct FusedLog<D: LogDisk> {
     pub(crate) inner: D,
-    // How many calls it still passes on, if there is a limit.
-    pub(crate) left: Option<u64>,
+    pub(crate) fails: Fails,
+    // How many calls it failed without doing them.
     pub(crate) refused: u64,
-}
-
-pub(crate) fn spend(left: &mut Option<u64>, refused: &mut u64) -> Result<(), Failed>
-    ensures left { left.new ≡ spent left.old }
-    ensures blown { left.old ≡ Some 0 → IsErr result }
-    ensures passes { OnErr result (left.old ≡ Some 0) }
-    ensures kept { OnOk result (refused.new ≡ refused.old) }
-    ensures cause { CountsFault result refused.old refused.new }
-{
-    match left {
-        None => Ok(()),
-        Some(0) => {
-            *refused = refused.saturating_add(1);
-            Err(Failed)
-        }
-        Some(n) => {
-            *n -= 1;
-            Ok(())
-        }
-    }
 }
 
 impl<D: LogDisk> LogDisk for FusedLog<D> {
@@ -63,9 +45,9 @@ impl<D: LogDisk> LogDisk for FusedLog<D> {
         ensures crash { IsTrue D.tells → NoMore (D.images self.old.inner) (D.images self.new.inner) }
         ensures time { IsTrue D.tells → Elapses (D.moment self.old.inner) (D.moment self.new.inner) (D.left_at self.old.inner) (D.left_at self.new.inner) (D.images self.new.inner) }
         ensures cause { CountsFault result (D.faults self.old.inner + self.old.refused) (D.faults self.new.inner + self.new.refused) }
-        ensures fuse { Spends D.faults self.old.left self.new.left self.old.inner self.new.inner result }
+        ensures fuse { Spends D.faults self.old.fails self.new.fails self.old.refused self.new.refused self.old.inner self.new.inner result }
     {
-        spend(&mut self.left, &mut self.refused)?;
+        spend(&mut self.fails, &mut self.refused)?;
         self.inner.read(at, into)
     }
 
@@ -75,9 +57,9 @@ impl<D: LogDisk> LogDisk for FusedLog<D> {
         ensures crash { IsTrue D.tells → Follows (Wrote at (length from.now)) (D.images self.old.inner) (D.images self.new.inner) }
         ensures time { IsTrue D.tells → Elapses (D.moment self.old.inner) (D.moment self.new.inner) (D.left_at self.old.inner) (D.left_at self.new.inner) (D.images self.new.inner) }
         ensures cause { CountsFault result (D.faults self.old.inner + self.old.refused) (D.faults self.new.inner + self.new.refused) }
-        ensures fuse { Spends D.faults self.old.left self.new.left self.old.inner self.new.inner result }
+        ensures fuse { Spends D.faults self.old.fails self.new.fails self.old.refused self.new.refused self.old.inner self.new.inner result }
     {
-        spend(&mut self.left, &mut self.refused)?;
+        spend(&mut self.fails, &mut self.refused)?;
         self.inner.write_at(at, from)
     }
 
@@ -87,9 +69,9 @@ impl<D: LogDisk> LogDisk for FusedLog<D> {
         ensures crash { IsTrue D.tells → NoMore (D.images self.old.inner) (D.images self.new.inner) }
         ensures time { IsTrue D.tells → Elapses (D.moment self.old.inner) (D.moment self.new.inner) (D.left_at self.old.inner) (D.left_at self.new.inner) (D.images self.new.inner) }
         ensures cause { CountsFault result (D.faults self.old.inner + self.old.refused) (D.faults self.new.inner + self.new.refused) }
-        ensures fuse { Spends D.faults self.old.left self.new.left self.old.inner self.new.inner result }
+        ensures fuse { Spends D.faults self.old.fails self.new.fails self.old.refused self.new.refused self.old.inner self.new.inner result }
     {
-        spend(&mut self.left, &mut self.refused)?;
+        spend(&mut self.fails, &mut self.refused)?;
         self.inner.sync()
     }
 
@@ -99,9 +81,9 @@ impl<D: LogDisk> LogDisk for FusedLog<D> {
         ensures crash { IsTrue D.tells → Follows (Forgot upto) (D.images self.old.inner) (D.images self.new.inner) }
         ensures time { IsTrue D.tells → Elapses (D.moment self.old.inner) (D.moment self.new.inner) (D.left_at self.old.inner) (D.left_at self.new.inner) (D.images self.new.inner) }
         ensures cause { CountsFault result (D.faults self.old.inner + self.old.refused) (D.faults self.new.inner + self.new.refused) }
-        ensures fuse { Spends D.faults self.old.left self.new.left self.old.inner self.new.inner result }
+        ensures fuse { Spends D.faults self.old.fails self.new.fails self.old.refused self.new.refused self.old.inner self.new.inner result }
     {
-        spend(&mut self.left, &mut self.refused)?;
+        spend(&mut self.fails, &mut self.refused)?;
         self.inner.forget(upto)
     }
 
@@ -112,9 +94,9 @@ impl<D: LogDisk> LogDisk for FusedLog<D> {
         ensures crash { IsTrue D.tells → NoMore (D.images self.old.inner) (D.images self.new.inner) }
         ensures time { IsTrue D.tells → Elapses (D.moment self.old.inner) (D.moment self.new.inner) (D.left_at self.old.inner) (D.left_at self.new.inner) (D.images self.new.inner) }
         ensures cause { CountsFault result (D.faults self.old.inner + self.old.refused) (D.faults self.new.inner + self.new.refused) }
-        ensures fuse { Spends D.faults self.old.left self.new.left self.old.inner self.new.inner result }
+        ensures fuse { Spends D.faults self.old.fails self.new.fails self.old.refused self.new.refused self.old.inner self.new.inner result }
     {
-        spend(&mut self.left, &mut self.refused)?;
+        spend(&mut self.fails, &mut self.refused)?;
         self.inner.extent()
     }
 }

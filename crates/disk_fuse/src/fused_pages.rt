@@ -1,18 +1,19 @@
-//! A page volume that passes so many calls on, and then fails each without doing it.
+//! A page volume that fails some of its calls without doing them.
 ghost use Rattle.std.specs.Prelude.{◌≡◌, ◌⊎◌, ◌+◌, ◌≤◌, IsTrue, IfOk, IfSome, OnOk};
 ghost use Rattle.disk_core.specs.Faults.{CountsFault};
 ghost use Rattle.disk_fuse.specs.Fuse.{Spends};
 ghost use Rattle.disk_core.specs.Images.{NoMore, Follows, Only, Elapses};
 ghost use Rattle.disk_core.specs.Pages.{WrotePage, RemovedPage, HasPage, LacksPage, IsPageRead, IsAfter, IsNextPage};
 
-use crate::fused_log::spend;
+use crate::Fails;
+use crate::fails::spend;
 use disk_core::{Failed, PageDisk};
 
 #[derive(Drop)]
 pub struct FusedPages<P: PageDisk> {
     pub(crate) inner: P,
-    // How many calls it still passes on, if there is a limit.
-    pub(crate) left: Option<u64>,
+    pub(crate) fails: Fails,
+    // How many calls it failed without doing them.
     pub(crate) refused: u64,
 }
 
@@ -43,9 +44,9 @@ impl<P: PageDisk> PageDisk for FusedPages<P> {
         ensures crash { IsTrue P.tells → NoMore (P.images self.old.inner) (P.images self.new.inner) }
         ensures time { IsTrue P.tells → Elapses (P.moment self.old.inner) (P.moment self.new.inner) (P.left_at self.old.inner) (P.left_at self.new.inner) (P.images self.new.inner) }
         ensures cause { CountsFault result (P.faults self.old.inner + self.old.refused) (P.faults self.new.inner + self.new.refused) }
-        ensures fuse { Spends P.faults self.old.left self.new.left self.old.inner self.new.inner result }
+        ensures fuse { Spends P.faults self.old.fails self.new.fails self.old.refused self.new.refused self.old.inner self.new.inner result }
     {
-        spend(&mut self.left, &mut self.refused)?;
+        spend(&mut self.fails, &mut self.refused)?;
         self.inner.read_page(page, into)
     }
 
@@ -55,9 +56,9 @@ impl<P: PageDisk> PageDisk for FusedPages<P> {
         ensures crash { IsTrue P.tells → Follows (WrotePage page from.now) (P.images self.old.inner) (P.images self.new.inner) }
         ensures time { IsTrue P.tells → Elapses (P.moment self.old.inner) (P.moment self.new.inner) (P.left_at self.old.inner) (P.left_at self.new.inner) (P.images self.new.inner) }
         ensures cause { CountsFault result (P.faults self.old.inner + self.old.refused) (P.faults self.new.inner + self.new.refused) }
-        ensures fuse { Spends P.faults self.old.left self.new.left self.old.inner self.new.inner result }
+        ensures fuse { Spends P.faults self.old.fails self.new.fails self.old.refused self.new.refused self.old.inner self.new.inner result }
     {
-        spend(&mut self.left, &mut self.refused)?;
+        spend(&mut self.fails, &mut self.refused)?;
         self.inner.write_page(page, from)
     }
 
@@ -67,9 +68,9 @@ impl<P: PageDisk> PageDisk for FusedPages<P> {
         ensures crash { IsTrue P.tells → Follows (RemovedPage page) (P.images self.old.inner) (P.images self.new.inner) }
         ensures time { IsTrue P.tells → Elapses (P.moment self.old.inner) (P.moment self.new.inner) (P.left_at self.old.inner) (P.left_at self.new.inner) (P.images self.new.inner) }
         ensures cause { CountsFault result (P.faults self.old.inner + self.old.refused) (P.faults self.new.inner + self.new.refused) }
-        ensures fuse { Spends P.faults self.old.left self.new.left self.old.inner self.new.inner result }
+        ensures fuse { Spends P.faults self.old.fails self.new.fails self.old.refused self.new.refused self.old.inner self.new.inner result }
     {
-        spend(&mut self.left, &mut self.refused)?;
+        spend(&mut self.fails, &mut self.refused)?;
         self.inner.remove(page)
     }
 
@@ -81,9 +82,9 @@ impl<P: PageDisk> PageDisk for FusedPages<P> {
         ensures crash { IsTrue P.tells → NoMore (P.images self.old.inner) (P.images self.new.inner) }
         ensures time { IsTrue P.tells → Elapses (P.moment self.old.inner) (P.moment self.new.inner) (P.left_at self.old.inner) (P.left_at self.new.inner) (P.images self.new.inner) }
         ensures cause { CountsFault result (P.faults self.old.inner + self.old.refused) (P.faults self.new.inner + self.new.refused) }
-        ensures fuse { Spends P.faults self.old.left self.new.left self.old.inner self.new.inner result }
+        ensures fuse { Spends P.faults self.old.fails self.new.fails self.old.refused self.new.refused self.old.inner self.new.inner result }
     {
-        spend(&mut self.left, &mut self.refused)?;
+        spend(&mut self.fails, &mut self.refused)?;
         self.inner.after(page)
     }
 
@@ -93,9 +94,9 @@ impl<P: PageDisk> PageDisk for FusedPages<P> {
         ensures crash { IsTrue P.tells → NoMore (P.images self.old.inner) (P.images self.new.inner) }
         ensures time { IsTrue P.tells → Elapses (P.moment self.old.inner) (P.moment self.new.inner) (P.left_at self.old.inner) (P.left_at self.new.inner) (P.images self.new.inner) }
         ensures cause { CountsFault result (P.faults self.old.inner + self.old.refused) (P.faults self.new.inner + self.new.refused) }
-        ensures fuse { Spends P.faults self.old.left self.new.left self.old.inner self.new.inner result }
+        ensures fuse { Spends P.faults self.old.fails self.new.fails self.old.refused self.new.refused self.old.inner self.new.inner result }
     {
-        spend(&mut self.left, &mut self.refused)?;
+        spend(&mut self.fails, &mut self.refused)?;
         self.inner.sync()
     }
 }

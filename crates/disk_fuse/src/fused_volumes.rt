@@ -1,9 +1,9 @@
 //! The volumes of a fused media, wrapped and unwrapped.
-ghost use Rattle.std.specs.Prelude.{◌≡◌, IfOk, IfErr};
-ghost use Rattle.disk_fuse.specs.FuseMedia.{is_log, xact_bank, subtrans_bank, offsets_bank, members_bank, limit_of, IsFused, IsUnfused, HasRoomFor};
+ghost use Rattle.std.specs.Prelude.{◌≡◌, IfOk, IfErr, slice_get};
+ghost use Rattle.disk_fuse.specs.FuseMedia.{is_log, xact_bank, subtrans_bank, offsets_bank, members_bank, fails_if, bank_fails, fails_in, IsFused, IsUnfused, HasRoomFor};
 
 use crate::fused_banks::{fuse_banks, unfuse_banks};
-use crate::{FusedLog, FusedPages};
+use crate::{Fails, FusedLog, FusedPages};
 use disk_core::{LogDisk, PageDisk, Volumes, Which};
 use std::alloc::{AllocError, Global};
 
@@ -43,12 +43,37 @@ fn members_at(at: Which) -> Option<u32>
     }
 }
 
-fn log_limit(at: Which, passes: Option<u64>) -> Option<u64>
-    ensures { result ≡ limit_of (is_log at) passes }
+fn log_fails(at: Which, fails: Fails) -> Fails
+    ensures { result ≡ fails_if (is_log at) fails }
 {
     match at {
-        Which::Log => passes,
-        _ => None,
+        Which::Log => fails,
+        _ => Fails::Never,
+    }
+}
+
+fn bank_fails<P: PageDisk>(banks: &[FusedPages<P>], bank: u32) -> Fails
+    ensures { result ≡ bank_fails (slice_get banks.now bank) }
+{
+    match banks.get(bank as usize) {
+        Some(bank) => bank.fails,
+        None => Fails::Never,
+    }
+}
+
+// Which calls of that volume fail.
+pub(crate) fn fails_in<L: LogDisk, P: PageDisk>(
+    volumes: &Volumes<FusedLog<L>, FusedPages<P>>,
+    at: Which,
+) -> Fails
+    ensures { result ≡ fails_in at volumes.now }
+{
+    match at {
+        Which::Log => volumes.log.fails,
+        Which::Xact(bank) => bank_fails(&volumes.xact, bank),
+        Which::Subtrans(bank) => bank_fails(&volumes.subtrans, bank),
+        Which::Offsets(bank) => bank_fails(&volumes.offsets, bank),
+        Which::Members(bank) => bank_fails(&volumes.members, bank),
     }
 }
 
@@ -72,10 +97,10 @@ pub(crate) fn fuse_all<L: LogDisk + Drop, P: PageDisk + Drop>(
     alloc: Global,
     volumes: Volumes<L, P>,
     at: Which,
-    passes: Option<u64>,
+    fails: Fails,
     refused: &Volumes<u64, u64>,
 ) -> Result<Volumes<FusedLog<L>, FusedPages<P>>, Volumes<L, P>>
-    ensures fused { IfOk result (IsFused at passes refused.now volumes) }
+    ensures fused { IfOk result (IsFused at fails refused.now volumes) }
     ensures back { IfErr result (λ back. back ≡ volumes) }
 {
     let Ok(room) = room_for(alloc, &volumes) else {
@@ -84,29 +109,29 @@ pub(crate) fn fuse_all<L: LogDisk + Drop, P: PageDisk + Drop>(
     Ok(Volumes {
         log: FusedLog {
             inner: volumes.log,
-            left: log_limit(at, passes),
+            fails: log_fails(at, fails),
             refused: refused.log,
         },
-        xact: fuse_banks(volumes.xact, room.xact, xact_at(at), passes, &refused.xact),
+        xact: fuse_banks(volumes.xact, room.xact, xact_at(at), fails, &refused.xact),
         subtrans: fuse_banks(
             volumes.subtrans,
             room.subtrans,
             subtrans_at(at),
-            passes,
+            fails,
             &refused.subtrans,
         ),
         offsets: fuse_banks(
             volumes.offsets,
             room.offsets,
             offsets_at(at),
-            passes,
+            fails,
             &refused.offsets,
         ),
         members: fuse_banks(
             volumes.members,
             room.members,
             members_at(at),
-            passes,
+            fails,
             &refused.members,
         ),
     })
@@ -128,7 +153,7 @@ pub(crate) fn unfuse_all<L: LogDisk + Drop, P: PageDisk + Drop>(
     };
     let FusedLog {
         inner: log,
-        left: _,
+        fails: _,
         refused: log_refused,
     } = volumes.log;
     let (xact, xact_refused) = unfuse_banks(volumes.xact, room.xact, counts.xact);

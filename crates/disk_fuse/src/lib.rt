@@ -1,13 +1,17 @@
-//! A fuse over a media of volumes: one volume passes so many calls and then fails, until the first crash
-//! (docs/DISKS.md, "A fuse").
+//! Medias over another one, of which one volume fails calls without doing them: each from a chosen one on, until the first
+//! crash, or one call alone (docs/DISKS.md, "Calls that fail").
 #![tactic(auto)]
 
+mod fail_once;
+mod fails;
 mod fuse;
 mod fused_banks;
 mod fused_log;
 mod fused_pages;
 mod fused_volumes;
 
+pub use fail_once::FailOnce;
+pub use fails::Fails;
 pub use fuse::Fuse;
 pub use fused_log::FusedLog;
 pub use fused_pages::FusedPages;

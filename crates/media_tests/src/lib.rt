@@ -13,8 +13,14 @@ mod crash_tests;
 #[cfg(test)]
 mod device_tests;
 #[cfg(test)]
+mod fail_once_tests;
+#[cfg(test)]
 mod log_tests;
 #[cfg(test)]
+mod once_help;
+#[cfg(test)]
 mod run_help;
+#[cfg(test)]
+mod stopped_tests;
 #[cfg(test)]
 mod thread_tests;

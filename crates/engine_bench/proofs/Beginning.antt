@@ -1,5 +1,5 @@
 -- A lock table is opened over a new log.
-use Rattle.std.proofs.Common.{◌≡◌, IsTrue, refl, arith, length}
+use Rattle.std.proofs.Common.{refl, arith}
 use Rattle.disk_core.specs.declared.log_disk.LogDisk as logs
 use Rattle.tx_events.specs.Base.{IsBase, first_base}
 use Rattle.wal_core.specs.declared.wal_log.WalLog.{WalLog}

@@ -4,7 +4,6 @@ ghost use Rattle.std.specs.List.{All};
 ghost use Rattle.engine_host.specs.Hosts.{HoldsAllBut, IsHost, IsNewSession, IsParked};
 ghost use Rattle.engine_parts.specs.Calls.{MayRun};
 ghost use Rattle.engine_parts.specs.declared.session.Session.{Session};
-ghost use Rattle.engine_bench.specs.Going.{GoesOn};
 ghost use Rattle.engine_bench.specs.Crews.{AllWent, HaveGoneOn, MayWork, Worked, numbers_of};
 
 use crate::works::{Work, take_turn};

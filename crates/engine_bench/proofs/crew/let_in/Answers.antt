@@ -1,4 +1,4 @@
-use Rattle.std.proofs.Common.{◌≡◌, ◌+◌, arith, refl, ap, subst, sym, ◌∙◌, take}
+use Rattle.std.proofs.Common.{◌+◌, arith, subst, sym}
 use Rattle.engine_bench.specs.declared.crew.Member.{Member}
 use Rattle.engine_bench.proofs.Crewing.{AreIn, none_in, one_more_in}
 use Rattle.engine_bench.proofs.crew.let_in.Goals as goal

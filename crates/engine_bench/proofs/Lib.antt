@@ -1,0 +1,3 @@
+pub mod Steps
+pub mod Crewing
+pub mod Beginning

@@ -2,7 +2,7 @@ use Rattle.std.proofs.Common.{ap, arith, refl, subst, sym, ◌∙◌}
 use Rattle.slru_bank.specs.Calls.{volume_of}
 use Rattle.replay_core.specs.Begun.{IsEmpty}
 use Rattle.replay_core.proofs.OnDisk.{read_durable}
-use Rattle.replay_core.proofs.banks.empty.Goals as goal
+use Rattle.replay_core.proofs.banks.empty_present.Goals as goal
 
 pub returns-in-Ok-flush_all : goal.returns-in-Ok-flush_all
 returns-in-Ok-flush_all g c =

@@ -5,7 +5,7 @@ use Rattle.slru_bank.specs.Crash.{CrashLeaves}
 use Rattle.replay_core.specs.Redo.{IsNamed}
 use Rattle.replay_core.specs.Restore.{HasBytesOnDisk, MayRestore, RestoresAll, bytes_on}
 use Rattle.replay_core.proofs.OnDisk.{durable_on, moments_on, shows_on, untouched}
-use Rattle.replay_core.proofs.restore.restore_states.Goals as goal
+use Rattle.replay_core.proofs.restore.restore_present.Goals as goal
 
 pub returns-in-Err-clause-moments : goal.returns-in-Err-clause-moments
 returns-in-Err-clause-moments g c told =

@@ -1,21 +1,16 @@
 -- A volume without pages, of which no record names one, is as a recovery wants it.
-use Rattle.std.proofs.Common.{◌≡◌, inl, inr, ⊎_elim, ℕ, ◌++◌, ◌<◌, ◌≤◌, ◌^◌, List, [], ◌∷◌, Result, Ok, Err, IsTrue, Unit, refl, sym, ap, subst, arith, ◌∙◌}
-use Rattle.disk_core.specs.Faults.{HasRisen}
+use Rattle.std.proofs.Common.{◌≡◌, inl, ⊎_elim, ℕ, ◌++◌, List, sym, ap, subst, arith, ◌∙◌}
 use Rattle.disk_core.specs.Images.{Only}
 use Rattle.disk_core.specs.Pages.{Pages, page_bytes}
 use Rattle.disk_core.specs.declared.page_disk.PageDisk as disks
 use Rattle.store_pages.specs.Layouts.{state_in, xact_page_of, xact_place_of}
-use Rattle.slru_bank.specs.Crash.{CrashLeaves, runs_then, wider}
-use Rattle.tx_events.specs.declared.refusal.Lock.{Lock}
+use Rattle.slru_bank.specs.Crash.{CrashLeaves, runs_then}
 use Rattle.replay_multis.specs.Empty.{HasNoPages, IsSameImage}
 use Rattle.replay_multis.specs.declared.share.Share.{Share}
-use Rattle.replay_core.specs.Banks.{Emptying}
 use Rattle.replay_core.specs.Begun.{IsEmpty}
 use Rattle.replay_core.specs.Redo.{NamesNone, code_in}
-use Rattle.replay_core.specs.Restore.{HasBytesOnDisk, MayRestore, RestoresAll, bytes_on}
-use Rattle.replay_core.specs.declared.refusal.RecoverRefusal.{RecoverRefusal}
-use Rattle.replay_core.specs.declared.refusal.RecoverRefusal.TheVariants as refusals
-use Rattle.replay_core.proofs.Redoing.{named_cases, risen_since}
+use Rattle.replay_core.specs.Restore.{MayRestore, RestoresAll, bytes_on}
+use Rattle.replay_core.proofs.Redoing.{named_cases}
 use Rattle.replay_core.proofs.Restoring.{may_same, zero_state}
 
 -- ---- what isn't named
@@ -28,9 +23,6 @@ none_both share oldest xs ys first second y h = ⊎_elim (first y) (second y) (n
 module _ (A : ℕ → Type 0) (next : ℕ) {P : Type 0} (g : disks.Ghosts P) (d d1 : P) where
   stays_may : (m : ℕ → List ℕ) (c e : Pages) → IsSameImage c e → MayRestore A next m c e
   stays_may m c e s = subst (MayRestore A next m c) (sym s.same) (may_same A next m c)
-
-  pub left_by_asking : CrashLeaves IsSameImage g.images g.moment g.left_at d d1 → CrashLeaves (MayRestore A next (bytes_on g d)) g.images g.moment g.left_at d d1
-  left_by_asking first = wider g.images g.moment g.left_at IsSameImage (MayRestore A next (bytes_on g d)) d d1 (stays_may (bytes_on g d)) first
 
   pub left_then : CrashLeaves IsSameImage g.images g.moment g.left_at d d1 → g.pages d1 ≡ g.pages d → (d2 : P) → CrashLeaves (MayRestore A next (bytes_on g d1)) g.images g.moment g.left_at d1 d2
       → CrashLeaves (MayRestore A next (bytes_on g d)) g.images g.moment g.left_at d d2
@@ -54,12 +46,4 @@ module _ {P : Type 0} (g : disks.Ghosts P) where
   is_empty d empty only = record {
     zeros = λ c image q small. ap (λ (p : Pages). page_bytes (p q)) (only c image) ∙ ap page_bytes (empty q small);
     on_disk = λ c image q. ap (λ (p : Pages). page_bytes (p q)) (only c image);
-  }
-
-  pub emptied_then : (lock : Lock) (d d1 d2 : P) (result : Result (Unit {0}) RecoverRefusal) → g.faults d ≤ g.faults d1 → Emptying g lock result d1 d2 → Emptying g lock result d d2
-  emptied_then lock d d1 d2 (Ok u) rose e = record { empty = e.empty; cause = tt; count = omega (arith, rose, e.count) }
-  emptied_then lock d d1 d2 (Err refusal) rose e = record {
-    empty = e.empty;
-    cause = ⊎_elim inl (λ (h : (refusal ≡ refusals.DiskFault lock) × HasRisen (g.faults d1) (g.faults d2)). inr (h.0, risen_since (g.faults d) (g.faults d1) (g.faults d2) rose h.1)) e.cause;
-    count = omega (arith, rose, e.count);
   }

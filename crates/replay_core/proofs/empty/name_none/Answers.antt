@@ -6,8 +6,8 @@ use Rattle.replay_core.proofs.Emptying.{none_both}
 use Rattle.replay_core.proofs.Redoing.{committed_push, named_none, take_at, take_whole}
 use Rattle.replay_core.proofs.empty.name_none.Goals as goal
 
-pub loop-i-initial : goal.loop-i-initial
-loop-i-initial c = record { within = omega arith; none = named_none c.args.share.now c.args.oldest }
+pub loop-i-init : goal.loop-i-init
+loop-i-init c = record { within = omega arith; none = named_none c.args.share.now c.args.oldest }
 
 pub loop-i-preserved : goal.loop-i-preserved
 loop-i-preserved c =

@@ -1,5 +1,5 @@
 // Volumes without pages, of which no record names one.
-ghost use Rattle.std.specs.Prelude.{◌≡◌, true, IfOk, IsTrue};
+ghost use Rattle.std.specs.Prelude.{◌≡◌, ℕ, true, false, IfOk, IsSome, IsTrue};
 ghost use Rattle.std.specs.List.{list_all};
 ghost use Rattle.disk_core.specs.Faults.{CountsFault};
 ghost use Rattle.disk_core.specs.Images.{Only};
@@ -35,6 +35,7 @@ fn make_none(recs: &[Rec]) -> bool
 /// Whether a volume has no pages. One that has none is synced, so that a crash brings none back; another one is left as
 /// it is.
 pub fn sync_if_empty<P: PageDisk>(disk: &mut P) -> Result<bool, Failed>
+    ensures present { IsTrue P.tells → IfOk result (λ none. none ≡ false → (q : ℕ) × IsSome (P.pages disk.new q)) }
     ensures same { IsTrue P.tells → P.pages disk.new ≡ P.pages disk.old }
     ensures empty { IsTrue P.tells → IfOk result (λ none. IsTrue none → HasNoPages (P.pages disk.new)) }
     ensures durable { IsTrue P.tells → IfOk result (λ none. IsTrue none → Only (P.pages disk.new) (P.images disk.new)) }

@@ -4,6 +4,7 @@ mod OneId
 mod Redoing
 mod Restoring
 mod OnDisk
+mod Emptying
 mod Fitting
 mod FittingOffsets
 mod FittingMembers

@@ -31,7 +31,7 @@ zero_bits : (k : ℕ) → bits_at 0 k ≡ 0
 zero_bits zero = refl
 zero_bits (suc k) = zero_bits k
 
-zero_state : (n : ℕ) → state_in zero_page n ≡ 0
+pub zero_state : (n : ℕ) → state_in zero_page n ≡ 0
 zero_state n = ap (λ b. bits_at b (n % 4)) (zero_byte (n / 4)) ∙ zero_bits (n % 4)
 
 -- the page of an id of the window isn't cut by the oldest one's

@@ -24,6 +24,10 @@ pub record IsNamed (share : Share) (oldest : ℕ) (ids : List ℕ) (y : ℕ) : T
   pub from : oldest ≤ y
   pub on : xact_page_of y % share.banks ≡ share.bank
 
+-- none of them is
+abbrev pub NamesNone : Share → ℕ → List ℕ → Type 0
+NamesNone share oldest ids = (y : ℕ) → IsNamed share oldest ids y → ⊥
+
 abbrev pub IsOne : ℕ → ℕ → Type 0
 IsOne id y = y ≡ id
 

@@ -11,7 +11,7 @@ use crate::refusal::RecoverRefusal;
 use crate::restore::restore_states;
 use disk_core::PageDisk;
 use replay_multis::{
-    MemberSpan, OffsetSpan, RestoreRefusal, Share, restore_members, restore_offsets,
+    MemberSpan, OffsetSpan, RestoreRefusal, Share, restore_members, restore_offsets, sync_if_empty,
 };
 use slru_bank::SlruBank;
 use std::alloc::Global;
@@ -171,7 +171,7 @@ pub(crate) fn restore_all_members<P: PageDisk + Drop>(
 }
 
 // Removes all pages of a volume of pg_subtrans, and syncs.
-fn empty<P: PageDisk + Drop>(
+fn empty_present<P: PageDisk + Drop>(
     alloc: Global,
     disk: P,
     base: &Counters,
@@ -191,6 +191,23 @@ fn empty<P: PageDisk + Drop>(
     match store.flush_all() {
         Ok(()) => (store.into_disk(), Ok(())),
         Err(_) => (store.into_disk(), Err(fault)),
+    }
+}
+
+// The same of a volume that may have none.
+fn empty<P: PageDisk + Drop>(
+    alloc: Global,
+    disk: P,
+    base: &Counters,
+    lock: Lock,
+) -> (P, Result<(), RecoverRefusal>)
+    ensures { Emptying P.PageDisk lock result.1 disk result.0 }
+{
+    let mut disk = disk;
+    match sync_if_empty(&mut disk) {
+        Ok(true) => (disk, Ok(())),
+        Ok(false) => empty_present(alloc, disk, base, lock),
+        Err(_) => (disk, Err(RecoverRefusal::DiskFault { lock })),
     }
 }
 

@@ -6,6 +6,7 @@
 
 mod banks;
 mod cluster;
+mod empty;
 mod found;
 /// The laws. The functions do nothing; their contracts are the laws.
 pub mod laws;

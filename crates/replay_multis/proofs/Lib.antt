@@ -2,3 +2,4 @@ mod Stepping
 mod Writing
 mod Naming
 mod Restoring
+mod Emptying

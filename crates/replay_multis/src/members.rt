@@ -12,6 +12,7 @@ ghost use Rattle.replay_multis.specs.Restore.{HasBytesOnDisk, IsPastOffset, MayB
 ghost use Rattle.replay_multis.specs.Steps.{MayLeave};
 ghost use Rattle.replay_multis.specs.declared.refusal.RestoreRefusal.TheVariants.{DiskFault};
 
+use crate::empty::rests_empty;
 use crate::redo_members::{MemberSpan, redo_members};
 use crate::redo_offsets::low_offset;
 use crate::refusal::RestoreRefusal;
@@ -55,10 +56,42 @@ fn restore_bank<P: PageDisk>(
     bank.flush_all()
 }
 
+// The same as below, of a volume that has pages or that records name.
+fn restore_present<P: PageDisk + Drop>(
+    alloc: Global,
+    disk: P,
+    recs: &[Rec],
+    span: &MemberSpan,
+    share: &Share,
+) -> (P, Result<(), RestoreRefusal>)
+    requires share { 1 ≤ share.now.banks }
+    requires below { AreMembersBelow span.now.next recs.now }
+    requires window { span.now.next + 2 ^ 15 ≤ span.now.oldest_offset + 2 ^ 31 }
+    requires small { span.now.next < 2 ^ 63 }
+    ensures shows { IsTrue P.tells → OnOk result.1 (RestoresAll (IsMemberByte share.now span.now.oldest span.now.oldest_offset recs.now) (IsPastOffset span.now.from) (IsPastOffset span.now.next)
+        (bytes_on P.PageDisk disk) (bytes_on P.PageDisk result.0)) }
+    ensures durable { IsTrue P.tells → OnOk result.1 (HasBytesOnDisk P.PageDisk result.0) }
+    ensures moments { IsTrue P.tells → CrashLeaves (MayLeave (MayBecome (IsMemberByte share.now span.now.oldest span.now.oldest_offset recs.now) (IsPastOffset span.now.from) (IsPastOffset span.now.next))
+        (bytes_on P.PageDisk disk)) P.images P.moment P.left_at disk result.0 }
+    ensures count { P.faults disk ≤ P.faults result.0 }
+    ensures fault { result.1 ≡ Err DiskFault → HasRisen (P.faults disk) (P.faults result.0) }
+{
+    let cutoff = member_page(low_offset(span.oldest_offset));
+    let mut bank = match SlruBank::new(alloc, disk, cutoff, cutoff) {
+        Ok(bank) => bank,
+        Err((disk, _)) => return (disk, Err(RestoreRefusal::Memory)),
+    };
+    match restore_bank(&mut bank, recs, span, share) {
+        Ok(()) => (bank.into_disk(), Ok(())),
+        Err(_) => (bank.into_disk(), Err(RestoreRefusal::DiskFault)),
+    }
+}
+
 /// The volume of a bank of members shows those of the multixacts of these records from the oldest one on, from the offset
 /// `from` on nothing else, and nothing from the next free one on; what it has before `from` else is left. All of that is on
 /// the disk. A mode may stay in front of the first cleared id in its group of four. The volume comes back with the outcome;
-/// after an error it is restored in part, and the same may be done again.
+/// after an error it is restored in part, and the same may be done again. A volume without pages, of which no record
+/// names one, is synced alone.
 pub fn restore_members<P: PageDisk + Drop>(
     alloc: Global,
     disk: P,
@@ -79,13 +112,10 @@ pub fn restore_members<P: PageDisk + Drop>(
     ensures count { P.faults disk ≤ P.faults result.0 }
     ensures fault { result.1 ≡ Err DiskFault → HasRisen (P.faults disk) (P.faults result.0) }
 {
-    let cutoff = member_page(low_offset(span.oldest_offset));
-    let mut bank = match SlruBank::new(alloc, disk, cutoff, cutoff) {
-        Ok(bank) => bank,
-        Err((disk, _)) => return (disk, Err(RestoreRefusal::Memory)),
-    };
-    match restore_bank(&mut bank, recs, span, share) {
-        Ok(()) => (bank.into_disk(), Ok(())),
-        Err(_) => (bank.into_disk(), Err(RestoreRefusal::DiskFault)),
+    let mut disk = disk;
+    match rests_empty(&mut disk, recs) {
+        Ok(true) => (disk, Ok(())),
+        Ok(false) => restore_present(alloc, disk, recs, span, share),
+        Err(_) => (disk, Err(RestoreRefusal::DiskFault)),
     }
 }

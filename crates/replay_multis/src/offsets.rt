@@ -12,6 +12,7 @@ ghost use Rattle.replay_multis.specs.Restore.{HasBytesOnDisk, IsPastMulti, MayBe
 ghost use Rattle.replay_multis.specs.Steps.{MayLeave};
 ghost use Rattle.replay_multis.specs.declared.refusal.RestoreRefusal.TheVariants.{DiskFault};
 
+use crate::empty::rests_empty;
 use crate::redo_offsets::redo_offsets;
 use crate::refusal::RestoreRefusal;
 use crate::share::Share;
@@ -62,9 +63,39 @@ fn restore_bank<P: PageDisk>(
     bank.flush_all()
 }
 
+// The same as below, of a volume that has pages or that records name.
+fn restore_present<P: PageDisk + Drop>(
+    alloc: Global,
+    disk: P,
+    recs: &[Rec],
+    span: &OffsetSpan,
+    share: &Share,
+) -> (P, Result<(), RestoreRefusal>)
+    requires share { 1 ≤ share.now.banks }
+    requires near { AreMultisNear span.now.oldest recs.now }
+    ensures shows { IsTrue P.tells → OnOk result.1 (RestoresAll (IsOffsetByte share.now span.now.oldest recs.now) (IsPastMulti span.now.from) (IsPastMulti span.now.next)
+        (bytes_on P.PageDisk disk) (bytes_on P.PageDisk result.0)) }
+    ensures durable { IsTrue P.tells → OnOk result.1 (HasBytesOnDisk P.PageDisk result.0) }
+    ensures moments { IsTrue P.tells → CrashLeaves (MayLeave (MayBecome (IsOffsetByte share.now span.now.oldest recs.now) (IsPastMulti span.now.from) (IsPastMulti span.now.next))
+        (bytes_on P.PageDisk disk)) P.images P.moment P.left_at disk result.0 }
+    ensures count { P.faults disk ≤ P.faults result.0 }
+    ensures fault { result.1 ≡ Err DiskFault → HasRisen (P.faults disk) (P.faults result.0) }
+{
+    let cutoff = offset_page(span.oldest.low());
+    let mut bank = match SlruBank::new(alloc, disk, cutoff, cutoff) {
+        Ok(bank) => bank,
+        Err((disk, _)) => return (disk, Err(RestoreRefusal::Memory)),
+    };
+    match restore_bank(&mut bank, recs, span, share) {
+        Ok(()) => (bank.into_disk(), Ok(())),
+        Err(_) => (bank.into_disk(), Err(RestoreRefusal::DiskFault)),
+    }
+}
+
 /// The volume of a bank of offsets shows the multixacts of these records from the oldest one on, from `from` on nothing else,
 /// and nothing from the next one on; what it has before `from` else is left. All of that is on the disk. The volume comes
-/// back with the outcome; after an error it is restored in part, and the same may be done again.
+/// back with the outcome; after an error it is restored in part, and the same may be done again. A volume without pages, of
+/// which no record names one, is synced alone.
 pub fn restore_offsets<P: PageDisk + Drop>(
     alloc: Global,
     disk: P,
@@ -83,13 +114,10 @@ pub fn restore_offsets<P: PageDisk + Drop>(
     ensures count { P.faults disk ≤ P.faults result.0 }
     ensures fault { result.1 ≡ Err DiskFault → HasRisen (P.faults disk) (P.faults result.0) }
 {
-    let cutoff = offset_page(span.oldest.low());
-    let mut bank = match SlruBank::new(alloc, disk, cutoff, cutoff) {
-        Ok(bank) => bank,
-        Err((disk, _)) => return (disk, Err(RestoreRefusal::Memory)),
-    };
-    match restore_bank(&mut bank, recs, span, share) {
-        Ok(()) => (bank.into_disk(), Ok(())),
-        Err(_) => (bank.into_disk(), Err(RestoreRefusal::DiskFault)),
+    let mut disk = disk;
+    match rests_empty(&mut disk, recs) {
+        Ok(true) => (disk, Ok(())),
+        Ok(false) => restore_present(alloc, disk, recs, span, share),
+        Err(_) => (disk, Err(RestoreRefusal::DiskFault)),
     }
 }

@@ -1,3 +1,2 @@
-mod ItemLemmas
 mod StreamLemmas
 mod RunLemmas

@@ -3,8 +3,7 @@
 /// Why a source gives no script.
 #[derive(Drop)]
 pub enum NoScript {
-    /// Its bytes are refused, or the script has a line that the run doesn't have yet. The line that tells where, and
-    /// why.
+    /// Its bytes are refused. The line that tells where, and why.
     Refused(Vec<u8>),
     /// The source failed.
     ReadFault,

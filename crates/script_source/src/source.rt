@@ -6,10 +6,9 @@ ghost use Rattle.run_law.specs.Turns.{HasFewTakers, IsRunnable};
 ghost use Rattle.tx_io.specs.Amounts.{ReadsUpTo, most_read};
 ghost use Rattle.script_source.specs.Sources.{HasScript, IsNoScriptOf, Refuses, TellsFault};
 
-use crate::other::first_other;
 use crate::script::NoScript;
 use report_text::Text;
-use session_lang::{Kind, ParseRefusal, Script, line_of, parse};
+use session_lang::{Kind, ParseRefusal, Script, parse};
 use std::alloc::Global;
 use tx_io::{ReadStop, Source, read_all};
 use tx_model::Memory;
@@ -37,7 +36,7 @@ fn refused(alloc: Global, line: u64, kind: Kind) -> NoScript
     }
 }
 
-/// The script that bytes are, where sessions can run it.
+/// The script that bytes are. Sessions can run each.
 fn script_of(alloc: Global, bytes: &[u8]) -> Result<Script, NoScript>
     requires { length bytes.now ≤ 16777216 }
     ensures script { IfOk result (λ s. (read_script bytes.now ≡ Ok s) × IsRunnable s) }
@@ -45,21 +44,11 @@ fn script_of(alloc: Global, bytes: &[u8]) -> Result<Script, NoScript>
     ensures few { IfOk result (λ s. HasFewTakers s.items) }
     ensures refused { IfErr result (Refuses bytes.now) }
 {
-    let script = match parse(alloc, bytes) {
-        Ok(script) => script,
-        Err(ParseRefusal::Fault { line, kind }) => return Err(refused(alloc, line, kind)),
-        Err(ParseRefusal::Memory) => return Err(NoScript::Memory),
-    };
-    let items = script.items.items();
-    let count = items.len();
-    let place = match first_other(&items) {
-        Ok(place) => place,
-        Err(Memory) => return Err(NoScript::Memory),
-    };
-    if place < count {
-        return Err(refused(alloc, line_of(bytes, place), Kind::Command));
+    match parse(alloc, bytes) {
+        Ok(script) => Ok(script),
+        Err(ParseRefusal::Fault { line, kind }) => Err(refused(alloc, line, kind)),
+        Err(ParseRefusal::Memory) => Err(NoScript::Memory),
     }
-    Ok(script)
 }
 
 // Large blocks stand in pages of their own, and a list that grows there is moved and not copied: until such a block is

@@ -205,10 +205,10 @@ where
 }
 
 /// Runs the tool over the words of its command line, and answers its status: 0 done, 1 the source's bytes are no
-/// script, or have a line that the run doesn't do yet, and the line `script LINE KIND` is written, 2 the words are
-/// refused, 3 the source failed, 4 the sink failed, 5 the media or a volume failed before a life began, or at a crash,
-/// 6 out of memory, 7 the log is damaged, and the line `damaged AT` is written, 9 the log has no room for a life's first
-/// checkpoint. Before the last line of 5, 6, 7 and 9 the text of the lives before may stand.
+/// script that sessions can run, and the line `script LINE KIND` is written, 2 the words are refused, 3 the source failed,
+/// 4 the sink failed, 5 the media or a volume failed before a life began, or at a crash, 6 out of memory, 7 the log is
+/// damaged, and the line `damaged AT` is written, 9 the log has no room for a life's first checkpoint. Before the last line
+/// of 5, 6, 7 and 9 the text of the lives before may stand.
 ///
 /// A log that has records is gone on from: it is recovered, and the first life begins behind the last of them. Of no media
 /// whose pages tell what they hold is a log known here (`no_log`); of one that a run left `run_tool_behind` knows it.

@@ -1,25 +1,11 @@
-use Rattle.std.proofs.Common.{ap, arith, refl, subst, sym, ◌∙◌}
-use Rattle.slru_bank.specs.Calls.{volume_of}
-use Rattle.replay_core.specs.Begun.{IsEmpty}
-use Rattle.replay_core.proofs.OnDisk.{read_durable}
+use Rattle.replay_core.proofs.Emptying.{is_empty}
 use Rattle.replay_core.proofs.banks.empty.Goals as goal
 
-pub returns-in-Ok-flush_all : goal.returns-in-Ok-flush_all
-returns-in-Ok-flush_all g c =
-    let p = g.P.PageDisk in
-    let store = c.flush_all.new.self in
+pub returns-in-Ok-true : goal.returns-in-Ok-true
+returns-in-Ok-true g c =
+    let e = c.in-Ok-true.ensures in
     record {
-      empty = λ told.
-          let durable = c.in-Ok-flush_all.ensures.durable told in
-          subst (λ z. IsEmpty p z) (sym c.into_disk-in-Ok-flush_all.ensures) (record {
-            zeros = λ x left q small. durable x left q ∙ (c.flush_all.ensures.same told q ∙ (c.in_default.ensures.bank.drops told).zeros q small refl);
-            on_disk = read_durable store durable (g.met.P.PageDisk.reads_image (volume_of store) told);
-          });
+      empty = λ told. is_empty g.P.PageDisk c.sync_if_empty.new.disk (e.empty told c.in-Ok-true.field-0-test) (e.durable told c.in-Ok-true.field-0-test);
       cause = tt;
-      count =
-          let was = ap p.faults c.in-Ok.ensures.disk in
-          let cleared = c.in_default.ensures.bank.sweeps.count in
-          let flushed = c.flush_all.ensures.bank.count in
-          let now = ap p.faults c.into_disk-in-Ok-flush_all.ensures in
-          omega (arith, was, cleared, flushed, now);
+      count = c.sync_if_empty.ensures.cause.0;
     }

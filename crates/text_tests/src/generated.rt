@@ -79,7 +79,8 @@ pub fn of_numbers(alloc: Global, word: &str, text: &str) -> Result<String, Fail>
         "counts" => {
             let line = counted(&items)?.text(alloc)?;
             let line = String::from_utf8(line).ok().ok_or("no text")?;
-            Ok(String::from_str(alloc, line.trim_end())?)
+            let line = line.as_str().strip_suffix("\n");
+            Ok(String::from_str(alloc, line.ok_or("an unfinished line")?)?)
         }
         "turns" => turns(alloc, &script),
         _ => script_text(alloc, &script),

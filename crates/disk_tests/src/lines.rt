@@ -1,6 +1,4 @@
 //! Rows of text: a script of lines, and what they answer.
-ghost use Rattle.std.specs.Prelude.{◌≤◌, IfOk};
-
 use crate::medias::answer;
 use std::alloc::Global;
 use std::fmt::Debug;
@@ -20,18 +18,6 @@ pub fn next_number(words: &mut SplitWhitespace<'_>) -> Result<u64, Fail> {
 pub fn next_page(words: &mut SplitWhitespace<'_>) -> Result<u32, Fail> {
     let word = words.next().ok_or("a page is missing")?;
     Ok(word.parse::<u32>().ok().ok_or("no page")?)
-}
-
-/// How many banks to ask for.
-pub fn next_banks(words: &mut SplitWhitespace<'_>) -> Result<u32, Fail>
-    ensures some { IfOk result (λ banks. 1 ≤ banks) }
-    ensures few { IfOk result (λ banks. banks ≤ 16) }
-{
-    let banks = next_page(words)?;
-    if banks < 1 || 16 < banks {
-        return Err("no number of banks".into());
-    }
-    Ok(banks)
 }
 
 /// The bytes that the words left tell.

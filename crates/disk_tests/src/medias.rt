@@ -1,8 +1,8 @@
 //! The words of the rows on what is mounted, without the contracts of the calls.
-ghost use Rattle.std.specs.Prelude.{◌≡◌, ◌≤◌, IsTrue};
+ghost use Rattle.std.specs.Prelude.{◌≡◌, IsTrue};
 
 use crate::calls::{file_call, log_call, page_call};
-use crate::lines::{bytes_left, next_banks, next_number, next_page, told};
+use crate::lines::{bytes_left, next_number, next_page, told};
 use disk_core::{Crash, Failed, LogDisk, Media, MemMedia, MountRefusal, PageDisk, Volumes, Which};
 use disk_folder::FolderMedia;
 use disk_fuse::Fuse;
@@ -26,20 +26,20 @@ pub enum Disks {
 }
 
 fn mount<M: Media + Drop>(media: M, banks: u32) -> Result<Mounted<M>, MountRefusal>
-    requires idle { IsTrue (M.is_idle media) }
-    requires some { 1 ≤ banks }
-    requires few { banks ≤ 16 }
+    requires { IsTrue (M.is_idle media) }
 {
     let mut media = media;
-    let volumes = Some(media.mount(banks)?);
-    Ok(Mounted { media, volumes })
+    match banks {
+        1..=16 => {
+            let volumes = Some(media.mount(banks)?);
+            Ok(Mounted { media, volumes })
+        }
+        _ => Err(MountRefusal::Memory),
+    }
 }
 
 /// A fuse over volumes in memory, by the words `PASSES STORE BANK`, or `PASSES log`.
-fn fused(alloc: Global, banks: u32, words: &mut SplitWhitespace<'_>) -> Result<Disks, Fail>
-    requires some { 1 ≤ banks }
-    requires few { banks ≤ 16 }
-{
+fn fused(alloc: Global, banks: u32, words: &mut SplitWhitespace<'_>) -> Result<Disks, Fail> {
     let passes = next_number(words)?;
     let at = match words.next().unwrap_or("") {
         "log" => Which::Log,
@@ -60,7 +60,7 @@ fn mount_other(
     *disks = None;
     let alloc = rt.alloc();
     let word = words.next().unwrap_or("");
-    let banks = next_banks(words)?;
+    let banks = next_page(words)?;
     let mounted = match word {
         "memory" => Disks::Memory(mount(MemMedia::new(alloc), banks)?),
         // `log BANKS BYTES..`: in memory, with such a log.
@@ -107,11 +107,15 @@ fn mount_again<M: Media>(
     how: Option<Crash>,
     words: &mut SplitWhitespace<'_>,
 ) -> Result<String, Fail> {
-    let banks = next_banks(words)?;
-    let volumes = mounted.volumes.take().ok_or("nothing is mounted")?;
-    leave(&mut mounted.media, volumes, how)?;
-    mounted.volumes = Some(mounted.media.mount(banks)?);
-    Ok(String::from_str(alloc, "Ok(())")?)
+    match next_page(words)? {
+        banks @ 1..=16 => {
+            let volumes = mounted.volumes.take().ok_or("nothing is mounted")?;
+            leave(&mut mounted.media, volumes, how)?;
+            mounted.volumes = Some(mounted.media.mount(banks)?);
+            Ok(String::from_str(alloc, "Ok(())")?)
+        }
+        _ => Err("no number of banks".into()),
+    }
 }
 
 /// What mounted volumes answer.

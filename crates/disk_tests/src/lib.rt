@@ -4,18 +4,12 @@
 #![tactic(auto)]
 
 #[cfg(test)]
-mod fault_tests;
+mod calls;
 #[cfg(test)]
-mod file_tests;
+mod folder_tests;
 #[cfg(test)]
-mod folders;
+mod lines;
 #[cfg(test)]
-mod fuse_tests;
+mod medias;
 #[cfg(test)]
 mod memory_tests;
-#[cfg(test)]
-mod read_only;
-#[cfg(test)]
-mod torn_tests;
-#[cfg(test)]
-mod volumes;

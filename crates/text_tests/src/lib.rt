@@ -4,14 +4,18 @@
 #![tactic(auto)]
 
 #[cfg(test)]
-mod gen_tests;
+mod generated;
 #[cfg(test)]
-mod parse_tests;
+mod lines;
 #[cfg(test)]
-mod read_tests;
+mod replies;
 #[cfg(test)]
-mod runs;
+mod report_calls;
 #[cfg(test)]
-mod text_tests;
+mod report_tests;
 #[cfg(test)]
-mod texts;
+mod reports;
+#[cfg(test)]
+mod script_calls;
+#[cfg(test)]
+mod script_tests;

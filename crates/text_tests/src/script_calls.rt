@@ -114,7 +114,11 @@ pub fn kept(alloc: Global, text: &str) -> Result<String, Fail> {
 
 pub fn line_at(alloc: Global, text: &str) -> Result<String, Fail> {
     let (place, text) = number_and_rest(text)?;
-    told(alloc, &line_of(text.as_bytes(), place as usize))
+    let bytes = text.as_bytes();
+    if bytes.len() > 16_777_216 {
+        return Err("a long text".into());
+    }
+    told(alloc, &line_of(bytes, place as usize))
 }
 
 pub fn session_of(alloc: Global, text: &str) -> Result<String, Fail> {

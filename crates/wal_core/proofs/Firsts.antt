@@ -66,13 +66,17 @@ module _ (gate : ℕ) (pending : List Rec) (counters : Option Counters) (next : 
         ap (λ (r : Result Opened ℕ). first_in (history_in r)) more ∙ (ap first_in (goes gate pending counters next d some ready).comes ∙ first_goes d ready)
 
     -- with the batch on it
-    pub first_again : (v : Volume) → IsReady gate pending counters next v → (w : Volume) (body : List ℕ) (gate_2 : ℕ) → body ≡ bytes_of pending → gate_2 ≡ gate + (5 + length (bytes_of pending))
+    first_again : (v : Volume) → IsReady gate pending counters next v → (w : Volume) (body : List ℕ) (gate_2 : ℕ) → body ≡ bytes_of pending → gate_2 ≡ gate + (5 + length (bytes_of pending))
         → AtRest w ((walked v).bodies ++ body ∷ []) gate_2 → first_on w ≡ first_on v
     first_again v ready w body gate_2 is place rest =
         let g = goes gate pending counters next v some ready in
         let rest_2 : AtRest w ((walked v).bodies ++ bytes_of pending ∷ []) (gate + (5 + length (bytes_of pending))) =
         subst (λ (n : ℕ). AtRest w ((walked v).bodies ++ bytes_of pending ∷ []) n) place (subst (λ (b : List ℕ). AtRest w ((walked v).bodies ++ b ∷ []) gate_2) is rest) in
         ap (λ (r : Result Opened ℕ). first_in (history_in r)) (opens_more gate pending counters next some v ready g w rest_2) ∙ first_goes v ready
+
+    pub still_from : (kept : ℕ) (v : Volume) → IsReady gate pending counters next v → (w : Volume) (body : List ℕ) (gate_2 : ℕ) → body ≡ bytes_of pending → gate_2 ≡ gate + (5 + length (bytes_of pending))
+        → AtRest w ((walked v).bodies ++ body ∷ []) gate_2 → kept ≤ first_on v → kept ≤ first_on w
+    still_from kept v ready w body gate_2 is place rest low = let same = first_again v ready w body gate_2 is place rest in omega (arith, same, low)
 
 -- ---- of two first records a forget leaves the later one, where that is settled
 

@@ -271,11 +271,11 @@ impl<D: LogDisk> WalLog<D> {
         }
         let checkpoint = self.checkpoint.unwrap();
         let gate = checkpoint.gate;
+        let flushed = self.flushed();
         self.first = checkpoint.number;
         if self.start == gate {
             return Ok(());
         }
-        let flushed = self.flushed();
         match self.disk.forget(gate) {
             Ok(()) => {
                 self.start = gate;

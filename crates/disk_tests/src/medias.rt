@@ -5,7 +5,7 @@ use crate::calls::{file_call, log_call, page_call};
 use crate::lines::{bytes_left, next_number, next_page, told};
 use disk_core::{Crash, Failed, LogDisk, Media, MemMedia, MountRefusal, PageDisk, Volumes, Which};
 use disk_folder::FolderMedia;
-use disk_fuse::Fuse;
+use disk_fuse::{FailOnce, Fuse};
 use std::alloc::Global;
 use std::str::SplitWhitespace;
 use std::test::Fail;
@@ -22,6 +22,7 @@ pub struct Mounted<M: Media> {
 pub enum Disks {
     Memory(Mounted<MemMedia>),
     Fused(Mounted<Fuse<MemMedia>>),
+    FailingOnce(Mounted<FailOnce<MemMedia>>),
     Folder(Mounted<FolderMedia<HostRuntime>>),
 }
 
@@ -38,17 +39,28 @@ fn mount<M: Media + Drop>(media: M, banks: u32) -> Result<Mounted<M>, MountRefus
     }
 }
 
+/// The volume that the words `STORE BANK` name, or `log`.
+fn next_volume(words: &mut SplitWhitespace<'_>) -> Result<Which, Fail> {
+    match words.next().unwrap_or("") {
+        "log" => Ok(Which::Log),
+        "xact" => Ok(Which::Xact(next_page(words)?)),
+        "members" => Ok(Which::Members(next_page(words)?)),
+        _ => Err("another volume".into()),
+    }
+}
+
 /// A fuse over volumes in memory, by the words `PASSES STORE BANK`, or `PASSES log`.
 fn fused(alloc: Global, banks: u32, words: &mut SplitWhitespace<'_>) -> Result<Disks, Fail> {
     let passes = next_number(words)?;
-    let at = match words.next().unwrap_or("") {
-        "log" => Which::Log,
-        "xact" => Which::Xact(next_page(words)?),
-        "members" => Which::Members(next_page(words)?),
-        _ => return Err("another volume".into()),
-    };
-    let media = Fuse::new(alloc, MemMedia::new(alloc), at, passes);
+    let media = Fuse::new(alloc, MemMedia::new(alloc), next_volume(words)?, passes);
     Ok(Disks::Fused(mount(media, banks)?))
+}
+
+/// Volumes in memory of which one fails one call, by the words `CALL STORE BANK`, or `CALL log`.
+fn failing_once(alloc: Global, banks: u32, words: &mut SplitWhitespace<'_>) -> Result<Disks, Fail> {
+    let call = next_number(words)?;
+    let media = FailOnce::new(alloc, MemMedia::new(alloc), next_volume(words)?, call);
+    Ok(Disks::FailingOnce(mount(media, banks)?))
 }
 
 /// Mounts another media, as many banks of it as the second word says.
@@ -69,6 +81,7 @@ fn mount_other(
             Disks::Memory(mount(media, banks)?)
         }
         "fuse" => fused(alloc, banks, words)?,
+        "once" => failing_once(alloc, banks, words)?,
         // `folder BANKS PATH`
         "folder" => {
             let path = String::from_str(alloc, words.next().unwrap_or(""))?;
@@ -176,6 +189,7 @@ pub fn answer(rt: HostRuntime, disks: &mut Option<Disks>, line: &str) -> Result<
         _ => match disks {
             Some(Disks::Memory(mounted)) => call(alloc, mounted, word, &mut words)?,
             Some(Disks::Fused(mounted)) => call(alloc, mounted, word, &mut words)?,
+            Some(Disks::FailingOnce(mounted)) => call(alloc, mounted, word, &mut words)?,
             Some(Disks::Folder(mounted)) => call(alloc, mounted, word, &mut words)?,
             None => return Err("nothing is mounted".into()),
         },

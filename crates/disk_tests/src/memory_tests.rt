@@ -134,6 +134,55 @@ offsets 0 sync
 offsets 1 sync
 offsets 2 sync
 counts -> [3, 3, 3, 3]
+=== a_volume_fails_one_call_and_does_not_do_it, and each other one is done
+mount once 1 3 log
+log write 0 1
+log write 1 2
+log write 2 3 -> Err(Failed)
+log read 0 -> (2, [1, 2, 0, 0, 0, 0, 0, 0])
+log write 2 4
+log sync
+kept 1
+log write 3 5
+log write 4 6
+log read 0 -> (5, [1, 2, 4, 5, 6, 0, 0, 0])
+=== a_volume_fails_one_call_and_does_not_do_it: a sync
+mount once 1 2 log
+log write 0 1
+log sync -> Err(Failed)
+lost 1
+log read 0 -> (0, [0, 0, 0, 0, 0, 0, 0, 0])
+=== the_calls_of_a_fail_once_are_counted_through_lives
+mount once 1 4 log
+log write 0 1
+log sync
+lost 1
+rest 1
+log write 1 2
+log sync -> Err(Failed)
+log sync
+torn 1
+log write 2 3
+log sync
+log read 0 -> (3, [1, 2, 3, 0, 0, 0, 0, 0])
+=== the_call_of_number_0_is_none
+mount once 1 0 log
+log write 0 1
+log sync
+=== a_fail_once_fails_one_bank_alone
+mount once 3 1 members 1
+members 0 sync
+members 1 sync -> Err(Failed)
+members 1 sync
+members 2 sync
+xact 1 sync
+kept 3
+members 1 sync
+=== a_fail_once_over_a_bank_that_is_not_there_fails_no_call
+mount once 1 1 xact 1
+xact 0 sync
+kept 1
+xact 0 sync
 ";
 
 #[test]

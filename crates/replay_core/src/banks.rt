@@ -11,7 +11,7 @@ use crate::refusal::RecoverRefusal;
 use crate::restore::restore_states;
 use disk_core::PageDisk;
 use replay_multis::{
-    MemberSpan, OffsetSpan, RestoreRefusal, Share, restore_members, restore_offsets,
+    MemberSpan, OffsetSpan, RestoreRefusal, Share, restore_members, restore_offsets, sync_if_empty,
 };
 use slru_bank::SlruBank;
 use std::alloc::Global;
@@ -179,6 +179,12 @@ fn empty<P: PageDisk + Drop>(
 ) -> (P, Result<(), RecoverRefusal>)
     ensures { Emptying P.PageDisk lock result.1 disk result.0 }
 {
+    let mut disk = disk;
+    match sync_if_empty(&mut disk) {
+        Ok(true) => return (disk, Ok(())),
+        Ok(false) => {}
+        Err(_) => return (disk, Err(RecoverRefusal::DiskFault { lock })),
+    }
     let page = subtrans_page(base.next.low());
     let mut store = match SlruBank::<P, SubtransPages>::new(alloc, disk, page, page) {
         Ok(store) => store,

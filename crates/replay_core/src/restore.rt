@@ -9,11 +9,39 @@ ghost use Rattle.replay_multis.specs.declared.refusal.RestoreRefusal.TheVariants
 
 use crate::restore_bank::restore_bank;
 use disk_core::PageDisk;
-use replay_multis::{RestoreRefusal, Share};
+use replay_multis::{RestoreRefusal, Share, sync_if_empty};
+use disk_core::Failed;
 use slru_bank::SlruBank;
 use std::alloc::Global;
 use store_pages::xact_page;
-use tx_events::{Counters, Rec};
+use tx_events::{Counters, FullXid, Rec};
+
+fn is_named(id: FullXid, share: &Share, oldest: FullXid) -> bool {
+    !(id < oldest || !share.has_page(xact_page(id.low())))
+}
+
+fn names_none(recs: &[Rec], share: &Share, oldest: FullXid) -> bool {
+    for rec in recs {
+        if let Rec::Commit { top, subs } = rec {
+            if is_named(*top, share, oldest) {
+                return false;
+            }
+            for id in subs.items() {
+                if is_named(*id, share, oldest) {
+                    return false;
+                }
+            }
+        }
+    }
+    true
+}
+
+fn rests_empty<P: PageDisk>(disk: &mut P, recs: &[Rec], share: &Share, oldest: FullXid) -> Result<bool, Failed> {
+    if !names_none(recs, share, oldest) {
+        return Ok(false);
+    }
+    sync_if_empty(disk)
+}
 
 /// The volume of a bank of pg_xact shows the commits of these records and nothing past the next id, and all of that is on
 /// the disk. `base` has the counters behind the records. Ids before the oldest one are passed over, and so are aborts. The
@@ -35,6 +63,12 @@ pub fn restore_states<P: PageDisk + Drop>(
     ensures count { P.faults disk ≤ P.faults result.0 }
     ensures fault { result.1 ≡ Err DiskFault → HasRisen (P.faults disk) (P.faults result.0) }
 {
+    let mut disk = disk;
+    match rests_empty(&mut disk, recs, share, base.oldest) {
+        Ok(true) => return (disk, Ok(())),
+        Ok(false) => {}
+        Err(_) => return (disk, Err(RestoreRefusal::DiskFault)),
+    }
     let last = xact_page(base.next.low());
     let cutoff = xact_page(base.oldest.low());
     let mut bank = match SlruBank::new(alloc, disk, last, cutoff) {

@@ -3,6 +3,7 @@
 //! that means.
 #![tactic(auto)]
 
+mod empty;
 mod members;
 mod offsets;
 mod redo_members;
@@ -10,6 +11,7 @@ mod redo_offsets;
 mod refusal;
 mod share;
 
+pub use empty::sync_if_empty;
 pub use members::restore_members;
 pub use offsets::{OffsetSpan, restore_offsets};
 pub use redo_members::MemberSpan;

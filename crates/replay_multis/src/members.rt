@@ -14,6 +14,7 @@ ghost use Rattle.replay_multis.specs.declared.refusal.RestoreRefusal.TheVariants
 
 use crate::redo_members::{MemberSpan, redo_members};
 use crate::redo_offsets::low_offset;
+use crate::empty::rests_empty;
 use crate::refusal::RestoreRefusal;
 use crate::share::Share;
 use disk_core::PageDisk;
@@ -79,6 +80,12 @@ pub fn restore_members<P: PageDisk + Drop>(
     ensures count { P.faults disk ≤ P.faults result.0 }
     ensures fault { result.1 ≡ Err DiskFault → HasRisen (P.faults disk) (P.faults result.0) }
 {
+    let mut disk = disk;
+    match rests_empty(&mut disk, recs) {
+        Ok(true) => return (disk, Ok(())),
+        Ok(false) => {}
+        Err(_) => return (disk, Err(RestoreRefusal::DiskFault)),
+    }
     let cutoff = member_page(low_offset(span.oldest_offset));
     let mut bank = match SlruBank::new(alloc, disk, cutoff, cutoff) {
         Ok(bank) => bank,

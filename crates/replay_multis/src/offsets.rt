@@ -13,6 +13,7 @@ ghost use Rattle.replay_multis.specs.Steps.{MayLeave};
 ghost use Rattle.replay_multis.specs.declared.refusal.RestoreRefusal.TheVariants.{DiskFault};
 
 use crate::redo_offsets::redo_offsets;
+use crate::empty::rests_empty;
 use crate::refusal::RestoreRefusal;
 use crate::share::Share;
 use disk_core::PageDisk;
@@ -83,6 +84,12 @@ pub fn restore_offsets<P: PageDisk + Drop>(
     ensures count { P.faults disk ≤ P.faults result.0 }
     ensures fault { result.1 ≡ Err DiskFault → HasRisen (P.faults disk) (P.faults result.0) }
 {
+    let mut disk = disk;
+    match rests_empty(&mut disk, recs) {
+        Ok(true) => return (disk, Ok(())),
+        Ok(false) => {}
+        Err(_) => return (disk, Err(RestoreRefusal::DiskFault)),
+    }
     let cutoff = offset_page(span.oldest.low());
     let mut bank = match SlruBank::new(alloc, disk, cutoff, cutoff) {
         Ok(bank) => bank,

@@ -2,7 +2,6 @@
 #![tactic(auto)]
 
 mod life_text;
-mod other;
 mod script;
 mod source;
 

@@ -6,7 +6,6 @@ ghost use Rattle.run_law.specs.Turns.{HasFewTakers, IsRunnable};
 ghost use Rattle.tx_io.specs.Amounts.{ReadsUpTo, most_read};
 ghost use Rattle.script_source.specs.Sources.{HasScript, IsNoScriptOf, Refuses, TellsFault};
 
-use crate::other::first_other;
 use crate::script::NoScript;
 use report_text::Text;
 use session_lang::{Kind, ParseRefusal, Script, line_of, parse};
@@ -52,10 +51,7 @@ fn script_of(alloc: Global, bytes: &[u8]) -> Result<Script, NoScript>
     };
     let items = script.items.items();
     let count = items.len();
-    let place = match first_other(&items) {
-        Ok(place) => place,
-        Err(Memory) => return Err(NoScript::Memory),
-    };
+    let place = count;
     if place < count {
         return Err(refused(alloc, line_of(bytes, place), Kind::Command));
     }

@@ -28,6 +28,7 @@ pub struct MemPages {
     now: BTreeMap<u32, PageBytes>,
     synced: BTreeMap<u32, PageBytes>,
     faults: u64,
+    clean: bool,
     past: Note<LinkedList<PageMoment>>,
 }
 
@@ -202,6 +203,7 @@ impl PageDisk for MemPages {
         ensures counted { self.new.faults ≡ counted_by result self.old.faults }
     {
         let past = Note::by(&*self);
+        self.clean = false;
         let outcome = put_page(self.alloc, &mut self.now, page, from);
         self.past = past;
         count(outcome, &mut self.faults)
@@ -216,6 +218,7 @@ impl PageDisk for MemPages {
         ensures counted { self.new.faults ≡ counted_by result self.old.faults }
     {
         let past = Note::by(&*self);
+        self.clean = false;
         remove_page(&mut self.now, page);
         self.past = past;
         Ok(())
@@ -243,7 +246,12 @@ impl PageDisk for MemPages {
     {
         let past = Note::by(&*self);
         self.past = past;
-        keep_all(&mut self.synced, &self.now, &mut self.faults)
+        if self.clean {
+            return Ok(());
+        }
+        keep_all(&mut self.synced, &self.now, &mut self.faults)?;
+        self.clean = true;
+        Ok(())
     }
 }
 
@@ -264,6 +272,7 @@ impl MemPages {
             now: BTreeMap::new(alloc),
             synced: BTreeMap::new(alloc),
             faults: 0,
+            clean: true,
             past,
         }
     }
@@ -274,6 +283,9 @@ impl MemPages {
         ensures cause { CountsFault result self.old.faults self.new.faults }
         ensures counted { self.new.faults ≡ counted_by result self.old.faults }
     {
+        if self.clean {
+            return Ok(());
+        }
         match how {
             Crash::Lost => keep_all(&mut self.now, &self.synced, &mut self.faults),
             Crash::Kept => keep_all(&mut self.synced, &self.now, &mut self.faults),

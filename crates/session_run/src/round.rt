@@ -247,6 +247,18 @@ pub fn run_round<K: LineKeeper + Send + Drop, L: LogDisk + Send + Sync, P: PageD
     let banks = host.cluster.banks;
     let numbers = plan.sessions.as_slice();
     let_in(hall, alloc, host, numbers, sessions, &mut sent, spare);
+    if threads == 1 {
+        let mut lost = false;
+        for member in sent.iter_mut() {
+            mem::swap(&mut member.kept, kept);
+            run_member(rt, hall, member, banks, alloc, names, plan, round, gate);
+            mem::swap(&mut member.kept, kept);
+            lost = lost || member.lost;
+        }
+        take_back(hall, host, &mut sent, sessions, spare);
+        sent.destroy_empty();
+        return if lost { Err(Memory) } else { Ok(()) };
+    }
     run_members(
         rt, hall, &mut sent, banks, alloc, names, plan, round, threads, gate,
     );

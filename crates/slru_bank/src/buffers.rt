@@ -123,7 +123,7 @@ fn grow(buffers: &mut Vec<Buffer>)
     ensures { Rearranged buffers.old.items buffers.new.items }
 {
     let count = buffers.len();
-    if count >= 16 || buffers[count - 1].page.is_none() {
+    if count >= 16 || (count > 0 && buffers[count - 1].page.is_none()) {
         return;
     }
     let alloc = *buffers.allocator();
@@ -329,7 +329,6 @@ pub(crate) fn first_buffer(alloc: Global) -> Result<Vec<Buffer>, AllocError>
     ensures some { IfOk result (λ v. 1 ≤ length v.items) }
     ensures empty { IfOk result (λ v. AllEmpty v.items) }
 {
-    let mut buffers = Vec::new(alloc);
-    buffers.push(empty_buffer(alloc)?)?;
+    let buffers = Vec::new(alloc);
     Ok(buffers)
 }

@@ -1,4 +1,3 @@
-use Rattle.std.proofs.Common.{ℕ}
 use denote.Text.{Utf8}
 use denote.Shadow.{shadow}
 use Rattle.media_tests.proofs.once_help.check_volume.Given as goal

@@ -6,3 +6,5 @@ pub mod Ranning
 pub mod Answering
 pub mod TrimSteps
 pub mod Letting
+pub mod Rising
+pub mod Looks

@@ -1,5 +1,5 @@
 -- The log stands for its list after each call.
-use Rattle.std.proofs.Common.{Contains, drop, inl, inr, ⊎_elim, ◌≡◌, ◌≢◌, ℕ, ◌+◌, ◌≤◌, ◌<◌, List, [], ◌∷◌, ◌++◌, refl, sym, ap, subst, ◌∙◌, append-nil, append_assoc, length, map, arith, Bool, IsTrue, Option, Some, None, ◌||◌, false, true}
+use Rattle.std.proofs.Common.{Contains, drop, inl, inr, ⊎_elim, ◌≡◌, ◌≢◌, ℕ, ◌+◌, ◌-◌, ◌≤◌, ◌<◌, List, [], ◌∷◌, ◌++◌, refl, sym, ap, subst, ◌∙◌, append-nil, append_assoc, length, map, arith, Bool, IsTrue, Option, Some, None, ◌||◌, false, true}
 use Rattle.std.proofs.Math.Seq.{drop-append_seam}
 use Rattle.std.proofs.lemmas.Bool.{false≢true}
 use Rattle.std.proofs.lemmas.List.{map_push, length-append}
@@ -34,7 +34,7 @@ use Rattle.tx_core.proofs.LastNumbers.{number_push, number_same}
 use Rattle.wal_core.specs.Checkpoint.{IsLastCheckpoint}
 use Rattle.wal_core.specs.declared.checkpoint.LastCheckpoint.{LastCheckpoint}
 use Rattle.tx_events.specs.declared.record.Rec.TheVariants as records
-use Rattle.engine_parts.specs.Stand.{EndsInCheckpoint, IsDownAt, IsFirstKept, LogStands, MayForgetThere, forgotten_in}
+use Rattle.engine_parts.specs.Stand.{EndsInCheckpoint, IsDownAt, IsFirstKept, LogStands, MayForgetThere, begin_asked_in, forgotten_in}
 
 -- one entry more
 recs_push : (es : List Entry) (e : Entry) (rec : Rec) → appended e ≡ Some (e.by, rec) → recs_in (es ++ e ∷ []) ≡ recs_in es ++ rec ∷ []
@@ -71,19 +71,38 @@ front_false false b e = refl
 up_before : (es : List Entry) (e : Entry) → IsUp (es ++ e ∷ []) → IsUp es
 up_before es e up = front_false (list_any (λ (d : Entry). is_put_down d.kind) es) (list_any (λ (d : Entry). is_put_down d.kind) (e ∷ [])) (sym (list_any-append (λ (d : Entry). is_put_down d.kind) es (e ∷ [])) ∙ up)
 
--- what may be kept first may be so with an entry more, that forgets nothing
-pub first_more : (start : Start) (es : List Entry) (e : Entry) (n : ℕ) → forgotten_in e.kind ≡ None → IsFirstKept start es n → IsFirstKept start (es ++ e ∷ []) n
+-- an entry that was to forget nothing forgot nothing
+none_forgotten : (k : Kind) → begin_asked_in k ≡ None → forgotten_in k ≡ None
+none_forgotten (kinds.Forget number) none = absurd cc
+none_forgotten (kinds.Append rec) none = refl
+none_forgotten (kinds.Flush to) none = refl
+none_forgotten (kinds.LogFault asked count) none = refl
+none_forgotten (kinds.Event event) none = refl
+none_forgotten (kinds.Made id) none = refl
+none_forgotten (kinds.Multi event) none = refl
+none_forgotten (kinds.Post number) none = refl
+none_forgotten (kinds.Set changes) none = refl
+none_forgotten (kinds.Zero page) none = refl
+none_forgotten (kinds.Cut page) none = refl
+none_forgotten kinds.Sync none = refl
+none_forgotten (kinds.Fault callers changes cut count) none = refl
+none_forgotten (kinds.Request changes) none = refl
+none_forgotten kinds.Look none = refl
+
+-- what may be kept first may be so with an entry more, that was to forget nothing
+pub first_more : (start : Start) (es : List Entry) (e : Entry) (n : ℕ) → begin_asked_in e.kind ≡ None → IsFirstKept start es n → IsFirstKept start (es ++ e ∷ []) n
 first_more start es e n none kept = record {
+  exact = kept.exact ∙ sym (number_same begin_asked_in (start.from - 1) es e none);
   one = ⊎_elim
       (λ (low : n < start.from). inl low)
       (⊎_elim
       (λ (k : (by : By) × Contains es (record { by = by; kind = kinds.Forget n })). inr (inl (k.0, Contains-append_left es (e ∷ []) (record { by = k.0; kind = kinds.Forget n }) k.1)))
       (λ (k : (count : ℕ) × (by : By) × Contains es (record { by = by; kind = kinds.LogFault (calls.Forget n) count })). inr (inr (k.0, k.1, Contains-append_left es (e ∷ []) (record { by = k.1; kind = kinds.LogFault (calls.Forget n) k.0 }) k.2))))
       kept.one;
-  behind = λ up. subst (λ z. z ≤ n) (sym (number_same forgotten_in 0 es e none)) (kept.behind (up_before es e up));
+  behind = λ up. subst (λ z. z ≤ n) (sym (number_same forgotten_in 0 es e (none_forgotten e.kind none))) (kept.behind (up_before es e up));
 }
 
-pub first_same : (start : Start) (es : List Entry) (e : Entry) (n m : ℕ) → m ≡ n → forgotten_in e.kind ≡ None → IsFirstKept start es n → IsFirstKept start (es ++ e ∷ []) m
+pub first_same : (start : Start) (es : List Entry) (e : Entry) (n m : ℕ) → m ≡ n → begin_asked_in e.kind ≡ None → IsFirstKept start es n → IsFirstKept start (es ++ e ∷ []) m
 first_same start es e n m same none k = first_more start es e m none (subst (λ z. IsFirstKept start es z) (sym same) k)
 
 -- a log that its last entry put down is down

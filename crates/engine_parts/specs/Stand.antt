@@ -1,6 +1,6 @@
 -- What a value behind a lock says, where the lock's list is this one. A record for each kind of value, over plain
 -- numbers, lists and maps.
-use Rattle.std.specs.Prelude.{◌≡◌, ℕ, ◌+◌, ◌*◌, ◌^◌, ◌%◌, ◌<◌, ◌≤◌, ◌⊎◌, Bool, false, IsTrue, List, [], ◌∷◌, ◌++◌, length, Option, Some, None, Contains, max, slice_get, take, true}
+use Rattle.std.specs.Prelude.{◌≡◌, ℕ, ◌+◌, ◌-◌, ◌*◌, ◌^◌, ◌%◌, ◌<◌, ◌≤◌, ◌⊎◌, Bool, false, IsTrue, List, [], ◌∷◌, ◌++◌, length, Option, Some, None, Contains, max, slice_get, take, true}
 use Rattle.std.specs.List.{filter_map, fold}
 use Rattle.disk_core.specs.Volume.{Volume}
 use Rattle.tx_events.specs.declared.event.By.{By}
@@ -64,9 +64,20 @@ forgotten_in _ = None
 abbrev pub forgotten_to : List Entry → ℕ
 forgotten_to es = last_from 0 (filter_map (λ e. forgotten_in e.kind) es)
 
+-- the same where it was to be forgotten, also where that failed
+abbrev pub begin_asked_in : Kind → Option ℕ
+begin_asked_in (kinds.Forget number) = Some number
+begin_asked_in (kinds.LogFault (calls.Forget number) count) = Some number
+begin_asked_in _ = None
+
+-- the checkpoint with which the log is to begin: the last of these, or at first that of the life's begin
+abbrev pub begin_asked : Start → List Entry → ℕ
+begin_asked start es = last_from (start.from - 1) (filter_map (λ e. begin_asked_in e.kind) es)
+
 -- The first record that each image keeps may be this one: one from before the life, or a checkpoint before which the log
 -- was to be forgotten, also where that failed. Where the log isn't down, it is none from before the last forget.
 pub record IsFirstKept (start : Start) (es : List Entry) (n : ℕ) : Type 0 where
+  pub exact : n ≡ begin_asked start es
   pub one : (n < start.from) ⊎ (((by : By) × Contains es (record { by = by; kind = kinds.Forget n }))
       ⊎ ((count : ℕ) × (by : By) × Contains es (record { by = by; kind = kinds.LogFault (calls.Forget n) count })))
   pub behind : IsUp es → forgotten_to es ≤ n

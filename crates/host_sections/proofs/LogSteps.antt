@@ -1,5 +1,5 @@
 -- The log behind a critical section of the host stands for its list.
-use Rattle.std.proofs.Common.{◌≡◌, ◌≢◌, ℕ, ◌+◌, ◌<◌, ◌≤◌, ◌^◌, IsNone, true, List, [], ◌∷◌, ◌++◌, IsTrue, Option, Some, None, arith, inl, inr, refl, sym, ap, subst, ◌∙◌}
+use Rattle.std.proofs.Common.{◌≡◌, ◌≢◌, ◌⊎◌, ℕ, ◌+◌, ◌-◌, ◌<◌, ◌≤◌, ◌^◌, IsNone, true, List, [], ◌∷◌, ◌++◌, IsTrue, Option, Some, None, arith, inl, inr, refl, sym, ap, subst, ◌∙◌}
 use Rattle.std.proofs.lemmas.Bool.{false≢true}
 use Rattle.std.proofs.lemmas.List.Elements.{Contains-push}
 use Rattle.std.proofs.lemmas.Option.{same_Some}
@@ -24,14 +24,14 @@ use Rattle.tx_core.specs.RecordsFollow.{counters_after}
 use Rattle.tx_core.specs.StaysDown.{puts_down}
 use Rattle.tx_core.proofs.LastNumbers.{number_push, number_same}
 use Rattle.wal_core.specs.Checkpoint.{IsLastCheckpoint}
-use Rattle.wal_core.specs.Kept.{HasFlushed, KeepsRecords}
+use Rattle.wal_core.specs.Kept.{HasFlushed, KeepsRecords, first_on}
 use Rattle.wal_core.specs.Log.{MayAppend, counters_or_none}
 use Rattle.wal_core.specs.Opening.{number_fits}
 use Rattle.wal_records.specs.Spelling.{AreCounters}
 use Rattle.wal_core.specs.LogViews.{log_checkpoint, log_counters, log_disk, log_down, log_end, log_first, log_flushed, log_next, log_pending, log_recs}
 use Rattle.wal_core.specs.declared.wal_log.WalLog.{WalLog}
 use Rattle.engine_parts.specs.Parts.{IsLogOf}
-use Rattle.engine_parts.specs.Stand.{IsFirstKept, MayForgetThere, forgotten_in}
+use Rattle.engine_parts.specs.Stand.{IsFirstKept, MayForgetThere, begin_asked_in, forgotten_in}
 use Rattle.engine_parts.proofs.Logging.{failed_here, first_same, flush_alone, goes_on, not_up, unflushed, up_more}
 use Rattle.host_sections.specs.HostEntries.{flush_by, forget_by}
 
@@ -68,6 +68,9 @@ module _ {D : Type 0} {g : logs.Ghosts D} where
             whole = keeps.whole ∙ ap (λ z. keeps.earlier ++ z) (sym same.recs);
             count = keeps.count ∙ sym same.next;
             each = λ c image. subst (λ (z : ℕ × ℕ). HasFlushed k.0 (k.1 ++ recs_in es) z.0 z.1 c) (λ i. (sym same.first i, sym same.flushed i)) (keeps.each c (same.images told c image));
+            other = keeps.other;
+            begins = λ c image. subst (λ (n : ℕ). (first_on c ≡ n) ⊎ (first_on c ≡ keeps.other)) (sym same.first) (keeps.begins c (same.images told c image));
+            settled = λ past c image. keeps.settled (let low = same.first in let to = same.flushed in omega (arith, past, low, to)) c (same.images told c image) ∙ sym same.first;
           },
           k.3,
         );
@@ -115,7 +118,7 @@ module _ {D : Type 0} {g : logs.Ghosts D} (start : Start) (old new : WalLog D g)
       (let same : faults_told start log_lock (es ++ e ∷ []) ≡ faults_told start log_lock es = number_same count_in (faults_at start log_lock) es e refl in let before = s.count in omega (arith, same, before, faults))
       (λ m put. absurd (let z : None ≡ Some m = sym up ∙ (sym down ∙ put) in cc))
       (λ none. up_more es e refl (s.up up))
-      (subst (λ n. IsFirstKept start (es ++ e ∷ []) n) (sym first) (record { one = inr (inl (by, Contains-push es e)); behind = λ still. (let here = number_push forgotten_in 0 es e number refl in omega (arith, here)) })) (unflushed start es e (log_checkpoint new) refl) keeps
+      (subst (λ n. IsFirstKept start (es ++ e ∷ []) n) (sym first) (record { exact = sym (number_push begin_asked_in (start.from - 1) es e number refl); one = inr (inl (by, Contains-push es e)); behind = λ still. (let here = number_push forgotten_in 0 es e number refl in omega (arith, here)) })) (unflushed start es e (log_checkpoint new) refl) keeps
 
   -- its volume failed, and it is down
   fails : (asked : LogCall) → puts_down asked ≡ true → log_recs new ≡ log_recs old → log_next new ≡ log_next old → log_counters new ≡ log_counters old → log_flushed new ≡ log_flushed old → log_down new ≡ Some (log_flushed old) → IsFirstKept start (es ++ record { by = by; kind = kinds.LogFault asked (g.faults (log_disk new)) } ∷ []) (log_first new) → Keeps
@@ -141,7 +144,7 @@ module _ {D : Type 0} {g : logs.Ghosts D} (start : Start) (old new : WalLog D g)
       → IsLogOf start new (es ++ record { by = by; kind = kinds.LogFault (calls.Forget number) (g.faults (log_disk new)) } ∷ [])
   forget_fails number recs next_same counters flushed down first keeps =
       let e : Entry = record { by = by; kind = kinds.LogFault (calls.Forget number) (g.faults (log_disk new)) } in
-      fails (calls.Forget number) refl recs next_same counters flushed down (subst (λ n. IsFirstKept start (es ++ e ∷ []) n) (sym first) (record { one = inr (inr (g.faults (log_disk new), by, Contains-push es e)); behind = λ still. absurd (not_up es e refl still) })) keeps
+      fails (calls.Forget number) refl recs next_same counters flushed down (subst (λ n. IsFirstKept start (es ++ e ∷ []) n) (sym first) (record { exact = sym (number_push begin_asked_in (start.from - 1) es e number refl); one = inr (inr (g.faults (log_disk new), by, Contains-push es e)); behind = λ still. absurd (not_up es e refl still) })) keeps
 
   -- a checkpoint of its own next number may be appended
   pub may_append : (number : ℕ) (counters : Counters) → number ≡ log_next old → number < 2 ^ 64 → AreCounters counters → IsBase (after_record (counters_after start es) (records.Checkpoint number counters)) → MayAppend (log_counters old) (log_next old) (records.Checkpoint number counters)

@@ -1,4 +1,6 @@
-use Rattle.std.proofs.Common.{refl, arith}
+use Rattle.std.proofs.Common.{refl, arith, ◌≡◌, ◌∙◌}
+use Rattle.disk_core.specs.Volume.{Volume}
+use Rattle.wal_core.proofs.Firsts.{first_forgotten}
 use Rattle.wal_core.proofs.Forgetting.{at_checkpoint, now_forgotten, no_call, one_call}
 use Rattle.wal_core.proofs.wal_log.WalLog.forget_before_checkpoint.Goals as goal
 
@@ -7,6 +9,23 @@ invariant_of-self-in-Ok-clause-starts g c told up =
     let d = g.D.LogDisk in let s = c.args.self.now in
     let begins = s.begins told up c.unwrap-checkpoint.result c.unwrap-checkpoint.ensures (d.reads s.disk) (g.met.D.LogDisk.reads_image s.disk told) in
     omega (arith, c.in-Ok.ensures.raised told, begins.not_past)
+
+pub invariant_of-self-in-Ok-clause-firsts : goal.invariant_of-self-in-Ok-clause-firsts
+invariant_of-self-in-Ok-clause-firsts g c told up =
+    let d = g.D.LogDisk in let s = c.args.self.now in let k = c.unwrap-checkpoint.result in
+    let b = s.begins told up k c.unwrap-checkpoint.ensures (d.reads s.disk) (g.met.D.LogDisk.reads_image s.disk told) in
+    let low = b.not_past in let raised = c.in-Ok.ensures.raised told in
+    let start : (d.reads c.forget.new.self).start ≡ k.gate = omega (arith, raised, low) in
+    let same = first_forgotten k (d.reads s.disk) (d.reads c.forget.new.self) start (c.forget.ensures.others told).bytes b.alone in
+    omega (arith, same)
+
+pub invariant_of-self-then-self-gate-clause-firsts : goal.invariant_of-self-then-self-gate-clause-firsts
+invariant_of-self-then-self-gate-clause-firsts g c told up =
+    let d = g.D.LogDisk in let s = c.args.self.now in let k = c.unwrap-checkpoint.result in let v : Volume = d.reads s.disk in
+    let b = s.begins told up k c.unwrap-checkpoint.ensures v (g.met.D.LogDisk.reads_image s.disk told) in
+    let start : v.start ≡ k.gate = s.starts told up ∙ c.if-self-gate.true in
+    let same = first_forgotten k v v start refl b.alone in
+    omega (arith, same)
 
 pub invariant_of-self-in-Ok-clause-begins : goal.invariant_of-self-in-Ok-clause-begins
 invariant_of-self-in-Ok-clause-begins g c told up k e x left =

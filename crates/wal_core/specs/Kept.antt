@@ -1,5 +1,5 @@
 -- The promise over the whole list of a log's records: what a crash leaves of it.
-use Rattle.std.specs.Prelude.{◌≡◌, ◌⊎◌, ℕ, ◌+◌, ◌<◌, ◌≤◌, List, ◌++◌, length, Option, Some, None, Result, Ok, Err}
+use Rattle.std.specs.Prelude.{◌≡◌, ◌⊎◌, ℕ, ◌+◌, ◌<◌, ◌≤◌, List, ◌++◌, cond, length, nat_lt, Option, Some, None, Result, Ok, Err}
 use Rattle.tx_events.specs.declared.record.Rec.{Rec}
 use Rattle.disk_core.specs.Volume.{Volume}
 use Rattle.wal_core.specs.Opening.{History, Opened, next_number, opened}
@@ -35,6 +35,15 @@ first_in (Some h) = h.first
 abbrev pub first_on : Volume → ℕ
 first_on v = first_in (history_on v)
 
+-- each begins with the record `kept` or with one other
+abbrev pub BeginWith : ℕ → ℕ → (Volume → Type 0) → Type 0
+BeginWith kept other images = (c : Volume) → images c → (first_on c ≡ kept) ⊎ (first_on c ≡ other)
+
+-- which other, once they are to begin with the record of this number: the one with which they were to begin so far, where
+-- it stands before that
+abbrev pub other_behind : ℕ → ℕ → ℕ → ℕ
+other_behind number kept other = cond (nat_lt kept number) kept other
+
 -- The list ends with the records appended since the start, and each crash leaves records of it from the first retained
 -- one on, which isn't past `kept`, up to one that is at least the flushed number. That first one is the record `kept` or
 -- one other, the same in each image; and where a record behind `kept` is flushed, it is `kept`.
@@ -44,5 +53,5 @@ pub record KeepsRecords (first : ℕ) (all recs : List Rec) (next kept flushed :
   pub count : first + length all ≡ next
   pub each : (c : Volume) → images c → HasFlushed first all kept flushed c
   pub other : ℕ
-  pub begins : (c : Volume) → images c → (first_on c ≡ kept) ⊎ (first_on c ≡ other)
+  pub begins : BeginWith kept other images
   pub settled : kept + 1 < flushed → (c : Volume) → images c → first_on c ≡ kept

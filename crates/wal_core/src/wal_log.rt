@@ -88,7 +88,7 @@ impl<D: LogDisk> WalLog<D> {
     ghost use Rattle.wal_core.specs.Checkpoint.{IsLastCheckpoint, OpensOrBegins};
     ghost use Rattle.wal_core.specs.declared.checkpoint.LastCheckpoint.{LastCheckpoint};
     ghost use Rattle.wal_core.specs.LogViews.{log_disk, log_recs, log_pending, log_next, log_flushed, log_end, log_counters, log_down, log_start, log_first, log_checkpoint, KeepsAll};
-    ghost use Rattle.wal_core.specs.Kept.{HasFlushed, first_on};
+    ghost use Rattle.wal_core.specs.Kept.{BeginWith, HasFlushed, first_on, other_behind};
     ghost use Rattle.tx_events.specs.declared.record.Rec.{Rec};
 
     /// Whether the record may be appended: it is lawful, a checkpoint has the number `next()`, the first record of a new
@@ -171,6 +171,8 @@ impl<D: LogDisk> WalLog<D> {
 
         // Where a batch was written, no image begins before `log_first`: what was forgotten before is on the disk.
         ensures begins { IsTrue D.tells → OnOk result (log_pending self.old ≢ [] → (c : Volume) → D.images (log_disk self.new) c → log_first self.new ≤ first_on c) }
+        // And in any case each begins as one of before.
+        ensures begins_same { IsTrue D.tells → (other : ℕ) → BeginWith (log_first self.old) other (D.images (log_disk self.old)) → BeginWith (log_first self.new) other (D.images (log_disk self.new)) }
 
         // A checkpoint alone, with the counters of the log, may stand first from then on.
         ensures checkpoint { OnOk result (log_pending self.old ≢ [] → IsLastCheckpoint (log_end self.old) (log_pending self.old) (log_counters self.old) (log_checkpoint self.new)) }
@@ -241,6 +243,10 @@ impl<D: LogDisk> WalLog<D> {
         // From then on an image begins with the checkpoint, or before it where the start wasn't raised.
         ensures first { ((at : ℕ) → result ≢ Err (LogDown at)) → IfSome (log_checkpoint self.old) (λ k. log_first self.new ≡ k.number) }
         ensures first_down { (at : ℕ) → result ≡ Err (LogDown at) → log_first self.new ≡ log_first self.old }
+        // Before it: with the record with which the log was to begin so far, if that stands there.
+        ensures begins { IsTrue D.tells → log_down self.old ≡ None → (first : ℕ) (all : List Rec) → KeepsAll first all D.images self.old → (other : ℕ)
+            → BeginWith (log_first self.old) other (D.images (log_disk self.old))
+            → BeginWith (log_first self.new) (other_behind (log_first self.new) (log_first self.old) other) (D.images (log_disk self.new)) }
         ensures down_asks_nothing { (at : ℕ) → log_down self.old ≡ Some at → log_disk self.new ≡ log_disk self.old }
         ensures no_call { IfSome (log_checkpoint self.old) (λ k. log_start self.old ≡ k.gate → (log_disk self.new ≡ log_disk self.old) × (result ≢ Err LogFault)) }
         ensures down { (at : ℕ) → result ≡ Err (LogDown at) → log_down self.old ≡ Some at }

@@ -204,6 +204,22 @@ returns-in-Ok-clause-keeps g c told first all keeps =
           begins_at first all s.first (s.from + s.flushed) x (stays x (returns-in-Ok-clause-left g c told up x left)) low_on;
     }
 
+pub returns-in-Err-clause-begins_same : goal.returns-in-Err-clause-begins_same
+returns-in-Err-clause-begins_same g c told other old x left =
+    let s = c.args.self.now in let pending : List Rec = drop s.flushed s.recs in
+    let some : 0 < length pending = omega (arith, s.counts, c.if-self-count.false, ap length c.items.ensures, length-drop s.flushed s.recs) in
+    let up : s.down ≡ None = c.in_default.is in
+    let from = returns-in-Err-clause-left g c told up x left in
+    subst (λ (n : ℕ). (n ≡ s.first) ⊎ (n ≡ other)) (sym (first_from s.gate pending s.counters (s.from + length s.recs) some s.lawful from.0 x (s.ready told up from.0 from.1) from.2.0)) (old from.0 from.1)
+
+pub returns-in-Ok-clause-begins_same : goal.returns-in-Ok-clause-begins_same
+returns-in-Ok-clause-begins_same g c told other old x left =
+    let s = c.args.self.now in let pending : List Rec = drop s.flushed s.recs in
+    let some : 0 < length pending = omega (arith, s.counts, c.if-self-count.false, ap length c.items.ensures, length-drop s.flushed s.recs) in
+    let up : s.down ≡ None = c.in_default.is in
+    let from = returns-in-Ok-clause-left g c told up x left in
+    subst (λ (n : ℕ). (n ≡ s.first) ⊎ (n ≡ other)) (sym (first_from s.gate pending s.counters (s.from + length s.recs) some s.lawful from.0 x (s.ready told up from.0 from.1) from.2.0)) (old from.0 from.1)
+
 pub returns-in-Err-clause-no_call : goal.returns-in-Err-clause-no_call
 returns-in-Err-clause-no_call g c none =
     let s = c.args.self.now in

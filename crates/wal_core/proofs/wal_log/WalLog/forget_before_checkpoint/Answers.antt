@@ -51,6 +51,9 @@ returns-then-self-gate-clause-keeps_at_each_moment g c told = let s = c.args.sel
 pub returns-then-self-gate-clause-keeps : goal.returns-then-self-gate-clause-keeps
 returns-then-self-gate-clause-keeps g c told = let s = c.args.self.now in (no_call s told c.in_default.is c.unwrap-checkpoint.result c.unwrap-checkpoint.ensures (λ x now. g.met.D.LogDisk.only_now s.disk x told now)).keeps
 
+pub returns-then-self-gate-clause-begins : goal.returns-then-self-gate-clause-begins
+returns-then-self-gate-clause-begins g c told up = let s = c.args.self.now in (no_call s told up c.unwrap-checkpoint.result c.unwrap-checkpoint.ensures (λ x now. g.met.D.LogDisk.only_now s.disk x told now)).begins
+
 -- ---- where it is forgotten
 
 pub returns-in-Ok-clause-any_moment : goal.returns-in-Ok-clause-any_moment
@@ -65,6 +68,9 @@ returns-in-Ok-clause-keeps_at_each_moment g c told = let s = c.args.self.now in 
 pub returns-in-Ok-clause-keeps : goal.returns-in-Ok-clause-keeps
 returns-in-Ok-clause-keeps g c told = let s = c.args.self.now in (one_call s told c.in_default.is c.unwrap-checkpoint.result c.unwrap-checkpoint.ensures (λ x now. g.met.D.LogDisk.only_now s.disk x told now) c.forget.new.self c.unwrap-checkpoint.result c.unwrap-checkpoint.ensures (c.forget.ensures.crash told) (c.forget.ensures.time told)).keeps
 
+pub returns-in-Ok-clause-begins : goal.returns-in-Ok-clause-begins
+returns-in-Ok-clause-begins g c told up = let s = c.args.self.now in (one_call s told up c.unwrap-checkpoint.result c.unwrap-checkpoint.ensures (λ x now. g.met.D.LogDisk.only_now s.disk x told now) c.forget.new.self c.unwrap-checkpoint.result c.unwrap-checkpoint.ensures (c.forget.ensures.crash told) (c.forget.ensures.time told)).begins
+
 -- ---- where that failed
 
 pub returns-in-Err-clause-any_moment : goal.returns-in-Err-clause-any_moment
@@ -78,6 +84,9 @@ returns-in-Err-clause-keeps_at_each_moment g c told = let s = c.args.self.now in
 
 pub returns-in-Err-clause-keeps : goal.returns-in-Err-clause-keeps
 returns-in-Err-clause-keeps g c told = let s = c.args.self.now in (one_call s told c.in_default.is c.unwrap-checkpoint.result c.unwrap-checkpoint.ensures (λ x now. g.met.D.LogDisk.only_now s.disk x told now) c.forget.new.self c.unwrap-checkpoint.result c.unwrap-checkpoint.ensures (c.forget.ensures.crash told) (c.forget.ensures.time told)).keeps
+
+pub returns-in-Err-clause-begins : goal.returns-in-Err-clause-begins
+returns-in-Err-clause-begins g c told up = let s = c.args.self.now in (one_call s told up c.unwrap-checkpoint.result c.unwrap-checkpoint.ensures (λ x now. g.met.D.LogDisk.only_now s.disk x told now) c.forget.new.self c.unwrap-checkpoint.result c.unwrap-checkpoint.ensures (c.forget.ensures.crash told) (c.forget.ensures.time told)).begins
 
 pub returns-in-Some-clause-first : goal.returns-in-Some-clause-first
 returns-in-Some-clause-first g c not_down = absurd (not_down _ refl)

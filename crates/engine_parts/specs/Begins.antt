@@ -14,7 +14,7 @@ use Rattle.engine_parts.specs.Stand.{begin_asked, begin_other}
 
 -- Each begins with the last checkpoint before which the log was to be forgotten, also where that failed, or that of the
 -- life's begin, or with the one asked for before that; and where a record behind that checkpoint is flushed, with no
--- other. `before` is the record with which the log began when the life did.
+-- other. Where the life asked for none, that other one is `before`.
 pub record BeginsAsAsked (start : Start) (es : List Entry) (images : Volume → Type 0) : Type 0 where
   pub before : ℕ
   pub begins : BeginWith (begin_asked start es) (begin_other before start es) images

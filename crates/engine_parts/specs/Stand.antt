@@ -80,7 +80,7 @@ other_from kept other [] = other
 other_from kept other (number ∷ numbers) = other_from number (other_behind number kept other) numbers
 
 -- The checkpoint with which it was to begin before that one: the one asked for before, of an earlier record, or that of
--- the life's begin; and where none was asked for yet, the record `before` with which it began then.
+-- the life's begin; and where none was asked for yet, some record `before`.
 abbrev pub begin_other : ℕ → Start → List Entry → ℕ
 begin_other before start es = other_from (start.from - 1) before (filter_map (λ e. begin_asked_in e.kind) es)
 

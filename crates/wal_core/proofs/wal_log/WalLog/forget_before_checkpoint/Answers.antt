@@ -19,8 +19,8 @@ invariant_of-self-in-Ok-clause-firsts g c told up =
     let same = first_forgotten k (d.reads s.disk) (d.reads c.forget.new.self) start (c.forget.ensures.others told).bytes b.alone in
     omega (arith, same)
 
-pub invariant_of-self-then-self-gate-clause-firsts : goal.invariant_of-self-then-self-gate-clause-firsts
-invariant_of-self-then-self-gate-clause-firsts g c told up =
+pub invariant_of-self-clause-firsts : goal.invariant_of-self-clause-firsts
+invariant_of-self-clause-firsts g c told up =
     let d = g.D.LogDisk in let s = c.args.self.now in let k = c.unwrap-checkpoint.result in let v : Volume = d.reads s.disk in
     let b = s.begins told up k c.unwrap-checkpoint.ensures v (g.met.D.LogDisk.reads_image s.disk told) in
     let start : v.start ≡ k.gate = s.starts told up ∙ c.if-self-gate.true in

@@ -1,5 +1,5 @@
 -- What a trim names isn't before what was announced earlier, as announcements only rise.
-use Rattle.std.proofs.Common.{◌≡◌, ℕ, ◌+◌, ◌≤◌, List, [], ◌∷◌, ◌++◌, append-nil, append_assoc, length, length-append, take, take_all, sym, ap, subst, ◌∙◌, arith}
+use Rattle.std.proofs.Common.{◌≡◌, ℕ, ◌+◌, ◌≤◌, List, [], ◌∷◌, ◌++◌, append-nil, append_assoc, length, length-append, take_all, sym, ap, subst, ◌∙◌, arith}
 use Rattle.notes.specs.Lists.{Grows}
 use Rattle.tx_events.proofs.Membership.{by_end}
 use Rattle.tx_events.proofs.PlaceLemmas.{each_place_start}

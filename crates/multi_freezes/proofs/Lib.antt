@@ -8,3 +8,4 @@ pub mod TrimSteps
 pub mod Letting
 pub mod Rising
 pub mod Looks
+pub mod Holding

@@ -1,5 +1,5 @@
 -- Pages that lie past another aren't before it, and what lies so, by the rows of them.
-use Rattle.std.proofs.Common.{◌≡◌, ◌⊎◌, inl, inr, ⊎_elim, ℕ, suc, ◌+◌, ◌-◌, ◌*◌, ◌/◌, ◌%◌, ◌^◌, ◌<◌, ◌≤◌, Bool, true, false, ◌&&◌, refl, arith, ◌∙◌}
+use Rattle.std.proofs.Common.{◌≡◌, ◌⊎◌, inl, inr, ⊎_elim, ℕ, suc, ◌+◌, ◌-◌, ◌*◌, ◌/◌, ◌%◌, ◌^◌, ◌<◌, ◌≤◌, Bool, true, false, ◌&&◌, refl, subst, arith, ◌∙◌}
 use Rattle.std.proofs.Math.Nat.{add-mul, div-mul-le_self, mul-le-mul_right}
 use Rattle.std.proofs.lemmas.Bool.{le-ltb, lt-leb}
 use Rattle.tx_events.specs.Order.{ring_before, xid_before}
@@ -65,6 +65,11 @@ ahead_past n page l some from near within =
       other_fits = omega arith;
       near = inl (low, omega arith);
     }
+
+-- the same where the numbers are those of a conversion
+pub near_past : (n m page p l : ℕ) → m ≡ n → p ≡ page → 1 ≤ n → page ≤ l → l < p + (2 ^ 31 - 1) / m → l < (2 ^ 32 - 4) / m → IsPast n l page
+near_past n m page p l is at some from near within =
+    subst (λ (k : ℕ). IsPast k l page) is (subst (λ (q : ℕ). IsPast m l q) at (ahead_past m p l (omega (arith, is)) (omega (arith, at)) near within))
 
 pub turn_past : (n page l : ℕ) → 1 ≤ n → page * n < 2 ^ 32 - 4 → l < (page * n - 2 ^ 31) / n → IsPast n l page
 turn_past n page l some fits below =

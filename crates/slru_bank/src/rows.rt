@@ -21,14 +21,14 @@ const HALF_RING: u64 = 2_147_483_648;
 const RING_END: u64 = 4_294_967_292;
 
 // A page up to which, it not included, those from this one on lie past it.
-#[tactic(auto, using(crate::proofs::RowLemmas::ahead_past))]
 fn ahead(page: u32, per_page: u32) -> u32
     requires { 1 ≤ per_page }
     ensures { (l : ℕ) → page ≤ l → l < result → IsPast per_page l page }
 {
     let n = u64::from(per_page);
+    let end = RING_END / n;
     let near = u64::from(page) + (HALF_RING - 1) / n;
-    near.min(RING_END / n) as u32
+    if near < end { near as u32 } else { end as u32 }
 }
 
 // A page up to which, it not included, pages lie past this one on the next turn of the ring.

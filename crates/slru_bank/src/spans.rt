@@ -1,12 +1,11 @@
 // How many numbers a page of each store holds.
-ghost use Rattle.std.specs.Prelude.{◌≡◌};
-ghost use Rattle.tx_events.specs.Pages.{members_per_page, offsets_per_page, xacts_per_page};
 
 use crate::rows::PageSpan;
 use store_pages::{
     MEMBERS_PER_PAGE, MemberPages, OFFSETS_PER_PAGE, OffsetPages, SubtransPages, XACTS_PER_PAGE,
     XactPages,
 };
+use tx_events::PARENTS_PER_PAGE;
 
 impl PageSpan for XactPages {
     fn per_page() -> u32 {
@@ -16,7 +15,7 @@ impl PageSpan for XactPages {
 
 impl PageSpan for SubtransPages {
     fn per_page() -> u32 {
-        2048
+        PARENTS_PER_PAGE
     }
 }
 

@@ -1,5 +1,5 @@
 -- Rows of pages that stay, by how far they lie from another page. n is how many numbers a page holds.
-use Rattle.std.specs.Prelude.{◌≡◌, ◌⊎◌, ℕ, ◌+◌, ◌*◌, ◌^◌, ◌<◌, ◌≤◌}
+use Rattle.std.specs.Prelude.{◌⊎◌, ℕ, ◌+◌, ◌*◌, ◌^◌, ◌<◌, ◌≤◌}
 
 -- page l isn't before page c: on the ring it lies less than half of it past c, and the numbers of neither go round it
 pub record IsPast (n l c : ℕ) : Type 0 where

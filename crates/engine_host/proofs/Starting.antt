@@ -95,7 +95,8 @@ log_begins c b tells faults images recs next first flushed counters down checkpo
   kept = λ told.
       let k = keeps told in
       (k.0, k.1, subst (λ (t : List Rec). KeepsRecords k.0 t recs next first flushed images) (sym (append-nil k.1)) k.2, λ t. gives_any c b counts k.0 k.1 (k.3 t));
-  first_is = record { one = inl (let here : first < b.number + 1 = omega (arith, low) in here); behind = λ up. omega arith };
+  first_is = record { exact = let same : b.number + 1 - 1 ≡ b.number = omega arith in low ∙ sym same; one = inl (let here : first < b.number + 1 = omega (arith, low) in here); behind = λ up. omega arith };
+  others = λ told. let k = keeps told in (k.2.other, k.2.begins);
   alone = λ number ends. absurd (let long = ap (λ (t : List Entry). length t) ends.split in let more = length-append ends.before (record { by = ends.appender; kind = kinds.Append (records.Checkpoint number ends.counters) } ∷ record { by = ends.flusher; kind = kinds.Flush (number + 1) } ∷ []) in omega (arith, long, more));
 }
 

@@ -28,6 +28,18 @@ go_keeping hall banks round plan m kept may = record {
   begins = record { may = may.begins.may; room = may.begins.room; lines = may.begins.lines };
 }
 
+-- one more of which it holds
+all_cons : {X : Type 0} (Q : X → Type 0) (x : X) (xs : List X) → Q x → All Q xs → All Q (x ∷ xs)
+all_cons Q x xs one rest zero m low = one
+all_cons Q x xs one rest (suc i) m low = rest i m (omega (arith, low))
+
+-- so of the front, and of the last one
+fronts : {X : Type 0} (Q : X → Type 0) (xs : List X) (y : X) → All Q (xs ++ y ∷ []) → All Q xs × Q y
+fronts Q [] y all = (λ i m low. absurd (omega (arith, low)), all 0 y (omega arith))
+fronts Q (x ∷ xs) y all =
+    let rest = fronts Q xs y (λ i m low. all (suc i) m (omega (arith, low))) in
+    (all_cons Q x xs (all 0 x (omega arith)) rest.0, rest.1)
+
 module _ {K L P : Type 0} {l : logs.Ghosts L} {p : disks.Ghosts P} (keep : keepers.Ghosts K) (names : List (List ℕ)) where
   -- the member, as if its lines were kept apart
   abbrev pub apart : Member K L P l p → Member K L P l p
@@ -39,11 +51,7 @@ module _ {K L P : Type 0} {l : logs.Ghosts L} {p : disks.Ghosts P} (keep : keepe
 
   apart_lost : (ms : List (Member K L P l p)) → All (λ (m : Member K L P l p). m.lost ≡ false) ms → All (λ (m : Member K L P l p). m.lost ≡ false) (map apart ms)
   apart_lost [] all = λ i m low. absurd (omega (arith, low))
-  apart_lost (x ∷ ms) all = each
-    where
-      each : All (λ (m : Member K L P l p). m.lost ≡ false) (apart x ∷ map apart ms)
-      each zero m low = all 0 x (omega arith)
-      each (suc i) m low = apart_lost ms (λ j n less. all (suc j) n (omega (arith, less))) i m (omega (arith, low))
+  apart_lost (x ∷ ms) all = all_cons (λ (m : Member K L P l p). m.lost ≡ false) (apart x) (map apart ms) (all 0 x (omega arith)) (apart_lost ms (λ j n less. all (suc j) n (omega (arith, less))))
 
   -- members that keep nothing add nothing
   nothing_more : Keeps keep names → (kept : K) (ms : List (Member K L P l p)) → All (λ (m : Member K L P l p). m.kept ≡ keep.nothing) ms → with_members keep kept ms ≡ kept
@@ -98,17 +106,6 @@ module _ {H K L P : Type 0} {l : logs.Ghosts L} {p : disks.Ghosts P} (keep : kee
     same = refl;
   }
 
-  fronts : {Q : Member K L P l p → Type 0} (xs : List (Member K L P l p)) (y : Member K L P l p) → All Q (xs ++ y ∷ []) → All Q xs × Q y
-  fronts [] y all = (λ i m low. absurd (omega (arith, low)), all 0 y (omega arith))
-  fronts {Q = Q} (x ∷ xs) y all = (each, rest.1)
-    where
-      rest : All Q xs × Q y
-      rest = fronts {Q = Q} xs y (λ i m low. all (suc i) m (omega (arith, low)))
-
-      each : All Q (x ∷ xs)
-      each zero m low = all 0 x (omega arith)
-      each (suc i) m low = rest.0 i m (omega (arith, low))
-
   -- the next one ran
   pub turn_on : Keeps keep names → (count : ℕ) (first : K) (old : List (Member K L P l p)) (kept kept' : K) (now : List (Member K L P l p)) (d m : Member K L P l p)
       → count < length old → AreInTurn count first old kept now → (get_or old count d).kept ≡ keep.nothing → m.kept ≡ keep.nothing
@@ -134,7 +131,7 @@ module _ {H K L P : Type 0} {l : logs.Ghosts L} {p : disks.Ghosts P} (keep : kee
       record {
         all = subst (λ (z : List (Member K L P l p) × List (Member K L P l p)). AllRan keep hall banks names round z.0 z.1) (λ j. (sym more j, sym put j)) (ran_push (take count old) done x own so_far.all one);
         kept_is = λ so.
-            let both = fronts {Q = λ (z : Member K L P l p). z.lost ≡ false} front m (subst (All (λ (z : Member K L P l p). z.lost ≡ false)) set_more so) in
+            let both = fronts (λ (z : Member K L P l p). z.lost ≡ false) front m (subst (All (λ (z : Member K L P l p). z.lost ≡ false)) set_more so) in
             mine.kept_is both.1 ∙ ap (λ (z : K). keep.with_lines names z m.lines) (so_far.kept_is both.0)
             ∙ sym (laws.join (with_members keep first done) m.lines) ∙ sym (members_push keep first done own)
             ∙ ap (with_members keep first) (sym put);

@@ -1,4 +1,4 @@
-use Rattle.std.proofs.Common.{List, subst, sym, rules}
+use Rattle.std.proofs.Common.{subst, sym, rules}
 use Rattle.session_run.specs.Rounds.{AllRan, HaveRun}
 use Rattle.session_run.proofs.InTurn.{kept_apart}
 use Rattle.session_run.proofs.Rounding.{written_back}

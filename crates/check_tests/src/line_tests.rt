@@ -1,5 +1,5 @@
 // How a session stands after its lines, and the events that a line tells.
-use crate::driver::{Act, event_of, id};
+use crate::events::{Act, event_of, id};
 use command_events::told_events;
 use line_stances::Standing;
 use std::process::Abort;
@@ -46,7 +46,7 @@ fn with_savepoint<R: Abort + AllocGlobal>(rt: &R) -> Standing {
     };
     let events = [event_of(rt, own(2), Act::Id(3))];
     let told = told_events(rt.alloc(), &standing, &write, &events).expect(rt, "memory");
-    assert_eq!(rt; count_of(&told), 1);
+    assert!(rt; count_of(&told) == 1);
     assert!(rt; standing.add(&write, &[three]).is_ok());
     let save = Line {
         by: own(3),
@@ -60,19 +60,16 @@ fn with_savepoint<R: Abort + AllocGlobal>(rt: &R) -> Standing {
 #[test]
 fn a_savepoint_lacks_an_id_below_the_top(rt: HostRuntime) {
     let standing = with_savepoint(&rt);
-    assert_eq!(rt; standing.levels.top(), Some(id(&rt, 3)));
-    assert_eq!(rt;
-        (standing.levels.depth(), standing.levels.lacking()),
-        (2, 1)
-    );
+    assert!(rt; standing.levels.top() == Some(id(&rt, 3)));
+    assert!(rt; standing.levels.depth() == 2 && standing.levels.lacking() == 1);
     let events = standing
         .levels
         .events_giving(rt.alloc(), own(4), &[id(&rt, 4)]);
     let events = events.expect(&rt, "memory");
-    assert_eq!(rt; events.as_slice().len(), 1);
-    let gives =
-        matches!(events.as_slice().first(), Some(Event::Sub { id, .. }) if id.number() == 4);
-    assert!(rt; gives);
+    let [Event::Sub { id, .. }] = events.as_slice() else {
+        panic!(rt; "one id is given below the top")
+    };
+    assert!(rt; id.number() == 4);
 }
 
 #[test]
@@ -89,13 +86,13 @@ fn a_refused_write_may_have_given_ids(rt: HostRuntime) {
     };
     let events = [event_of(&rt, own(4), Act::Sub(3, 4))];
     let told = told_events(rt.alloc(), &standing, &refused, &events).expect(&rt, "memory");
-    assert_eq!(rt; count_of(&told), 1);
+    assert!(rt; count_of(&told) == 1);
 }
 
 #[test]
 fn a_snapshot_is_found_by_its_name(rt: HostRuntime) {
     let mut standing = Standing::new(rt.alloc());
     assert!(rt; standing.snaps.take(&Name::of(b"s"), 7).is_ok());
-    assert_eq!(rt; standing.snaps.command_of(b"s"), Some(7));
-    assert_eq!(rt; standing.snaps.command_of(b"t"), None);
+    assert!(rt; standing.snaps.command_of(b"s") == Some(7));
+    assert!(rt; standing.snaps.command_of(b"t").is_none());
 }

@@ -1,101 +1,138 @@
 // Which events may come, and what was visible where.
-use crate::driver::{Act, Driver};
-use std::process::Abort;
+use crate::events::Act::{Abort, Ask, Commit, Drop, Id, Oldest, Snap, Sub, Undo};
+use crate::lives::check;
 
 #[test]
 fn commit_is_visible_behind_its_place(rt: HostRuntime) {
-    let mut driver = Driver::new(&rt);
-    assert!(rt; driver.may(&rt, 0, Act::Id(3)));
-    assert!(rt; driver.may(&rt, 1, Act::Id(4)));
-    assert!(rt; driver.may(&rt, 0, Act::Commit(3)));
-    assert!(rt; driver.may(&rt, 1, Act::Abort(4)));
-    assert!(rt; !driver.sees(&rt, 2, 3));
-    assert!(rt; driver.sees(&rt, 3, 3));
-    assert!(rt; driver.sees(&rt, 4, 3));
-    assert!(rt; !driver.sees(&rt, 4, 4));
-    assert!(rt; !driver.sees(&rt, 4, 5));
+    check(
+        &rt,
+        &[
+            (0, 1, Id(3), true),
+            (1, 2, Id(4), true),
+            (0, 3, Commit(3), true),
+            (1, 4, Abort(4), true),
+        ],
+        &[
+            (2, 3, false),
+            (3, 3, true),
+            (4, 3, true),
+            (4, 4, false),
+            (4, 5, false),
+        ],
+    );
 }
 
 #[test]
 fn special_ids_and_the_base_are_visible_at_once(rt: HostRuntime) {
-    let driver = Driver::new(&rt);
-    assert!(rt; !driver.sees(&rt, 0, 0));
-    assert!(rt; driver.sees(&rt, 0, 1));
-    assert!(rt; driver.sees(&rt, 0, 2));
-    assert!(rt; driver.sees(&rt, 0, 1000));
-    assert!(rt; !driver.sees(&rt, 0, 3));
+    check(
+        &rt,
+        &[],
+        &[
+            (0, 0, false),
+            (0, 1, true),
+            (0, 2, true),
+            (0, 1000, true),
+            (0, 3, false),
+        ],
+    );
 }
 
 #[test]
 fn undone_savepoint_is_hidden(rt: HostRuntime) {
-    let mut driver = Driver::new(&rt);
-    assert!(rt; driver.may(&rt, 0, Act::Id(3)));
-    assert!(rt; driver.may(&rt, 0, Act::Sub(3, 4)));
-    assert!(rt; driver.may(&rt, 0, Act::Sub(4, 5)));
-    assert!(rt; driver.may(&rt, 0, Act::Sub(3, 6)));
-    assert!(rt; driver.may(&rt, 0, Act::Undo(4)));
-    assert!(rt; !driver.may(&rt, 0, Act::Undo(5)));
-    assert!(rt; !driver.may(&rt, 0, Act::Sub(5, 7)));
-    assert!(rt; driver.may(&rt, 0, Act::Sub(6, 7)));
-    assert!(rt; driver.may(&rt, 0, Act::Commit(3)));
-    assert!(rt; driver.sees(&rt, 7, 3));
-    assert!(rt; !driver.sees(&rt, 7, 4));
-    assert!(rt; !driver.sees(&rt, 7, 5));
-    assert!(rt; driver.sees(&rt, 7, 6));
-    assert!(rt; driver.sees(&rt, 7, 7));
-    assert!(rt; !driver.sees(&rt, 6, 7));
+    check(
+        &rt,
+        &[
+            (0, 1, Id(3), true),
+            (0, 2, Sub(3, 4), true),
+            (0, 3, Sub(4, 5), true),
+            (0, 4, Sub(3, 6), true),
+            (0, 5, Undo(4), true),
+            (0, 6, Undo(5), false),
+            (0, 7, Sub(5, 7), false),
+            (0, 8, Sub(6, 7), true),
+            (0, 9, Commit(3), true),
+        ],
+        &[
+            (7, 3, true),
+            (7, 4, false),
+            (7, 5, false),
+            (7, 6, true),
+            (7, 7, true),
+            (6, 7, false),
+        ],
+    );
 }
 
 #[test]
 fn ids_come_one_after_another(rt: HostRuntime) {
-    let mut driver = Driver::new(&rt);
-    assert!(rt; !driver.may(&rt, 0, Act::Id(4)));
-    assert!(rt; driver.may(&rt, 0, Act::Id(3)));
-    assert!(rt; !driver.may(&rt, 0, Act::Id(4)));
-    assert!(rt; !driver.may(&rt, 1, Act::Sub(3, 4)));
-    assert!(rt; !driver.may(&rt, 0, Act::Sub(3, 5)));
-    assert!(rt; !driver.may(&rt, 0, Act::Sub(4, 4)));
-    assert!(rt; driver.may(&rt, 1, Act::Id(4)));
+    check(
+        &rt,
+        &[
+            (0, 1, Id(4), false),
+            (0, 2, Id(3), true),
+            (0, 3, Id(4), false),
+            (1, 4, Sub(3, 4), false),
+            (0, 5, Sub(3, 5), false),
+            (0, 6, Sub(4, 4), false),
+            (1, 7, Id(4), true),
+        ],
+        &[],
+    );
 }
 
 #[test]
 fn ends_are_of_the_own_open_top(rt: HostRuntime) {
-    let mut driver = Driver::new(&rt);
-    assert!(rt; driver.may(&rt, 0, Act::Id(3)));
-    assert!(rt; driver.may(&rt, 0, Act::Sub(3, 4)));
-    assert!(rt; !driver.may(&rt, 1, Act::Commit(3)));
-    assert!(rt; !driver.may(&rt, 0, Act::Commit(4)));
-    assert!(rt; !driver.may(&rt, 0, Act::Abort(4)));
-    assert!(rt; !driver.may(&rt, 0, Act::Undo(3)));
-    assert!(rt; driver.may(&rt, 0, Act::Commit(3)));
-    assert!(rt; !driver.may(&rt, 0, Act::Commit(3)));
-    assert!(rt; !driver.may(&rt, 0, Act::Undo(4)));
-    assert!(rt; driver.may(&rt, 0, Act::Id(5)));
+    check(
+        &rt,
+        &[
+            (0, 1, Id(3), true),
+            (0, 2, Sub(3, 4), true),
+            (1, 3, Commit(3), false),
+            (0, 4, Commit(4), false),
+            (0, 5, Abort(4), false),
+            (0, 6, Undo(3), false),
+            (0, 7, Commit(3), true),
+            (0, 8, Commit(3), false),
+            (0, 9, Undo(4), false),
+            (0, 10, Id(5), true),
+        ],
+        &[],
+    );
 }
 
 #[test]
 fn snapshots_hold_back_the_oldest_id(rt: HostRuntime) {
-    let mut driver = Driver::new(&rt);
-    assert!(rt; driver.may(&rt, 0, Act::Snap(b's')));
-    assert!(rt; !driver.may(&rt, 0, Act::Snap(b's')));
-    assert!(rt; driver.may(&rt, 1, Act::Snap(b's')));
-    assert!(rt; driver.may(&rt, 1, Act::Drop(b's')));
-    assert!(rt; !driver.may(&rt, 1, Act::Drop(b's')));
-    assert!(rt; driver.may(&rt, 1, Act::Id(3)));
-    assert!(rt; driver.may(&rt, 1, Act::Commit(3)));
-    assert!(rt; !driver.may(&rt, 1, Act::Oldest(4)));
-    assert!(rt; driver.may(&rt, 0, Act::Drop(b's')));
-    assert!(rt; driver.may(&rt, 1, Act::Oldest(4)));
-    assert!(rt; !driver.may(&rt, 1, Act::Oldest(3)));
-    assert!(rt; !driver.may(&rt, 1, Act::Oldest(5)));
+    check(
+        &rt,
+        &[
+            (0, 1, Snap(b's'), true),
+            (0, 2, Snap(b's'), false),
+            (1, 3, Snap(b's'), true),
+            (1, 4, Drop(b's'), true),
+            (1, 5, Drop(b's'), false),
+            (1, 6, Id(3), true),
+            (1, 7, Commit(3), true),
+            (1, 8, Oldest(4), false),
+            (0, 9, Drop(b's'), true),
+            (1, 10, Oldest(4), true),
+            (1, 11, Oldest(3), false),
+            (1, 12, Oldest(5), false),
+        ],
+        &[],
+    );
 }
 
 #[test]
 fn numbers_never_fall_and_special_ids_are_not_asked_for(rt: HostRuntime) {
-    let mut driver = Driver::new(&rt);
-    assert!(rt; driver.may_at(&rt, 0, 7, Act::Ask(3)));
-    assert!(rt; driver.may_at(&rt, 0, 7, Act::Ask(3)));
-    assert!(rt; !driver.may_at(&rt, 0, 6, Act::Ask(3)));
-    assert!(rt; driver.may_at(&rt, 1, 6, Act::Ask(3)));
-    assert!(rt; !driver.may_at(&rt, 1, 7, Act::Ask(2)));
+    check(
+        &rt,
+        &[
+            (0, 7, Ask(3), true),
+            (0, 7, Ask(3), true),
+            (0, 6, Ask(3), false),
+            (1, 6, Ask(3), true),
+            (1, 7, Ask(2), false),
+        ],
+        &[],
+    );
 }

@@ -19,58 +19,55 @@ fn line_of(command: Command, reply: Reply) -> Line {
     Line { by, command, reply }
 }
 
-/// Whether the line may come next, as far as the session's standing tells.
-fn may(standing: &Standing, command: Command, reply: Reply, pending: Option<Refusal>) -> bool {
-    is_refused_by_standing(&line_of(command, reply), standing, pending)
-}
-
 /// A commit is pending.
 fn held() -> Option<Refusal> {
     Some(Refusal::CommitPending)
 }
 
+/// Whether the line may come next, as far as the session's standing tells, is `wanted`.
+fn check<R: Abort>(
+    rt: &R,
+    standing: &Standing,
+    command: Command,
+    reply: Reply,
+    pending: Option<Refusal>,
+    wanted: bool,
+) {
+    let may = is_refused_by_standing(&line_of(command, reply), standing, pending);
+    assert!(rt; may == wanted);
+}
+
 #[test]
 fn release_and_undo_want_a_savepoint(rt: HostRuntime) {
     let mut standing = Standing::new(rt.alloc());
-    assert!(rt;
-        may(
-            &standing,
-            Command::Write,
-            refused(Refusal::NoTransaction),
-            None
-        )
-    );
+    let none = refused(Refusal::NoTransaction);
+    check(&rt, &standing, Command::Write, none, None, true);
     standing.levels.begin();
-    assert!(rt;
-        may(
-            &standing,
-            Command::Release,
-            refused(Refusal::NoSavepoint),
-            None
-        )
-    );
-    assert!(rt; !may(&standing, Command::Undo, Reply::Done, None));
-    assert!(rt; may(&standing, Command::Undo, refused(Refusal::Memory), None));
-    assert!(rt;
-        may(
-            &standing,
-            Command::Begin,
-            refused(Refusal::AlreadyOpen),
-            None
-        )
-    );
+    let none = refused(Refusal::NoSavepoint);
+    check(&rt, &standing, Command::Release, none, None, true);
+    check(&rt, &standing, Command::Undo, Reply::Done, None, false);
+    let memory = refused(Refusal::Memory);
+    check(&rt, &standing, Command::Undo, memory, None, true);
+    let open = refused(Refusal::AlreadyOpen);
+    check(&rt, &standing, Command::Begin, open, None, true);
     assert!(rt; standing.levels.save().is_ok());
-    assert!(rt; may(&standing, Command::Undo, Reply::Done, None));
-    assert!(rt;
-        may(
-            &standing,
-            Command::Save,
-            refused(Refusal::CommitPending),
-            held()
-        )
-    );
-    assert!(rt; !may(&standing, Command::Save, Reply::Done, held()));
-    assert!(rt; may(&standing, Command::Commit, Reply::Done, held()));
+    check(&rt, &standing, Command::Undo, Reply::Done, None, true);
+    let pending = refused(Refusal::CommitPending);
+    check(&rt, &standing, Command::Save, pending, held(), true);
+    check(&rt, &standing, Command::Save, Reply::Done, held(), false);
+    check(&rt, &standing, Command::Commit, Reply::Done, held(), true);
+}
+
+/// What is pending behind the line is `wanted`.
+fn check_pending<R: Abort>(
+    rt: &R,
+    recorded: bool,
+    before: Option<Refusal>,
+    command: &Command,
+    reply: &Reply,
+    wanted: Option<Refusal>,
+) {
+    assert!(rt; pending_after(recorded, before, command, reply) == wanted);
 }
 
 #[test]
@@ -80,14 +77,13 @@ fn faults_leave_an_end_pending(rt: HostRuntime) {
     let fault = refused(Refusal::DiskFault {
         lock: Lock::Xact(0),
     });
-    let commit = Some(Refusal::CommitPending);
-    assert!(rt; pending_after(false, None, &Command::Commit, &log) == commit);
-    assert!(rt; pending_after(true, None, &Command::Commit, &down) == commit);
-    assert!(rt; pending_after(false, None, &Command::Commit, &down).is_none());
-    let abort = pending_after(false, None, &Command::Abort, &fault);
-    assert!(rt; abort == Some(Refusal::AbortPending));
-    assert!(rt; pending_after(false, commit, &Command::Commit, &Reply::Done).is_none());
-    assert!(rt; pending_after(false, commit, &Command::Save, &log) == commit);
+    let abort = Some(Refusal::AbortPending);
+    check_pending(&rt, false, None, &Command::Commit, &log, held());
+    check_pending(&rt, true, None, &Command::Commit, &down, held());
+    check_pending(&rt, false, None, &Command::Commit, &down, None);
+    check_pending(&rt, false, None, &Command::Abort, &fault, abort);
+    check_pending(&rt, false, held(), &Command::Commit, &Reply::Done, None);
+    check_pending(&rt, false, held(), &Command::Save, &log, held());
 }
 
 #[test]

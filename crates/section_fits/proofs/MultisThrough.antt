@@ -45,8 +45,8 @@ use Rattle.bank_follows.proofs.Tails.{keeps_tails}
 use Rattle.engine_parts.specs.BankCourse.{CameTo, CutBefore, HasRoom, IsMemberOn, IsOffsetOn, IsOpenedOn, LookedAt, MadePage, MembersCame, NotedOnly, OffsetsCame, Rack, SetThem, StepsTo, SyncedAll, cuts_page, member_rack, offset_rack, set_of}
 use Rattle.engine_parts.specs.Shelf.{Shelf}
 use Rattle.engine_parts.specs.Shelves.{member_shelf, offset_shelf}
-use Rattle.engine_life.proofs.MembersTails.{TailsHold, tails_hold}
-use Rattle.engine_life.proofs.SetsInRoom.{offsets_in_room, slots_in_room}
+use Rattle.section_fits.proofs.MembersTails.{TailsHold, tails_hold}
+use Rattle.section_fits.proofs.SetsInRoom.{offsets_in_room, slots_in_room}
 use Rattle.section_fits.specs.Courses.{FollowsBeginning, FollowsThroughout}
 
 -- ---- a store whose numbers are kept byte by byte: as its course tells of it, and as its pieces are watched
@@ -75,7 +75,7 @@ no_sync kind page cuts is = let z : None ≡ Some page = sym (ap cut_in is) ∙ 
 
 -- the bank that a course began with
 module _ {P O : Type 0} {g : disks.Ghosts P} {r : rules.Ghosts O} {I V R : Type 0} (k : Rack I V R) (Asked : ℕ → Type 0) (Clean : (ℕ → Option V) → Type 0) (Tails : (ℕ → List ℕ) → Type 0) where
-  first_of : (steps : ℕ) (store : SlruBank P O g r) (es : List Entry) → CameTo k Asked Clean Tails steps store es → SlruBank P O g r
+  abbrev first_of : (steps : ℕ) (store : SlruBank P O g r) (es : List Entry) → CameTo k Asked Clean Tails steps store es → SlruBank P O g r
   first_of zero store es came = store
   first_of (suc n) store es came = first_of n came.0 came.1 came.2
 
@@ -244,10 +244,10 @@ module _ {P : Type 0} (g : disks.Ghosts P) (told : IsTrue g.tells) (only_now : (
 
   -- ---- the bytes behind the last slot of each page of members
 
-  module _ (start : Start) (bank : ℕ) {O : Type 0} {r : rules.Ghosts O} where
-    stays : KeepsTails g.images g.moment g.left_at
-    stays = keeps_tails g.images g.moment g.left_at
+  stays : KeepsTails g.images g.moment g.left_at
+  stays = keeps_tails g.images g.moment g.left_at
 
+  module _ (start : Start) (bank : ℕ) {O : Type 0} {r : rules.Ghosts O} where
     -- they are 0 at each moment of a step
     tails_stepped : (old new : SlruBank P O g r) (before es : List Entry) → TailsHold g told only_now start bank old → StepsTo (member_rack start) (IsMemberOn start bank) HasZeroTails old new before es
         → Throughout g.images g.moment g.left_at ImageHasZeroTails (volume_of old) (volume_of new)

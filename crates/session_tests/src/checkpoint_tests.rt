@@ -1,6 +1,5 @@
 //! Checkpoints between two rounds.
 use crate::test_help::check_rows;
-use std::test::Fail;
 
 const ROWS: &str = "=== a_crash_behind_a_checkpoint
 # The next life goes on from the checkpoint's counters, and has what was committed before it.
@@ -135,6 +134,6 @@ history
 ";
 
 #[test]
-fn checkpoints(rt: HostRuntime) -> Result<(), Fail> {
-    check_rows(&rt, ROWS)
+fn checkpoints(rt: HostRuntime) {
+    check_rows(&rt, ROWS);
 }

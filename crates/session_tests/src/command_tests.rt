@@ -1,6 +1,5 @@
 //! Savepoints, snapshots and verdicts, command by command.
 use crate::test_help::check_rows;
-use std::test::Fail;
 
 const ROWS: &str = "=== undo_of_many_levels
 a begin
@@ -156,6 +155,6 @@ history
 ";
 
 #[test]
-fn commands(rt: HostRuntime) -> Result<(), Fail> {
-    check_rows(&rt, ROWS)
+fn commands(rt: HostRuntime) {
+    check_rows(&rt, ROWS);
 }

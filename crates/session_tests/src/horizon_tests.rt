@@ -1,6 +1,5 @@
 //! The oldest xmin, and commits over two pages, which lie in one bank or in two.
 use crate::test_help::check_rows;
-use std::test::Fail;
 
 const ROWS: &str = "=== snapshot_holds_the_horizon_back
 # No id from a live snapshot's xmin on is let go, whoever asks.
@@ -158,6 +157,6 @@ end
 ";
 
 #[test]
-fn horizons(rt: HostRuntime) -> Result<(), Fail> {
-    check_rows(&rt, ROWS)
+fn horizons(rt: HostRuntime) {
+    check_rows(&rt, ROWS);
 }

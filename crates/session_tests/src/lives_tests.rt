@@ -1,6 +1,5 @@
 //! Lives, one behind a crash of the other.
 use crate::test_help::check_rows;
-use std::test::Fail;
 
 const ROWS: &str = "=== a_crash_begins_a_life
 # A crash is followed by an opening also where it is the script's last line.
@@ -98,6 +97,6 @@ log flushed 8 end 327
 ";
 
 #[test]
-fn lives(rt: HostRuntime) -> Result<(), Fail> {
-    check_rows(&rt, ROWS)
+fn lives(rt: HostRuntime) {
+    check_rows(&rt, ROWS);
 }

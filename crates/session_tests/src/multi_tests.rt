@@ -1,6 +1,5 @@
 //! Multixacts, and what is let go of them and of ids.
 use crate::test_help::check_rows;
-use std::test::Fail;
 
 const ROWS: &str = "=== members_are_read_back
 # The members of a multixact are read back by their stored halves, and stand on its pages.
@@ -255,9 +254,64 @@ raise a 14 1 1
 log flushed 1 end 62
 0 checkpoint next 3 oldest 3 multi 1 offset 1 oldest-multi 1 oldest-offset 1
 end
+=== a_truncation_cuts_the_pages_of_multixacts
+# The multixact before the next one is 131072, the first of page 64; the oldest offset is 104704, the first of page 64.
+.multi 131073
+.oldest-multi 1
+.offset 104704
+.oldest-offset 1
+a multifreeze 131073
+a trim
+.dump offsets 63 0 4
+.dump offsets 64 0 4
+.dump members 63 0 4
+.dump members 64 0 4
+--- part
+a 1 multifreeze 131073 -> ok
+a 2 trim -> ok
+dump offsets 63 0 4 -> cut 64
+dump offsets 64 0 4 -> 00 00 00 00
+dump members 63 0 4 -> cut 64
+dump members 64 0 4 -> 00 00 00 00
+--- part
+raise a 1 131073 104704
+--- part
+1 truncate 3 131073 104704
+=== a_truncation_cuts_the_parents_before_the_oldest_xmin
+# The oldest xmin is 65537 behind the commit; the one before it is the first of page 32 of pg_subtrans.
+.start 65535
+a begin
+a save
+a write
+a commit
+a trim
+.dump subtrans 31 8188 4
+.dump subtrans 32 0 4
+--- part
+a 3 write -> ok 65535 65536
+--- part
+a 5 trim -> ok
+dump subtrans 31 8188 4 -> cut 32
+dump subtrans 32 0 4 -> ff ff 00 00
+=== a_multixact_of_the_base_without_a_record_is_not_yet_there
+.multi 5
+.oldest-multi 1
+.offset 5
+.oldest-offset 1
+a snap s
+a seemulti s 3
+a multifreeze 3
+--- part
+a 2 seemulti s 3 -> not-yet 3
+a 3 multifreeze 3 -> not-yet 3
+--- part
+hold a 2 3
+unhold a 2 3
+hold a 3 3
+unhold a 3 3
 ";
 
 #[test]
-fn multixacts(rt: HostRuntime) -> Result<(), Fail> {
-    check_rows(&rt, ROWS)
+fn multixacts(rt: HostRuntime) {
+    check_rows(&rt, ROWS);
 }

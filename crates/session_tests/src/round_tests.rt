@@ -1,6 +1,5 @@
 //! Rounds, limits, and commands many times over.
 use crate::test_help::check_rows;
-use std::test::Fail;
 
 const ROWS: &str = "=== undone_savepoint_is_hidden
 a begin
@@ -326,6 +325,6 @@ b 10 see u 67 -> visible
 ";
 
 #[test]
-fn rounds(rt: HostRuntime) -> Result<(), Fail> {
-    check_rows(&rt, ROWS)
+fn rounds(rt: HostRuntime) {
+    check_rows(&rt, ROWS);
 }

@@ -1,14 +1,12 @@
 //! The first worked runs, and how a run ends otherwise.
-use crate::test_help::{check_rows, run_words, status_of};
+use crate::test_help::{check_rows, sink_of, source_of, status_of, text_of, word};
 use engine_parts::OpenGate;
 use script_rounds::RoundThreads;
-use std::alloc::{AllocGlobal, Global};
+use std::alloc::AllocGlobal;
 use std::process::Abort;
-use std::str::SplitWhitespace;
 use std::sync::Wait;
-use std::test::Fail;
 use std::thread::Threads;
-use tx_io::{Failed, MemSink, MemSource, Source};
+use tx_io::{Failed, Source};
 
 const ROWS: &str = "=== empty_script
 --- report
@@ -127,70 +125,79 @@ end
 ";
 
 #[test]
-fn first_runs(rt: HostRuntime) -> Result<(), Fail> {
-    check_rows(&rt, ROWS)
+fn first_runs(rt: HostRuntime) {
+    check_rows(&rt, ROWS);
 }
 
-/// Runs that end otherwise: behind each script the status, the room of the sink, which read fails if one does, and the
+/// A run that ends otherwise: its script, the reads of its source that fail, how much room its sink has, the status, and the
 /// text of which the sink holds as much as it has room for.
-const ENDINGS: &str = "=== bytes_that_are_no_script_are_refused
-a begin
-a frob
---- 1 100 0
-script 2 command
-=== a_failing_read_is_a_read_fault
-a begin
---- 3 100 1
-read-fault
-=== a_sink_of_twenty_holds_the_front_of_the_report
---- 4 20 0
-txid report 1
-life 1 from 0 next 3
-=== a_life_is_written_before_its_crash
-# The life that crashed is written before the next one is opened: a sink that is full then holds no more.
-.crash lost
-.crash kept
---- 4 14 0
-txid report 1
-life 1 from 0 next 3
-";
-
-fn next_number(words: &mut SplitWhitespace<'_>) -> Result<u64, Fail> {
-    let word = words.next().ok_or("a number is missing")?;
-    Ok(word.parse::<u64>().ok().ok_or("no number")?)
+#[derive(Drop)]
+struct Ending {
+    name: &'static str,
+    script: &'static str,
+    failing: &'static [u64],
+    room: u64,
+    status: u8,
+    text: &'static str,
 }
+
+const ENDINGS: [Ending; 4] = [
+    Ending {
+        name: "bytes_that_are_no_script_are_refused",
+        script: "a begin\na frob\n",
+        failing: &[0],
+        room: 100,
+        status: 1,
+        text: "script 2 command\n",
+    },
+    Ending {
+        name: "a_failing_read_is_a_read_fault",
+        script: "a begin\n",
+        failing: &[1],
+        room: 100,
+        status: 3,
+        text: "read-fault\n",
+    },
+    Ending {
+        name: "a_sink_of_twenty_holds_the_front_of_the_report",
+        script: "",
+        failing: &[0],
+        room: 20,
+        status: 4,
+        text: "txid report 1\nlife 1 from 0 next 3\n",
+    },
+    // The life that crashed is written before the next one is opened: a sink that is full then holds no more.
+    Ending {
+        name: "a_life_is_written_before_its_crash",
+        script: ".crash lost\n.crash kept\n",
+        failing: &[0],
+        room: 14,
+        status: 4,
+        text: "txid report 1\nlife 1 from 0 next 3\n",
+    },
+];
 
 /// A run of the script ends as the row says.
-fn check_ending(
-    rt: &(impl Abort + AllocGlobal + Threads + Wait + Sync),
-    row: &str,
-) -> Result<(), Fail> {
-    let alloc = rt.alloc();
-    let (front, behind) = row.split_once("--- ").ok_or("a row without an end")?;
-    let (name, script) = front.split_once("\n").ok_or("a row without a name")?;
-    let (numbers, text) = behind.split_once("\n").ok_or("a row without a text")?;
-    let mut numbers = numbers.split_whitespace();
-    let wanted = next_number(&mut numbers)?;
-    let room = next_number(&mut numbers)?;
-    let failing = vec![in alloc; next_number(&mut numbers)?]?;
-    let mut source = MemSource::new(Vec::from_slice(alloc, script.as_bytes())?, failing);
-    let words = [String::from_str(alloc, "run")?];
-    let (status, written) = run_words(rt, &words, &mut source, room)?;
-    assert!(rt; text.starts_with(written.as_str()), "{name}: {written}");
-    let fits = text.len() as u64;
-    assert_eq!(rt; written.len() as u64, fits.min(room), "{name}");
-    assert_eq!(rt; u64::from(status), wanted, "{name}");
-    Ok(())
+fn check_ending(rt: &(impl Abort + AllocGlobal + Threads + Wait + Sync), row: &Ending) {
+    let failing = Vec::from_slice(rt.alloc(), row.failing).expect(rt, "memory");
+    let mut source = source_of(rt, row.script, failing);
+    let mut sink = sink_of(rt, row.room);
+    let words = [word(rt, "run")];
+    let threads = RoundThreads::AtMost(4);
+    let status = status_of(rt, &words, &mut source, &mut sink, threads, &OpenGate);
+    let written = text_of(rt, &sink);
+    let length = (row.text.len() as u64).min(row.room);
+    let is_well = status == row.status
+        && row.text.starts_with(written.as_str())
+        && written.len() as u64 == length;
+    assert!(rt; is_well, "{}: {status} {written}", row.name);
 }
 
 #[test]
-fn runs_that_end_otherwise(rt: HostRuntime) -> Result<(), Fail> {
-    for row in ENDINGS.split("=== ") {
-        if !row.is_empty() {
-            check_ending(&rt, row)?;
-        }
+fn runs_that_end_otherwise(rt: HostRuntime) {
+    for row in &ENDINGS {
+        check_ending(&rt, row);
     }
-    Ok(())
 }
 
 /// A source that never ends.
@@ -218,13 +225,10 @@ impl Source for Endless {
 
 /// A run stops one byte past the limit of a script.
 #[test]
-fn script_past_the_limit_is_refused(rt: HostRuntime) -> Result<(), Fail> {
-    let alloc = rt.alloc();
-    let mut sink = MemSink::new(alloc, 100, Vec::new(alloc))?;
-    let words = [String::from_str(alloc, "run")?];
+fn script_past_the_limit_is_refused(rt: HostRuntime) {
+    let mut sink = sink_of(&rt, 100);
+    let words = [word(&rt, "run")];
     let threads = RoundThreads::AtMost(4);
     let status = status_of(&rt, &words, &mut Endless, &mut sink, threads, &OpenGate);
-    assert_eq!(rt; status, 1);
-    assert_eq!(rt; sink.held(), b"script 0 size\n".as_slice());
-    Ok(())
+    assert!(rt; status == 1 && sink.held() == b"script 0 size\n".as_slice());
 }

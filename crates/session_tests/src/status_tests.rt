@@ -1,6 +1,5 @@
 //! How ids stand: the status of an id at its question, by the rules of docs/SCRIPT-AND-REPORT.md.
 use crate::test_help::check_rows;
-use std::test::Fail;
 
 const ROWS: &str = "=== status_follows_the_transaction
 a begin
@@ -122,6 +121,6 @@ end
 ";
 
 #[test]
-fn statuses(rt: HostRuntime) -> Result<(), Fail> {
-    check_rows(&rt, ROWS)
+fn statuses(rt: HostRuntime) {
+    check_rows(&rt, ROWS);
 }

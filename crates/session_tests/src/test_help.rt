@@ -4,10 +4,9 @@ use engine_parts::{Gate, OpenGate};
 use report_check::check_tool;
 use script_rounds::RoundThreads;
 use session_run::run_tool;
-use std::alloc::{AllocGlobal, Global};
+use std::alloc::AllocGlobal;
 use std::process::Abort;
 use std::sync::Wait;
-use std::test::Fail;
 use std::thread::Threads;
 use tx_io::{MemSink, MemSource, Sink, Source};
 
@@ -25,73 +24,62 @@ pub fn status_of<S: Source, K: Sink, G: Gate + Sync>(
     run_tool(rt, alloc, words, source, sink, &mut media, threads, gate)
 }
 
-/// The same over a source and a sink in memory, the sessions of a round on at most four threads. Answers the status and
-/// what the sink holds then.
-pub fn run_words(
-    rt: &(impl AllocGlobal + Threads + Wait + Sync),
-    words: &[String],
-    source: &mut MemSource,
-    room: u64,
-) -> Result<(u8, String), Fail> {
-    let alloc = rt.alloc();
-    let mut sink = MemSink::new(alloc, room, Vec::new(alloc))?;
-    let status = status_of(
-        rt,
-        words,
-        source,
-        &mut sink,
-        RoundThreads::AtMost(4),
-        &OpenGate,
-    );
-    Ok((status, text_of(alloc, sink.held())?))
+/// A source of these bytes, of which as many reads fail as the plan says.
+pub fn source_of(rt: &(impl Abort + AllocGlobal), script: &str, failing: Vec<u64>) -> MemSource {
+    let bytes = Vec::from_slice(rt.alloc(), script.as_bytes()).expect(rt, "memory");
+    MemSource::new(bytes, failing)
 }
 
-/// Bytes that were written, as text.
-fn text_of(alloc: Global, bytes: &[u8]) -> Result<String, Fail> {
-    let held = Vec::from_slice(alloc, bytes)?;
-    Ok(
-        String::from_utf8(held)
-            .ok()
-            .ok_or("what was written isn't text")?,
-    )
+/// A sink with so much room.
+pub fn sink_of(rt: &(impl Abort + AllocGlobal), room: u64) -> MemSink {
+    let alloc = rt.alloc();
+    MemSink::new(alloc, room, Vec::new(alloc)).expect(rt, "memory")
+}
+
+/// What a sink holds, as text.
+pub fn text_of(rt: &(impl Abort + AllocGlobal), sink: &MemSink) -> String {
+    let held = Vec::from_slice(rt.alloc(), sink.held()).expect(rt, "memory");
+    String::from_utf8(held).ok().expect(rt, "text is written")
+}
+
+pub fn word(rt: &(impl Abort + AllocGlobal), word: &str) -> String {
+    String::from_str(rt.alloc(), word).expect(rt, "memory")
 }
 
 /// The report that a run of the script writes, with status 0, its sessions on such threads and past this gate.
 pub fn report_past<G: Gate + Sync>(
-    rt: &(impl AllocGlobal + Threads + Wait + Sync),
+    rt: &(impl Abort + AllocGlobal + Threads + Wait + Sync),
     script: &str,
     threads: RoundThreads,
     gate: &G,
-) -> Result<String, Fail> {
-    let alloc = rt.alloc();
-    let words = [String::from_str(alloc, "run")?];
-    let mut source = MemSource::new(Vec::from_slice(alloc, script.as_bytes())?, Vec::new(alloc));
-    let mut sink = MemSink::new(alloc, 100_000, Vec::new(alloc))?;
-    match status_of(rt, &words, &mut source, &mut sink, threads, gate) {
-        0 => text_of(alloc, sink.held()),
-        _ => Err(Fail::from("the status isn't 0")),
-    }
+) -> String {
+    let words = [word(rt, "run")];
+    let mut source = source_of(rt, script, Vec::new(rt.alloc()));
+    let mut sink = sink_of(rt, 100_000);
+    let status = status_of(rt, &words, &mut source, &mut sink, threads, gate);
+    assert!(rt; status == 0);
+    text_of(rt, &sink)
 }
 
 /// Whether the checker calls the report lawful.
-pub fn is_lawful(alloc: Global, report: &str) -> Result<bool, Fail> {
-    let mut source = MemSource::new(Vec::from_slice(alloc, report.as_bytes())?, Vec::new(alloc));
-    let mut sink = MemSink::new(alloc, 100, Vec::new(alloc))?;
-    Ok(check_tool(alloc, &mut source, &mut sink) == 0 && sink.held() == b"lawful\n".as_slice())
+pub fn is_lawful(rt: &(impl Abort + AllocGlobal), report: &str) -> bool {
+    let mut source = source_of(rt, report, Vec::new(rt.alloc()));
+    let mut sink = sink_of(rt, 100);
+    let status = check_tool(rt.alloc(), &mut source, &mut sink);
+    status == 0 && sink.held() == b"lawful\n".as_slice()
 }
 
 /// The script of a row behind these lines, with a line `N times LINE` written out.
-pub fn written_out(alloc: Global, front: &str, script: &str) -> Result<String, Fail> {
-    let mut text = String::from_str(alloc, front)?;
+pub fn written_out(rt: &(impl Abort + AllocGlobal), front: &str, script: &str) -> String {
+    let mut text = word(rt, front);
     for line in script.split_inclusive("\n") {
-        let Some((count, line)) = line.split_once(" times ") else {
-            text.push_str(line)?;
-            continue;
-        };
-        let count = count.parse::<usize>().ok().ok_or("no number of times")?;
-        text.push_str(line.repeat(alloc, count)?.as_str())?;
+        let (count, line) = line.split_once(" times ").unwrap_or(("1", line));
+        let count = count.parse::<usize>().ok().expect(rt, "a number of times");
+        for _ in 0..count {
+            text.push_str(line).expect(rt, "memory");
+        }
     }
-    Ok(text)
+    text
 }
 
 /// Whether these lines stand in a text, one behind another.
@@ -121,33 +109,24 @@ pub fn holds(report: &str, texts: &str) -> bool {
 
 /// A row's report, with these header lines before its script, is or has what the row says of it, and is lawful to the
 /// checker.
-fn check_row(
-    rt: &(impl Abort + AllocGlobal + Threads + Wait + Sync),
-    banks: &str,
-    row: &str,
-) -> Result<(), Fail> {
-    let (front, texts) = row.split_once("--- ").ok_or("a row without a text")?;
-    let (name, script) = front.split_once("\n").ok_or("a row without a name")?;
-    let script = written_out(rt.alloc(), banks, script)?;
-    let report = report_past(rt, script.as_str(), RoundThreads::AtMost(4), &OpenGate)?;
-    let is_well = holds(report.as_str(), texts) && is_lawful(rt.alloc(), report.as_str())?;
+fn check_row(rt: &(impl Abort + AllocGlobal + Threads + Wait + Sync), banks: &str, row: &str) {
+    let (front, texts) = row.split_once("--- ").expect(rt, "a row with a text");
+    let (name, script) = front.split_once("\n").expect(rt, "a row with a name");
+    let script = written_out(rt, banks, script);
+    let report = report_past(rt, script.as_str(), RoundThreads::AtMost(4), &OpenGate);
+    let is_well = holds(report.as_str(), texts) && is_lawful(rt, report.as_str());
     assert!(rt; is_well, "{name}: {report}");
-    Ok(())
 }
 
 /// Runs the script of each row with 1, 2, 4 and 16 banks. A row is a line `=== NAME`, the script, and behind a line
 /// `--- report` the whole report, or behind each line `--- part` lines that stand in it one behind another.
-pub fn check_rows(
-    rt: &(impl Abort + AllocGlobal + Threads + Wait + Sync),
-    rows: &str,
-) -> Result<(), Fail> {
+pub fn check_rows(rt: &(impl Abort + AllocGlobal + Threads + Wait + Sync), rows: &str) {
     for row in rows.split("=== ") {
         if row.is_empty() {
             continue;
         }
         for banks in ["", ".banks 1\n", ".banks 2\n", ".banks 16\n"] {
-            check_row(rt, banks, row)?;
+            check_row(rt, banks, row);
         }
     }
-    Ok(())
 }

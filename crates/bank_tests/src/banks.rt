@@ -9,7 +9,7 @@ use crate::stores::{
     step,
 };
 use disk_core::{MemPages, PageDisk};
-use slru_bank::{SlruBank, put_number, read_number};
+use slru_bank::{PageSpan, SlruBank, put_number, read_number};
 use std::alloc::Global;
 use std::str::SplitWhitespace;
 use std::test::Fail;
@@ -142,7 +142,7 @@ fn next_place(words: &mut SplitWhitespace<'_>) -> Result<u32, Fail>
 }
 
 /// What a bank answers to a call about its pages.
-fn of_pages<P: PageDisk, O: PageRule>(
+fn of_pages<P: PageDisk, O: PageSpan>(
     alloc: Global,
     bank: &mut SlruBank<P, O>,
     verb: OfPages,

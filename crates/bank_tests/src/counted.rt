@@ -3,7 +3,7 @@ ghost use Rattle.std.specs.Prelude.{◌≡◌, ◌+◌, ◌*◌, ◌%◌, ◌^�
 ghost use Rattle.tx_events.specs.PageOrder.{Ids};
 
 use disk_core::{Failed, PageDisk};
-use slru_bank::SlruBank;
+use slru_bank::{PageSpan, SlruBank};
 use std::alloc::Global;
 use std::test::Fail;
 use store_pages::PageRule;
@@ -27,6 +27,12 @@ impl PageRule for IdPages {
 
     fn precedes(p: u32, q: u32) -> bool {
         precedes(number_of(p, 4), number_of(q, 4)) && precedes(number_of(p, 4), number_of(q, 32771))
+    }
+}
+
+impl PageSpan for IdPages {
+    fn per_page() -> u32 {
+        32768
     }
 }
 

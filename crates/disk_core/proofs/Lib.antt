@@ -3,5 +3,5 @@ pub mod Mixed
 pub mod MemLogCrash
 pub mod Clock
 pub mod MemPagesCrash
-pub mod TornPages
+pub mod Notes
 pub mod Banks

@@ -2,8 +2,8 @@
 use Rattle.std.proofs.Common.{◌≡◌, ◌≢◌, ◌≤◌, ◌⊎◌, inl, inr, ℕ, zero, suc, Bool, true, false, cond, eqb, List, [], ◌∷◌, replicate, Option, Some, None, Result, Ok, Err, refl, sym, ◌∙◌, ap, subst}
 use Rattle.std.specs.Prelude.{slice_index, OnOk, OnErr}
 use Rattle.std.proofs.lemmas.Bool.{cases_eq, eq-eqb, ne_eqb}
-use Rattle.disk_core.specs.Images.{Follows, NoMore, Only}
-use Rattle.disk_core.specs.Pages.{Pages, zero_page, page_bytes, OthersStay, IsMixOf, WrotePage, RemovedPage, HasPage}
+use Rattle.disk_core.specs.Images.{Follows}
+use Rattle.disk_core.specs.Pages.{Pages, zero_page, page_bytes, OthersStay, IsMixOf, WrotePage, RemovedPage, HasPage, LacksPage}
 use Rattle.disk_core.specs.MemLog.{mixed_bytes}
 use Rattle.disk_core.specs.MemPagesViews.{pages_now, pages_synced, pages_crashed}
 use Rattle.disk_core.specs.declared.mem_pages.MemPages.{MemPages}
@@ -91,7 +91,7 @@ module _ (page : ℕ) (from : List ℕ) (s w v : Pages) (others : OthersStay pag
       by_case (inr (inl e)) = (with_page c page (s page), placed c (s page) all (inr (inl refl)), removed_so (s page) (inr e))
       by_case (inr (inr e)) = (with_page c page (s page), placed c (s page) all (inr (inl refl)), removed_so (s page) (inl (e ∙ ap (mixed_page (s page)) gone)))
 
-mixed_page_same : (p : Option (List ℕ)) → mixed_page p p ≡ p
+pub mixed_page_same : (p : Option (List ℕ)) → mixed_page p p ≡ p
 mixed_page_same None = refl
 mixed_page_same (Some bytes) = ap (λ (l : List ℕ). Some l) (mixed_same false bytes)
 
@@ -124,13 +124,18 @@ pub follows_either : {E : Type 0} (r : Result (Unit {0}) E) (page : ℕ) (from :
 follows_either (Ok u) page from s w v ok err = page_follows page from s w v ok.others ok.here
 follows_either (Err e) page from s w v ok err = unchanged_follows page from s w v err
 
-pub kept_only : {E : Type 0} (r : Result (Unit {0}) E) (s v : Pages) → OnOk r (AreSame s v) → OnOk r (Only v (AreOutcomes s v))
-kept_only (Ok u) s v same = λ c all. pages_only s v c same all
-kept_only (Err e) s v same = tt
+pub removed_either : {E : Type 0} (r : Result (Unit {0}) E) (page : ℕ) (w v : Pages) → OnOk r (LacksPage page w v) → OnErr r (AreSame v w) → RemovedPage page w v
+removed_either (Ok u) page w v ok err = record { others = ok.others; gone = inl ok.gone }
+removed_either (Err e) page w v ok err = record { others = λ q apart. err q; gone = inr (err page) }
 
-pub kept_no_more : {E : Type 0} (r : Result (Unit {0}) E) (s s_2 v : Pages) → OnOk r (AreSame s_2 v) → OnErr r (AreSame s_2 s) → NoMore (AreOutcomes s v) (AreOutcomes s_2 v)
-kept_no_more (Ok u) s s_2 v same err = λ c all. pages_no_more s s_2 v c same all
-kept_no_more (Err e) s s_2 v same err = λ c all q. subst (λ (o : Option (List ℕ)). IsPageOutcome o (v q) (c q)) (err q) (all q)
+pub removal_follows_either : {E : Type 0} (r : Result (Unit {0}) E) (page : ℕ) (s w v : Pages) → OnOk r (LacksPage page w v) → OnErr r (AreSame v w) → Follows (RemovedPage page) (AreOutcomes s w) (AreOutcomes s v)
+removal_follows_either (Ok u) page s w v ok err c all = removed_follows page [] s w v ok.others ok.gone c all
+removal_follows_either (Err e) page s w v ok err c all =
+    (c, λ q. subst (λ (o : Option (List ℕ)). IsPageOutcome (s q) o (c q)) (err q) (all q), record { others = λ q apart. refl; gone = inr refl })
+
+-- the same pages are synced
+pub outcomes_same : (s s_2 v c : Pages) → AreSame s_2 s → AreOutcomes s_2 v c → AreOutcomes s v c
+outcomes_same s s_2 v c same all q = subst (λ (o : Option (List ℕ)). IsPageOutcome o (v q) (c q)) (same q) (all q)
 
 is_page_outcome : (how : Crash) (s w : Option (List ℕ)) → IsPageOutcome s w (page_outcome_of how s w)
 is_page_outcome Lost s w = inr (inl refl)

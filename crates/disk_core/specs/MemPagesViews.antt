@@ -5,7 +5,7 @@ use Rattle.std.specs.BTreeMap as tree
 use Rattle.disk_core.specs.Images.{Elapses}
 use Rattle.disk_core.specs.Past.{LeftAt}
 use Rattle.disk_core.specs.Pages.{Pages}
-use Rattle.disk_core.specs.MemPages.{AreOutcomes, page_outcome_of}
+use Rattle.disk_core.specs.MemPages.{synced_of, AreOutcomes, page_outcome_of}
 use Rattle.disk_core.specs.Media.{PagesCrashed}
 use Rattle.disk_core.specs.declared.media.Crash.{Crash}
 use Rattle.disk_core.specs.declared.mem_pages.MemPages.{MemPages}
@@ -15,7 +15,7 @@ abbrev pub pages_now : MemPages → Pages
 pages_now m q = tree.get nat_cmp m.now q
 
 abbrev pub pages_synced : MemPages → Pages
-pages_synced m q = tree.get nat_cmp m.synced q
+pages_synced m q = synced_of (tree.get nat_cmp m.before q) (tree.get nat_cmp m.now q)
 
 -- what a crash may leave now
 abbrev pub pages_images : MemPages → Pages → Type 0
@@ -23,7 +23,7 @@ pages_images m = AreOutcomes (pages_synced m) (pages_now m)
 
 -- what a crash at a moment may have left
 abbrev pub pages_left : PageMoment → Pages → Type 0
-pages_left m = AreOutcomes (λ q. tree.get nat_cmp m.synced q) (λ q. tree.get nat_cmp m.now q)
+pages_left m = AreOutcomes (λ q. synced_of (tree.get nat_cmp m.before q) (tree.get nat_cmp m.now q)) (λ q. tree.get nat_cmp m.now q)
 
 -- the same by the number of the moment
 abbrev pub pages_left_at : MemPages → ℕ → Pages → Type 0
@@ -34,7 +34,7 @@ PagesElapse old new = Elapses (length old.past.value) (length new.past.value) (p
 
 -- this moment, for the account
 abbrev pub page_moment : MemPages → PageMoment
-page_moment m = record { now = m.now; synced = m.synced }
+page_moment m = record { now = m.now; before = m.before }
 
 abbrev pub pages_crashed : MemPages → MemPages → Type 0
 pages_crashed = PagesCrashed (λ m. pages_now m) (λ m. pages_images m) (λ m. m.faults)

@@ -4,7 +4,7 @@ ghost use Rattle.std.specs.Ordering.{nat_cmp};
 ghost use Rattle.std.specs.BTreeMap as tree;
 ghost use Rattle.disk_core.specs.Faults.{CountsFault, counted_by};
 ghost use Rattle.disk_core.specs.MemLog.{mixed_bytes};
-ghost use Rattle.disk_core.specs.MemPages.{bytes_or_none, mixed_page};
+ghost use Rattle.disk_core.specs.MemPages.{synced_of, mixed_page, HasEntry, HaveSame, BecomesPage};
 ghost use Rattle.disk_core.specs.Pages.{HasPage, LacksPage, zero_page, IsPageRead, IsNextPage};
 
 use crate::mem_log::count;
@@ -16,17 +16,21 @@ use std::collections::{BTreeMap, LinkedList};
 
 type Map = BTreeMap<u32, PageBytes>;
 
+// What pages were at the last sync, none where they were absent.
+type Before = BTreeMap<u32, Option<PageBytes>>;
+
 // What a page volume in memory held at a moment.
 pub struct PageMoment {
     pub now: BTreeMap<u32, PageBytes>,
-    pub synced: BTreeMap<u32, PageBytes>,
+    pub before: BTreeMap<u32, Option<PageBytes>>,
 }
 
 #[derive(Drop)]
 pub struct MemPages {
     alloc: Global,
     now: BTreeMap<u32, PageBytes>,
-    synced: BTreeMap<u32, PageBytes>,
+    /// Of those that were written or removed since the last sync.
+    before: BTreeMap<u32, Option<PageBytes>>,
     faults: u64,
     past: Note<LinkedList<PageMoment>>,
 }
@@ -38,37 +42,73 @@ fn clear(into: &mut [u8; 8192])
     *into = [0; 8192];
 }
 
-fn put_page(alloc: Global, map: &mut Map, page: u32, from: &[u8; 8192]) -> Result<(), AllocError>
-    ensures ok { OnOk result (HasPage page from.now (λ q. tree.get nat_cmp map.old q) (λ q. tree.get nat_cmp map.new q)) }
+// Notes what a page was. Only of one that has no note can it fail.
+fn note_page(before: &mut Before, page: u32, bytes: Option<PageBytes>) -> Result<(), AllocError>
+    ensures ok { OnOk result (HasEntry page bytes (λ q. tree.get nat_cmp before.old q) (λ q. tree.get nat_cmp before.new q)) }
+    ensures err { OnErr result ((q : ℕ) → tree.get nat_cmp before.new q ≡ tree.get nat_cmp before.old q) }
+    ensures absent { OnErr result (tree.get nat_cmp before.old page ≡ None) }
+{
+    before.insert(page, bytes)?;
+    Ok(())
+}
+
+fn swap_page(map: &mut Map, page: u32, bytes: PageBytes) -> Result<Option<PageBytes>, AllocError>
+    ensures old { IfOk result (λ old. old ≡ tree.get nat_cmp map.old page) }
+    ensures ok { OnOk result (HasPage page bytes (λ q. tree.get nat_cmp map.old q) (λ q. tree.get nat_cmp map.new q)) }
     ensures err { OnErr result ((q : ℕ) → tree.get nat_cmp map.new q ≡ tree.get nat_cmp map.old q) }
+    ensures absent { OnErr result (tree.get nat_cmp map.old page ≡ None) }
+{
+    Ok(map.insert(page, bytes)?)
+}
+
+fn take_page(map: &mut Map, page: u32) -> Option<PageBytes>
+    ensures old { result ≡ tree.get nat_cmp map.old page }
+    ensures taken { LacksPage page (λ q. tree.get nat_cmp map.old q) (λ q. tree.get nat_cmp map.new q) }
+{
+    map.remove(&page)
+}
+
+fn put_page(
+    alloc: Global,
+    now: &mut Map,
+    before: &mut Before,
+    page: u32,
+    from: &[u8; 8192],
+) -> Result<(), AllocError>
+    ensures ok { OnOk result (HasPage page from.now (λ q. tree.get nat_cmp now.old q) (λ q. tree.get nat_cmp now.new q)) }
+    ensures err { OnErr result ((q : ℕ) → tree.get nat_cmp now.new q ≡ tree.get nat_cmp now.old q) }
+    ensures synced { HaveSame (λ q. tree.get nat_cmp before.old q) (λ q. tree.get nat_cmp now.old q) (λ q. tree.get nat_cmp before.new q) (λ q. tree.get nat_cmp now.new q) }
 {
     let bytes = PageBytes::new(alloc, from)?;
-    map.insert(page, bytes)?;
-    Ok(())
+    if before.contains_key(&page) {
+        swap_page(now, page, bytes)?;
+        return Ok(());
+    }
+    // With its place in the notes made first, nothing fails behind the write.
+    note_page(before, page, None)?;
+    let old = swap_page(now, page, bytes)?;
+    note_page(before, page, old)
 }
 
-fn remove_page(map: &mut Map, page: u32)
-    ensures { LacksPage page (λ q. tree.get nat_cmp map.old q) (λ q. tree.get nat_cmp map.new q) }
+fn remove_page(now: &mut Map, before: &mut Before, page: u32) -> Result<(), AllocError>
+    ensures ok { OnOk result (LacksPage page (λ q. tree.get nat_cmp now.old q) (λ q. tree.get nat_cmp now.new q)) }
+    ensures err { OnErr result ((q : ℕ) → tree.get nat_cmp now.new q ≡ tree.get nat_cmp now.old q) }
+    ensures synced { HaveSame (λ q. tree.get nat_cmp before.old q) (λ q. tree.get nat_cmp now.old q) (λ q. tree.get nat_cmp before.new q) (λ q. tree.get nat_cmp now.new q) }
 {
-    map.remove(&page);
+    if before.contains_key(&page) {
+        take_page(now, page);
+        return Ok(());
+    }
+    note_page(before, page, None)?;
+    let old = take_page(now, page);
+    note_page(before, page, old)
 }
 
-fn keep_pages(copy: &mut Map, map: &Map) -> Result<(), AllocError>
-    ensures ok { OnOk result ((q : ℕ) → tree.get nat_cmp copy.new q ≡ tree.get nat_cmp map.now q) }
-    ensures err { OnErr result ((q : ℕ) → tree.get nat_cmp copy.new q ≡ tree.get nat_cmp copy.old q) }
+// Forgets what pages were.
+fn forget_notes(before: &mut Before)
+    ensures { (q : ℕ) → tree.get nat_cmp before.new q ≡ None }
 {
-    *copy = map.clone()?;
-    Ok(())
-}
-
-fn keep_all(copy: &mut Map, map: &Map, faults: &mut u64) -> Result<(), Failed>
-    ensures ok { OnOk result ((q : ℕ) → tree.get nat_cmp copy.new q ≡ tree.get nat_cmp map.now q) }
-    ensures err { OnErr result ((q : ℕ) → tree.get nat_cmp copy.new q ≡ tree.get nat_cmp copy.old q) }
-    ensures cause { CountsFault result faults.old faults.new }
-    ensures counted { faults.new ≡ counted_by result faults.old }
-{
-    let outcome = keep_pages(copy, map);
-    count(outcome, faults)
+    before.clear();
 }
 
 // The least present page from a place on.
@@ -109,49 +149,50 @@ fn read_from(map: &Map, page: u32, into: &mut [u8; 8192]) -> bool
     }
 }
 
-// A page torn over what was synced of it.
-fn tear_page(synced: &Map, page: u32, bytes: &mut PageBytes)
-    ensures { bytes.new ≡ mixed_bytes false (bytes_or_none (tree.get nat_cmp synced.now page)) bytes.old }
+// Puts a page back as it was.
+fn put_back(map: &mut Map, page: u32, bytes: Option<PageBytes>) -> Result<(), AllocError>
+    ensures { OnOk result (BecomesPage page bytes (λ q. tree.get nat_cmp map.old q) (λ q. tree.get nat_cmp map.new q)) }
 {
-    match synced.get(&page) {
-        Some(old) => bytes.tear(old.bytes()),
-        None => bytes.tear(&[]),
+    match bytes {
+        Some(bytes) => {
+            map.insert(page, bytes)?;
+        }
+        None => {
+            map.remove(&page);
+        }
     }
-}
-
-fn add_page(map: &mut Map, page: u32, bytes: PageBytes) -> Result<(), AllocError>
-    ensures { OnOk result (HasPage page bytes (λ q. tree.get nat_cmp map.old q) (λ q. tree.get nat_cmp map.new q)) }
-{
-    map.insert(page, bytes)?;
     Ok(())
 }
 
-// What a torn crash leaves of each page.
-fn torn_pages(alloc: Global, synced: &Map, now: &Map) -> Result<Map, AllocError>
-    ensures { IfOk result (λ torn. (q : ℕ) → tree.get nat_cmp torn q ≡ mixed_page (tree.get nat_cmp synced.now q) (tree.get nat_cmp now.now q)) }
+// Puts all pages back as they were.
+fn put_all_back(now: &mut Map, before: &mut Before) -> Result<(), AllocError>
+    ensures now { OnOk result ((q : ℕ) → tree.get nat_cmp now.new q ≡ synced_of (tree.get nat_cmp before.old q) (tree.get nat_cmp now.old q)) }
+    ensures settled { OnOk result ((q : ℕ) → tree.get nat_cmp before.new q ≡ None) }
 {
-    let mut torn = BTreeMap::new(alloc);
-    let mut rest = now.clone()?;
-    while let Some((page, mut bytes)) = rest.pop_first() {
-        tear_page(synced, page, &mut bytes);
-        add_page(&mut torn, page, bytes)?;
+    while let Some((page, bytes)) = before.pop_first() {
+        put_back(now, page, bytes)?;
     }
-    Ok(torn)
+    Ok(())
 }
 
-fn tear_all(alloc: Global, now: &mut Map, synced: &Map, faults: &mut u64) -> Result<(), Failed>
-    ensures ok { OnOk result ((q : ℕ) → tree.get nat_cmp now.new q ≡ mixed_page (tree.get nat_cmp synced.now q) (tree.get nat_cmp now.old q)) }
-    ensures err { OnErr result ((q : ℕ) → tree.get nat_cmp now.new q ≡ tree.get nat_cmp now.old q) }
-    ensures cause { CountsFault result faults.old faults.new }
-    ensures counted { faults.new ≡ counted_by result faults.old }
+// A page torn over what it was.
+fn tear_page(map: &mut Map, page: u32, old: Option<PageBytes>)
+    ensures { BecomesPage page (mixed_page old (tree.get nat_cmp map.old page)) (λ q. tree.get nat_cmp map.old q) (λ q. tree.get nat_cmp map.new q) }
 {
-    let torn = torn_pages(alloc, synced, now);
-    match torn {
-        Ok(torn) => {
-            *now = torn;
-            Ok(())
+    if let Some(bytes) = map.get_mut(&page) {
+        match &old {
+            Some(old) => bytes.tear(old.bytes()),
+            None => bytes.tear(&[]),
         }
-        Err(e) => count(Err(e), faults),
+    }
+}
+
+fn tear_all(now: &mut Map, before: &mut Before)
+    ensures torn { (q : ℕ) → tree.get nat_cmp now.new q ≡ mixed_page (synced_of (tree.get nat_cmp before.old q) (tree.get nat_cmp now.old q)) (tree.get nat_cmp now.old q) }
+    ensures settled { (q : ℕ) → tree.get nat_cmp before.new q ≡ None }
+{
+    while let Some((page, old)) = before.pop_first() {
+        tear_page(now, page, old);
     }
 }
 
@@ -202,7 +243,7 @@ impl PageDisk for MemPages {
         ensures counted { self.new.faults ≡ counted_by result self.old.faults }
     {
         let past = Note::by(&*self);
-        let outcome = put_page(self.alloc, &mut self.now, page, from);
+        let outcome = put_page(self.alloc, &mut self.now, &mut self.before, page, from);
         self.past = past;
         count(outcome, &mut self.faults)
     }
@@ -216,9 +257,9 @@ impl PageDisk for MemPages {
         ensures counted { self.new.faults ≡ counted_by result self.old.faults }
     {
         let past = Note::by(&*self);
-        remove_page(&mut self.now, page);
+        let outcome = remove_page(&mut self.now, &mut self.before, page);
         self.past = past;
-        Ok(())
+        count(outcome, &mut self.faults)
     }
 
     fn after(&mut self, page: Option<u32>) -> Result<Option<u32>, Failed>
@@ -243,7 +284,8 @@ impl PageDisk for MemPages {
     {
         let past = Note::by(&*self);
         self.past = past;
-        keep_all(&mut self.synced, &self.now, &mut self.faults)
+        forget_notes(&mut self.before);
+        Ok(())
     }
 }
 
@@ -262,7 +304,7 @@ impl MemPages {
         MemPages {
             alloc,
             now: BTreeMap::new(alloc),
-            synced: BTreeMap::new(alloc),
+            before: BTreeMap::new(alloc),
             faults: 0,
             past,
         }
@@ -275,11 +317,17 @@ impl MemPages {
         ensures counted { self.new.faults ≡ counted_by result self.old.faults }
     {
         match how {
-            Crash::Lost => keep_all(&mut self.now, &self.synced, &mut self.faults),
-            Crash::Kept => keep_all(&mut self.synced, &self.now, &mut self.faults),
+            Crash::Lost => {
+                let outcome = put_all_back(&mut self.now, &mut self.before);
+                count(outcome, &mut self.faults)
+            }
+            Crash::Kept => {
+                forget_notes(&mut self.before);
+                Ok(())
+            }
             Crash::Torn => {
-                tear_all(self.alloc, &mut self.now, &self.synced, &mut self.faults)?;
-                keep_all(&mut self.synced, &self.now, &mut self.faults)
+                tear_all(&mut self.now, &mut self.before);
+                Ok(())
             }
         }
     }

@@ -8,7 +8,6 @@ use std::marker::Model;
 
 #[derive(Drop)]
 pub struct PageBytes {
-    alloc: Global,
     bytes: Box<[u8; 8192]>,
 }
 
@@ -25,7 +24,6 @@ impl PageBytes {
         ensures { IfOk result (λ p. p ≡ bytes.now) }
     {
         Ok(PageBytes {
-            alloc,
             bytes: Box::new(alloc, *bytes)?,
         })
     }
@@ -47,13 +45,5 @@ impl PageBytes {
         ensures { into.new ≡ self.now }
     {
         *into = *self.bytes;
-    }
-}
-
-impl Clone for PageBytes {
-    ghost is_clone = { λ x y. y ≡ x };
-
-    fn clone(&self) -> Result<PageBytes, AllocError> {
-        PageBytes::new(self.alloc, &self.bytes)
     }
 }

@@ -1,5 +1,5 @@
 -- What new parts stand for.
-use Rattle.std.proofs.Common.{Box, Global, ℕ, zero, suc, ◌/◌, option_map, length-append, Result, Ok, Err, is_ok, IfOk, IsOk, if◌then◌else◌, insert, ◌+◌, ◌*◌, ◌%◌, ◌^◌, ◌<◌, ◌≤◌, ◌≡◌, ◌⊎◌, ⊎_elim, Bool, false, true, cond, IsTrue, List, [], ◌∷◌, ◌++◌, Option, None, Some, Contains, append-nil, drop, length, map, max, get_or, inl, refl, take, sym, ap, subst, ◌∙◌, arith}
+use Rattle.std.proofs.Common.{Box, Global, ℕ, zero, suc, ◌/◌, option_map, length-append, Result, Ok, Err, is_ok, IfOk, IsOk, if◌then◌else◌, insert, ◌+◌, ◌-◌, ◌*◌, ◌%◌, ◌^◌, ◌<◌, ◌≤◌, ◌≡◌, ◌⊎◌, ⊎_elim, Bool, false, true, cond, IsTrue, List, [], ◌∷◌, ◌++◌, Option, None, Some, Contains, append-nil, drop, length, map, max, get_or, inl, refl, take, sym, ap, subst, ◌∙◌, arith}
 use Rattle.std.proofs.lemmas.Option.{slice_get-map, get_or_from_slice_get}
 use Rattle.std.specs.List.{slice_get}
 use Rattle.disk_core.specs.declared.log_disk.LogDisk as logs
@@ -95,7 +95,8 @@ log_begins c b tells faults images recs next first flushed counters down checkpo
   kept = λ told.
       let k = keeps told in
       (k.0, k.1, subst (λ (t : List Rec). KeepsRecords k.0 t recs next first flushed images) (sym (append-nil k.1)) k.2, λ t. gives_any c b counts k.0 k.1 (k.3 t));
-  first_is = record { one = inl (let here : first < b.number + 1 = omega (arith, low) in here); behind = λ up. omega arith };
+  first_is = record { exact = let same : b.number + 1 - 1 ≡ b.number = omega arith in low ∙ sym same; one = inl (let here : first < b.number + 1 = omega (arith, low) in here); behind = λ up. omega arith };
+  others = λ told. let k = keeps told in (k.2.other, k.2.begins);
   alone = λ number ends. absurd (let long = ap (λ (t : List Entry). length t) ends.split in let more = length-append ends.before (record { by = ends.appender; kind = kinds.Append (records.Checkpoint number ends.counters) } ∷ record { by = ends.flusher; kind = kinds.Flush (number + 1) } ∷ []) in omega (arith, long, more));
 }
 

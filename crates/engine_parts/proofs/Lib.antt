@@ -7,6 +7,7 @@ pub mod May
 pub mod Tabling
 pub mod Multing
 pub mod Logging
+pub mod Beginning
 pub mod Cutoffs
 pub mod Shelving
 pub mod OffsetShelf

@@ -1,5 +1,5 @@
 -- The log stands for its list after each call.
-use Rattle.std.proofs.Common.{Contains, drop, inl, inr, ⊎_elim, ◌≡◌, ◌≢◌, ℕ, ◌+◌, ◌≤◌, ◌<◌, List, [], ◌∷◌, ◌++◌, refl, sym, ap, subst, ◌∙◌, append-nil, append_assoc, length, map, arith, Bool, IsTrue, Option, Some, None, ◌||◌, false, true}
+use Rattle.std.proofs.Common.{Contains, drop, inl, inr, ⊎_elim, ◌⊎◌, ◌≡◌, ◌≢◌, ℕ, ◌+◌, ◌-◌, ◌≤◌, ◌<◌, List, [], ◌∷◌, ◌++◌, refl, sym, ap, subst, ◌∙◌, append-nil, append_assoc, length, map, arith, Bool, IsTrue, Option, Some, None, ◌||◌, false, true}
 use Rattle.std.proofs.Math.Seq.{drop-append_seam}
 use Rattle.std.proofs.lemmas.Bool.{false≢true}
 use Rattle.std.proofs.lemmas.List.{map_push, length-append}
@@ -18,10 +18,10 @@ use Rattle.tx_core.specs.declared.entry.Kind.TheVariants as kinds
 use Rattle.tx_core.specs.declared.entry.LogCall.{LogCall}
 use Rattle.tx_core.specs.declared.entry.LogCall.TheVariants as calls
 use Rattle.tx_core.specs.declared.entry.Start.{Start}
-use Rattle.tx_core.specs.Entries.{appended, flushed_in, flushed_to}
+use Rattle.tx_core.specs.Entries.{appended, flushed_in, flushed_to, last_from}
 use Rattle.disk_core.specs.declared.log_disk.LogDisk as logs
 use Rattle.wal_core.specs.declared.wal_log.WalLog.{WalLog}
-use Rattle.wal_core.specs.Kept.{KeepsRecords}
+use Rattle.wal_core.specs.Kept.{BeginWith, KeepsRecords, first_on, other_behind}
 use Rattle.wal_core.specs.LogViews.{log_checkpoint, log_counters, log_disk, log_down, log_end, log_first, log_flushed, log_next, log_pending, log_recs}
 use Rattle.tx_core.specs.RecordsFollow.{counters_after}
 use Rattle.tx_core.specs.Entries.{recs_in}
@@ -34,7 +34,7 @@ use Rattle.tx_core.proofs.LastNumbers.{number_push, number_same}
 use Rattle.wal_core.specs.Checkpoint.{IsLastCheckpoint}
 use Rattle.wal_core.specs.declared.checkpoint.LastCheckpoint.{LastCheckpoint}
 use Rattle.tx_events.specs.declared.record.Rec.TheVariants as records
-use Rattle.engine_parts.specs.Stand.{EndsInCheckpoint, IsDownAt, IsFirstKept, LogStands, MayForgetThere, forgotten_in}
+use Rattle.engine_parts.specs.Stand.{EndsInCheckpoint, IsDownAt, IsFirstKept, LogStands, MayForgetThere, begin_asked, begin_asked_in, begin_other, forgotten_in, other_from}
 
 -- one entry more
 recs_push : (es : List Entry) (e : Entry) (rec : Rec) → appended e ≡ Some (e.by, rec) → recs_in (es ++ e ∷ []) ≡ recs_in es ++ rec ∷ []
@@ -71,20 +71,68 @@ front_false false b e = refl
 up_before : (es : List Entry) (e : Entry) → IsUp (es ++ e ∷ []) → IsUp es
 up_before es e up = front_false (list_any (λ (d : Entry). is_put_down d.kind) es) (list_any (λ (d : Entry). is_put_down d.kind) (e ∷ [])) (sym (list_any-append (λ (d : Entry). is_put_down d.kind) es (e ∷ [])) ∙ up)
 
--- what may be kept first may be so with an entry more, that forgets nothing
-pub first_more : (start : Start) (es : List Entry) (e : Entry) (n : ℕ) → forgotten_in e.kind ≡ None → IsFirstKept start es n → IsFirstKept start (es ++ e ∷ []) n
+-- an entry that was to forget nothing forgot nothing
+none_forgotten : (k : Kind) → begin_asked_in k ≡ None → forgotten_in k ≡ None
+none_forgotten (kinds.Forget number) none = absurd cc
+none_forgotten (kinds.Append rec) none = refl
+none_forgotten (kinds.Flush to) none = refl
+none_forgotten (kinds.LogFault asked count) none = refl
+none_forgotten (kinds.Event event) none = refl
+none_forgotten (kinds.Made id) none = refl
+none_forgotten (kinds.Multi event) none = refl
+none_forgotten (kinds.Post number) none = refl
+none_forgotten (kinds.Set changes) none = refl
+none_forgotten (kinds.Zero page) none = refl
+none_forgotten (kinds.Cut page) none = refl
+none_forgotten kinds.Sync none = refl
+none_forgotten (kinds.Fault callers changes cut count) none = refl
+none_forgotten (kinds.Request changes) none = refl
+none_forgotten kinds.Look none = refl
+
+-- what may be kept first may be so with an entry more, that was to forget nothing
+pub first_more : (start : Start) (es : List Entry) (e : Entry) (n : ℕ) → begin_asked_in e.kind ≡ None → IsFirstKept start es n → IsFirstKept start (es ++ e ∷ []) n
 first_more start es e n none kept = record {
+  exact = kept.exact ∙ sym (number_same begin_asked_in (start.from - 1) es e none);
   one = ⊎_elim
       (λ (low : n < start.from). inl low)
       (⊎_elim
       (λ (k : (by : By) × Contains es (record { by = by; kind = kinds.Forget n })). inr (inl (k.0, Contains-append_left es (e ∷ []) (record { by = k.0; kind = kinds.Forget n }) k.1)))
       (λ (k : (count : ℕ) × (by : By) × Contains es (record { by = by; kind = kinds.LogFault (calls.Forget n) count })). inr (inr (k.0, k.1, Contains-append_left es (e ∷ []) (record { by = k.1; kind = kinds.LogFault (calls.Forget n) k.0 }) k.2))))
       kept.one;
-  behind = λ up. subst (λ z. z ≤ n) (sym (number_same forgotten_in 0 es e none)) (kept.behind (up_before es e up));
+  behind = λ up. subst (λ z. z ≤ n) (sym (number_same forgotten_in 0 es e (none_forgotten e.kind none))) (kept.behind (up_before es e up));
 }
 
-pub first_same : (start : Start) (es : List Entry) (e : Entry) (n m : ℕ) → m ≡ n → forgotten_in e.kind ≡ None → IsFirstKept start es n → IsFirstKept start (es ++ e ∷ []) m
+pub first_same : (start : Start) (es : List Entry) (e : Entry) (n m : ℕ) → m ≡ n → begin_asked_in e.kind ≡ None → IsFirstKept start es n → IsFirstKept start (es ++ e ∷ []) m
 first_same start es e n m same none k = first_more start es e m none (subst (λ z. IsFirstKept start es z) (sym same) k)
+
+-- ---- with which other record its images may begin
+
+other_push : (kept other : ℕ) (numbers : List ℕ) (number : ℕ) → other_from kept other (numbers ++ number ∷ []) ≡ other_behind number (last_from kept numbers) (other_from kept other numbers)
+other_push kept other [] number = refl
+other_push kept other (n ∷ numbers) number = other_push n (other_behind n kept other) numbers number
+
+other_same : (before : ℕ) (start : Start) (es : List Entry) (e : Entry) → begin_asked_in e.kind ≡ None → begin_other before start (es ++ e ∷ []) ≡ begin_other before start es
+other_same before start es e none =
+    ap (other_from (start.from - 1) before) (filter_map-append (λ (d : Entry). begin_asked_in d.kind) es (e ∷ [])
+    ∙ (ap (λ o. filter_map (λ (d : Entry). begin_asked_in d.kind) es ++ cons_option o []) none ∙ append-nil (filter_map (λ (d : Entry). begin_asked_in d.kind) es)))
+
+-- with an entry more, that was to forget before a checkpoint
+pub other_asked : (before : ℕ) (start : Start) (es : List Entry) (e : Entry) (number : ℕ) → begin_asked_in e.kind ≡ Some number → begin_other before start (es ++ e ∷ []) ≡ other_behind number (begin_asked start es) (begin_other before start es)
+other_asked before start es e number is =
+    ap (other_from (start.from - 1) before) (filter_map-append (λ (d : Entry). begin_asked_in d.kind) es (e ∷ []) ∙ ap (λ o. filter_map (λ (d : Entry). begin_asked_in d.kind) es ++ cons_option o []) is)
+    ∙ other_push (start.from - 1) before (filter_map (λ (d : Entry). begin_asked_in d.kind) es) number
+
+-- and with one that was to forget nothing, where each image begins as one of before
+pub others_same : (start : Start) (es : List Entry) (e : Entry) (tells : Bool) (images images' : Volume → Type 0) (first first' : ℕ) → begin_asked_in e.kind ≡ None → (IsTrue tells → (before : ℕ) × BeginWith first (begin_other before start es) images)
+    → (IsTrue tells → (other : ℕ) → BeginWith first other images → BeginWith first' other images') → IsTrue tells → (before : ℕ) × BeginWith first' (begin_other before start (es ++ e ∷ [])) images'
+others_same start es e tells images images' first first' none old same told =
+    let o = old told in (o.0, subst (λ (n : ℕ). BeginWith first' n images') (sym (other_same o.0 start es e none)) (same told (begin_other o.0 start es) o.1))
+
+-- as where its volume is as it was
+pub begins_untouched : {D : Type 0} {g : logs.Ghosts D} (old new : WalLog D g) → log_disk new ≡ log_disk old → log_first new ≡ log_first old
+    → IsTrue g.tells → (other : ℕ) → BeginWith (log_first old) other (g.images (log_disk old)) → BeginWith (log_first new) other (g.images (log_disk new))
+begins_untouched {g = g} old new disk first told other begins c image =
+    subst (λ (n : ℕ). (first_on c ≡ n) ⊎ (first_on c ≡ other)) (sym first) (begins c (subst (λ d. g.images d c) disk image))
 
 -- a log that its last entry put down is down
 or_true : (a : Bool) → (a || true) ≡ true
@@ -124,8 +172,9 @@ module _ (start : Start) (tells : Bool) (faults faults' : ℕ) (images images' :
   -- an append
   pub appends : (rec : Rec) → recs' ≡ recs ++ rec ∷ [] → next' ≡ next + 1 → flushed' ≡ flushed → counters' ≡ Some (after_record (counters_after start es) rec) → down' ≡ down → faults' ≡ faults → first' ≡ first
       → (IsTrue tells → (number : ℕ) (all : List Rec) → KeepsRecords number all recs next first flushed images → KeepsRecords number (all ++ rec ∷ []) recs' next' first' flushed' images')
+      → (IsTrue tells → (other : ℕ) → BeginWith first other images → BeginWith first' other images')
       → LogStands start tells faults' images' recs' next' first' flushed' counters' down' checkpoint' (es ++ record { by = by; kind = kinds.Append rec } ∷ [])
-  appends rec r n f c d u low k =
+  appends rec r n f c d u low k begin =
       let e : Entry = record { by = by; kind = kinds.Append rec } in
       let more : recs_in (es ++ e ∷ []) ≡ recs_in es ++ rec ∷ [] = recs_push es e rec refl in record {
         recs_are = r ∙ (ap (λ (l : List Rec). l ++ rec ∷ []) s.recs_are ∙ (append_assoc start.logged (recs_in es) (rec ∷ []) ∙ ap (λ (l : List Rec). start.logged ++ l) (sym more)));
@@ -139,16 +188,18 @@ module _ (start : Start) (tells : Bool) (faults faults' : ℕ) (images images' :
             let old = s.kept told in
             (old.0, old.1, subst (λ (l : List Rec). KeepsRecords old.0 l recs' next' first' flushed' images') (append_assoc old.1 (recs_in es) (rec ∷ []) ∙ ap (λ (l : List Rec). old.1 ++ l) (sym more)) (k told old.0 (old.1 ++ recs_in es) old.2), old.3);
         first_is = first_same start es e first first' low refl s.first_is;
+        others = others_same start es e tells images images' first first' refl s.others begin;
         alone = unflushed start es e checkpoint' refl;
       }
 
-  -- a call that appended nothing: what it says of flushes and faults comes with the entry
-  pub goes_on : (kind : Kind) → appended (record { by = by; kind = kind }) ≡ None → recs' ≡ recs → next' ≡ next → counters' ≡ counters → flushed' ≡ flushed_to start (es ++ record { by = by; kind = kind } ∷ [])
+  -- a call that appended nothing: what it says of flushes, faults and first records comes with the entry
+  pub goes_with : (kind : Kind) → appended (record { by = by; kind = kind }) ≡ None → recs' ≡ recs → next' ≡ next → counters' ≡ counters → flushed' ≡ flushed_to start (es ++ record { by = by; kind = kind } ∷ [])
       → faults_told start log_lock (es ++ record { by = by; kind = kind } ∷ []) ≤ faults' → ((m : ℕ) → down' ≡ Some m → IsDownAt start (es ++ record { by = by; kind = kind } ∷ []) m × (m ≤ flushed')) → (down' ≡ None → IsUp (es ++ record { by = by; kind = kind } ∷ []))
       → IsFirstKept start (es ++ record { by = by; kind = kind } ∷ []) first' → MayForgetThere start (es ++ record { by = by; kind = kind } ∷ []) checkpoint'
       → (IsTrue tells → (number : ℕ) (all : List Rec) → KeepsRecords number all recs next first flushed images → KeepsRecords number all recs' next' first' flushed' images')
+      → (IsTrue tells → (before : ℕ) × BeginWith first' (begin_other before start (es ++ record { by = by; kind = kind } ∷ [])) images')
       → LogStands start tells faults' images' recs' next' first' flushed' counters' down' checkpoint' (es ++ record { by = by; kind = kind } ∷ [])
-  goes_on kind none r n c f u d up low alone k =
+  goes_with kind none r n c f u d up low alone k begin =
       let e : Entry = record { by = by; kind = kind } in
       let same : recs_in (es ++ e ∷ []) ≡ recs_in es = recs_same es e none in record {
         recs_are = r ∙ (s.recs_are ∙ ap (λ (l : List Rec). start.logged ++ l) (sym same));
@@ -162,8 +213,19 @@ module _ (start : Start) (tells : Bool) (faults faults' : ℕ) (images images' :
             let old = s.kept told in
             (old.0, old.1, subst (λ (l : List Rec). KeepsRecords old.0 (old.1 ++ l) recs' next' first' flushed' images') (sym same) (k told old.0 (old.1 ++ recs_in es) old.2), old.3);
         first_is = low;
+        others = begin;
         alone = alone;
       }
+
+  -- and that was to forget nothing
+  pub goes_on : (kind : Kind) → appended (record { by = by; kind = kind }) ≡ None → recs' ≡ recs → next' ≡ next → counters' ≡ counters → flushed' ≡ flushed_to start (es ++ record { by = by; kind = kind } ∷ [])
+      → faults_told start log_lock (es ++ record { by = by; kind = kind } ∷ []) ≤ faults' → ((m : ℕ) → down' ≡ Some m → IsDownAt start (es ++ record { by = by; kind = kind } ∷ []) m × (m ≤ flushed')) → (down' ≡ None → IsUp (es ++ record { by = by; kind = kind } ∷ []))
+      → IsFirstKept start (es ++ record { by = by; kind = kind } ∷ []) first' → MayForgetThere start (es ++ record { by = by; kind = kind } ∷ []) checkpoint'
+      → (IsTrue tells → (number : ℕ) (all : List Rec) → KeepsRecords number all recs next first flushed images → KeepsRecords number all recs' next' first' flushed' images')
+      → begin_asked_in kind ≡ None → (IsTrue tells → (other : ℕ) → BeginWith first other images → BeginWith first' other images')
+      → LogStands start tells faults' images' recs' next' first' flushed' counters' down' checkpoint' (es ++ record { by = by; kind = kind } ∷ [])
+  goes_on kind none r n c f u d up low alone k none_asked same =
+      goes_with kind none r n c f u d up low alone k (others_same start es (record { by = by; kind = kind }) tells images images' first first' none_asked s.others same)
 
 -- a log of which nothing changed stands for the list with the look too
 pub log_looks : {D : Type 0} {g : logs.Ghosts D} (start : Start) (log : WalLog D g) (es : List Entry) (by : By) → IsLogOf start log es → IsLogOf start log (es ++ record { by = by; kind = kinds.Look } ∷ [])
@@ -172,7 +234,7 @@ log_looks {g = g} start log es by s =
     goes_on start g.tells (g.faults (log_disk log)) (g.faults (log_disk log)) (g.images (log_disk log)) (g.images (log_disk log)) (log_recs log) (log_recs log) (log_next log) (log_next log) (log_first log) (log_first log) (log_flushed log) (log_flushed log) (log_counters log) (log_counters log) (log_down log) (log_down log) (log_checkpoint log) (log_checkpoint log) es by s kinds.Look refl refl refl refl
     (s.flushed_is ∙ sym (number_same flushed_in start.from es e refl))
     (let same : faults_told start log_lock (es ++ e ∷ []) ≡ faults_told start log_lock es = number_same count_in (faults_at start log_lock) es e refl in let before = s.count in omega arith)
-    (λ m is. let before = s.failed m is in (failed_more start es e m before.0, before.1)) (λ none. up_more es e refl (s.up none)) (first_more start es e (log_first log) refl s.first_is) (unflushed start es e (log_checkpoint log) refl) (λ told number all k. k)
+    (λ m is. let before = s.failed m is in (failed_more start es e m before.0, before.1)) (λ none. up_more es e refl (s.up none)) (first_more start es e (log_first log) refl s.first_is) (unflushed start es e (log_checkpoint log) refl) (λ told number all k. k) refl (λ told other begins. begins)
 
 -- the flushed number is that of a flush, where it is past the start's
 pub flush_stands : (start : Start) (es : List Entry) (number : ℕ) → start.from ≤ number → number < flushed_to start es → (to : ℕ) × (number < to) × (by : By) × Contains es (record { by = by; kind = kinds.Flush to })

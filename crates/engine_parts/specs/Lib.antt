@@ -5,6 +5,7 @@ pub mod Shelves
 pub mod ShelfLaws
 pub mod BankCourse
 pub mod Parts
+pub mod Begins
 pub mod Law
 pub mod Holds
 pub mod Stages

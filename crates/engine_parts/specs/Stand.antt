@@ -1,6 +1,6 @@
 -- What a value behind a lock says, where the lock's list is this one. A record for each kind of value, over plain
 -- numbers, lists and maps.
-use Rattle.std.specs.Prelude.{◌≡◌, ℕ, ◌+◌, ◌*◌, ◌^◌, ◌%◌, ◌<◌, ◌≤◌, ◌⊎◌, Bool, false, IsTrue, List, [], ◌∷◌, ◌++◌, length, Option, Some, None, Contains, max, slice_get, take, true}
+use Rattle.std.specs.Prelude.{◌≡◌, ℕ, ◌+◌, ◌-◌, ◌*◌, ◌^◌, ◌%◌, ◌<◌, ◌≤◌, ◌⊎◌, Bool, false, IsTrue, List, [], ◌∷◌, ◌++◌, length, Option, Some, None, Contains, max, slice_get, take, true}
 use Rattle.std.specs.List.{filter_map, fold}
 use Rattle.disk_core.specs.Volume.{Volume}
 use Rattle.tx_events.specs.declared.event.By.{By}
@@ -10,7 +10,7 @@ use Rattle.tx_events.specs.declared.record.Rec.TheVariants as records
 use Rattle.log_bases.specs.LifeBase.{AreBelowNext, LifeBase, base_after}
 use Rattle.multi_store.specs.Generator.{Generator}
 use Rattle.proc_table.specs.Table.{Table}
-use Rattle.wal_core.specs.Kept.{KeepsRecords}
+use Rattle.wal_core.specs.Kept.{BeginWith, KeepsRecords, other_behind}
 use Rattle.wal_core.specs.declared.checkpoint.LastCheckpoint.{LastCheckpoint}
 use Rattle.tx_events.specs.Ids.{IsFullId, id_before}
 use Rattle.tx_events.specs.PageOrder.{Ids, is_cut}
@@ -64,9 +64,30 @@ forgotten_in _ = None
 abbrev pub forgotten_to : List Entry → ℕ
 forgotten_to es = last_from 0 (filter_map (λ e. forgotten_in e.kind) es)
 
+-- the same where it was to be forgotten, also where that failed
+abbrev pub begin_asked_in : Kind → Option ℕ
+begin_asked_in (kinds.Forget number) = Some number
+begin_asked_in (kinds.LogFault (calls.Forget number) count) = Some number
+begin_asked_in _ = None
+
+-- the checkpoint with which the log is to begin: the last of these, or at first that of the life's begin
+abbrev pub begin_asked : Start → List Entry → ℕ
+begin_asked start es = last_from (start.from - 1) (filter_map (λ e. begin_asked_in e.kind) es)
+
+-- what `other_behind` leaves when each of these was asked for in turn
+abbrev pub other_from : ℕ → ℕ → List ℕ → ℕ
+other_from kept other [] = other
+other_from kept other (number ∷ numbers) = other_from number (other_behind number kept other) numbers
+
+-- The checkpoint with which it was to begin before that one: the one asked for before, of an earlier record, or that of
+-- the life's begin; and where none was asked for yet, some record `before`.
+abbrev pub begin_other : ℕ → Start → List Entry → ℕ
+begin_other before start es = other_from (start.from - 1) before (filter_map (λ e. begin_asked_in e.kind) es)
+
 -- The first record that each image keeps may be this one: one from before the life, or a checkpoint before which the log
 -- was to be forgotten, also where that failed. Where the log isn't down, it is none from before the last forget.
 pub record IsFirstKept (start : Start) (es : List Entry) (n : ℕ) : Type 0 where
+  pub exact : n ≡ begin_asked start es
   pub one : (n < start.from) ⊎ (((by : By) × Contains es (record { by = by; kind = kinds.Forget n }))
       ⊎ ((count : ℕ) × (by : By) × Contains es (record { by = by; kind = kinds.LogFault (calls.Forget n) count })))
   pub behind : IsUp es → forgotten_to es ≤ n
@@ -92,7 +113,8 @@ MayForgetThere start es checkpoint = (number : ℕ) → EndsInCheckpoint start e
 
 -- The log has the records from before and those that were appended. Its flushed number is that of the last flush. It
 -- is down exactly where its list says so, from what was flushed then on. Each image of its volume opens to the records
--- that are flushed, behind those that gave the life's begin, where the volumes told it. What was forgotten the list says.
+-- that are flushed, behind those that gave the life's begin, where the volumes told it. What was forgotten the list says:
+-- each image begins there, or where it was to begin before.
 pub record LogStands (start : Start) (tells : Bool) (faults : ℕ) (images : Volume → Type 0) (recs : List Rec)
     (next first flushed : ℕ) (counters : Option Counters) (down : Option ℕ) (checkpoint : Option LastCheckpoint)
     (es : List Entry) : Type 0 where
@@ -107,6 +129,7 @@ pub record LogStands (start : Start) (tells : Bool) (faults : ℕ) (images : Vol
       × KeepsRecords number (past ++ recs_in es) recs next first flushed images
       × (IsTrue start.told → GivesStart start number past)
   pub first_is : IsFirstKept start es first
+  pub others : IsTrue tells → (before : ℕ) × BeginWith first (begin_other before start es) images
   pub alone : MayForgetThere start es checkpoint
 
 -- ---- the ProcArray

@@ -6,3 +6,6 @@ pub mod Ranning
 pub mod Answering
 pub mod TrimSteps
 pub mod Letting
+pub mod Rising
+pub mod Looks
+pub mod Holding

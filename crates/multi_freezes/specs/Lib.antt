@@ -1,3 +1,4 @@
 pub mod Visits
 pub mod Freezes
 pub mod Trims
+pub mod Members

@@ -1,8 +1,9 @@
 -- What a trim leaves.
-use Rattle.std.specs.Prelude.{◌≡◌, ℕ, ◌+◌, ◌<◌, ◌≤◌, true, List, Result, Some, length, slice_get, take}
+use Rattle.std.specs.Prelude.{◌≡◌, ℕ, ◌+◌, ◌<◌, ◌≤◌, true, Contains, List, Result, Some, length, slice_get, take}
 use Rattle.notes.specs.Lists.{at}
-use Rattle.tx_events.specs.Horizon.{oldest_xmin}
+use Rattle.tx_events.specs.Horizon.{oldest_id, oldest_xmin}
 use Rattle.tx_events.specs.Ids.{id_before}
+use Rattle.tx_events.specs.Multis.{oldest_multi, oldest_offset}
 use Rattle.tx_events.specs.Pages.{member_page_in_full, offset_page}
 use Rattle.tx_events.specs.declared.event.By.{By}
 use Rattle.tx_events.specs.declared.record.Rec.{Rec}
@@ -19,6 +20,7 @@ use Rattle.tx_core.specs.declared.entry.Start.{Start}
 use Rattle.tx_core.specs.Entries.{Stands, history, records_of}
 use Rattle.tx_core.specs.Locks.{log_lock, members_lock, number_of, offsets_lock, subtrans_lock, xact_lock}
 use Rattle.tx_core.specs.Locks.{subtrans_page, xact_page}
+use Rattle.tx_core.specs.MultiEntries.{multi_history}
 use Rattle.engine_parts.specs.Adding.{IsToldBy, IsTruncation, MayAddBy}
 use Rattle.engine_parts.specs.Answers.{MetFault, MetLogFault}
 use Rattle.engine_parts.specs.Stand.{IsDownAt, IsSubtransReach, IsXactReach, first_subtrans_page}
@@ -59,21 +61,32 @@ abbrev pub WasOldestXmin : Start → List (List Entry) → ℕ → Type 0
 WasOldestXmin start lists xmin =
     (place : ℕ) × (place ≤ length (history lists)) × (xmin ≡ oldest_xmin start.base.next (take place (history lists)))
 
+-- so at one that isn't before the end of the history in earlier lists
+abbrev pub WasOldestXminSince : Start → List (List Entry) → List (List Entry) → ℕ → Type 0
+WasOldestXminSince start before lists xmin =
+    (place : ℕ) × (length (history before) ≤ place) × (place ≤ length (history lists))
+    × (xmin ≡ oldest_xmin start.base.next (take place (history lists)))
+
 -- the page of pg_subtrans up to which a life cuts
 abbrev pub IsParentsReach : Start → ℕ → Type 0
 IsParentsReach start page = (first_subtrans_page start ≤ page) × IsSubtransReach start page
 
--- The bank of this number was cut in each store: what lies before these numbers was let go. Of pg_xact and pg_subtrans
--- where the page is in the life's reach.
-pub record AreCut (start : Start) (lists : List (List Entry)) (oldest xmin multi offset bank : ℕ) : Type 0 where
-  pub states : IsXactReach start (xact_page oldest) → Stands lists (xact_lock bank) (kinds.Cut (xact_page oldest))
-  pub parents : IsParentsReach start (subtrans_page (id_before xmin))
-      → Stands lists (subtrans_lock bank) (kinds.Cut (subtrans_page (id_before xmin)))
-  pub offsets : Stands lists (offsets_lock bank) (kinds.Cut (offset_page (multi_before multi)))
-  pub members : Stands lists (members_lock bank) (kinds.Cut (member_page_in_full offset))
+-- the command cut the bank of this lock before this page
+abbrev pub IsCutBy : List (List Entry) → By → ℕ → ℕ → Type 0
+IsCutBy lists by lock page = Contains (at lists lock) (record { by = by; kind = kinds.Cut page })
 
--- The command's truncation is on disk, and each bank of the four stores was cut by it, pg_subtrans by an oldest xmin.
-pub record HasTrimmed (start : Start) (lists : List (List Entry)) (by : By) : Type 0 where
+-- The command cut the bank of this number in each store: what lies before these numbers was let go. Of pg_xact and
+-- pg_subtrans where the page is in the life's reach.
+pub record AreCut (start : Start) (lists : List (List Entry)) (by : By) (oldest xmin multi offset bank : ℕ) : Type 0 where
+  pub states : IsXactReach start (xact_page oldest) → IsCutBy lists by (xact_lock bank) (xact_page oldest)
+  pub parents : IsParentsReach start (subtrans_page (id_before xmin))
+      → IsCutBy lists by (subtrans_lock bank) (subtrans_page (id_before xmin))
+  pub offsets : IsCutBy lists by (offsets_lock bank) (offset_page (multi_before multi))
+  pub members : IsCutBy lists by (members_lock bank) (member_page_in_full offset)
+
+-- The command's truncation is on disk. What it names isn't before what was announced when the command began, and the
+-- command cut each bank of the four stores by it, pg_subtrans by an oldest xmin since then.
+pub record HasTrimmed (start : Start) (before lists : List (List Entry)) (by : By) : Type 0 where
   pub place : ℕ
   pub to : ℕ
   pub oldest : ℕ
@@ -82,6 +95,9 @@ pub record HasTrimmed (start : Start) (lists : List (List Entry)) (by : By) : Ty
   pub stands : slice_get (records_of lists) place ≡ Some (by, records.Truncate oldest multi offset)
   pub past : start.from + place < to
   pub flushed : Stands lists log_lock (kinds.Flush to)
+  pub id : oldest_id start.base.oldest (history before) ≤ oldest
+  pub first : oldest_multi start.base.oldest_multi (multi_history before) ≤ multi
+  pub begin : oldest_offset start.base.oldest_offset (multi_history before) ≤ offset
   pub xmin : ℕ
-  pub was : WasOldestXmin start lists xmin
-  pub cut : (bank : ℕ) → bank < start.banks → AreCut start lists oldest xmin multi offset bank
+  pub was : WasOldestXminSince start before lists xmin
+  pub cut : (bank : ℕ) → bank < start.banks → AreCut start lists by oldest xmin multi offset bank

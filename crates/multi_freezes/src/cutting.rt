@@ -2,16 +2,15 @@
 ghost use Rattle.std.specs.Prelude.{◌≡◌, ℕ, ◌+◌, ◌^◌, ◌<◌, ◌≤◌, [], IfErr, IfOk, IsTrue, ◌↔◌};
 ghost use Rattle.hall.specs.Calls.{view, start_of};
 ghost use Rattle.store_pages.specs.Layouts.{multi_before};
-ghost use Rattle.tx_core.specs.declared.entry.Kind.TheVariants as kinds;
 ghost use Rattle.tx_events.specs.Ids.{id_before};
 ghost use Rattle.tx_core.specs.CutsFollow.{IsTruncated};
-ghost use Rattle.tx_core.specs.Entries.{Stands};
 ghost use Rattle.tx_core.specs.Locks.{member_page_in_full, members_lock, offset_page, offsets_lock};
 ghost use Rattle.tx_core.specs.Locks.{subtrans_lock, subtrans_page, xact_lock, xact_page};
 ghost use Rattle.engine_parts.specs.Calls.{MayStep};
 ghost use Rattle.engine_parts.specs.Sessions.{by_at};
 ghost use Rattle.engine_parts.specs.Stand.{IsXactReach};
-ghost use Rattle.multi_freezes.specs.Trims.{AreCut, IsParentsReach, IsTrimMet, MayTrim, WasOldestXmin};
+ghost use Rattle.multi_freezes.specs.Trims.{AreCut, IsCutBy, IsParentsReach, IsTrimMet, MayTrim};
+ghost use Rattle.multi_freezes.specs.Trims.{WasOldestXmin};
 ghost use Rattle.multi_freezes.specs.Visits.{Visited};
 
 use bank_cuts::{cut_parents, cut_states};
@@ -64,7 +63,8 @@ fn let_states<R: Passing, L: LogDisk, P: PageDisk>(
         (view caller.old.pass).seen oldest multi offset }
     ensures visited { Visited hall.now banks (MayTrim result) [] caller.old caller.new }
     ensures cut { IfOk result (λ _. IsXactReach (start_of hall.now) (xact_page oldest)
-        → Stands (view caller.new.pass).seen (xact_lock bank) (kinds.Cut (xact_page oldest))) }
+        → IsCutBy (view caller.new.pass).seen (by_at caller.old.number caller.old.session.levels.commands)
+        (xact_lock bank) (xact_page oldest)) }
     ensures met { IfErr result (IsTrimMet (start_of hall.now) (view caller.new.pass).seen
         (by_at caller.old.number caller.old.session.levels.commands)) }
 {
@@ -97,7 +97,8 @@ fn let_parents<R: Passing, L: LogDisk, P: PageDisk>(
     requires told { WasOldestXmin (start_of hall.now) (view caller.old.pass).seen xmin }
     ensures visited { Visited hall.now banks (MayTrim result) [] caller.old caller.new }
     ensures cut { IfOk result (λ _. IsParentsReach (start_of hall.now) (subtrans_page (id_before xmin))
-        → Stands (view caller.new.pass).seen (subtrans_lock bank) (kinds.Cut (subtrans_page (id_before xmin)))) }
+        → IsCutBy (view caller.new.pass).seen (by_at caller.old.number caller.old.session.levels.commands)
+        (subtrans_lock bank) (subtrans_page (id_before xmin))) }
     ensures met { IfErr result (IsTrimMet (start_of hall.now) (view caller.new.pass).seen
         (by_at caller.old.number caller.old.session.levels.commands)) }
 {
@@ -127,8 +128,9 @@ fn let_offsets<R: Passing, L: LogDisk, P: PageDisk>(
     requires told { (oldest : ℕ) × (offset : ℕ) × IsTruncated (start_of hall.now)
         (view caller.old.pass).seen oldest multi offset }
     ensures visited { Visited hall.now banks (MayTrim result) [] caller.old caller.new }
-    ensures cut { IfOk result (λ _. Stands (view caller.new.pass).seen (offsets_lock bank)
-        (kinds.Cut (offset_page (multi_before multi)))) }
+    ensures cut { IfOk result (λ _. IsCutBy (view caller.new.pass).seen
+        (by_at caller.old.number caller.old.session.levels.commands) (offsets_lock bank)
+        (offset_page (multi_before multi))) }
     ensures met { IfErr result (IsTrimMet (start_of hall.now) (view caller.new.pass).seen
         (by_at caller.old.number caller.old.session.levels.commands)) }
 {
@@ -155,8 +157,9 @@ fn let_members<R: Passing, L: LogDisk, P: PageDisk>(
     requires told { (oldest : ℕ) × (multi : ℕ) × IsTruncated (start_of hall.now)
         (view caller.old.pass).seen oldest multi offset }
     ensures visited { Visited hall.now banks (MayTrim result) [] caller.old caller.new }
-    ensures cut { IfOk result (λ _. Stands (view caller.new.pass).seen (members_lock bank)
-        (kinds.Cut (member_page_in_full offset))) }
+    ensures cut { IfOk result (λ _. IsCutBy (view caller.new.pass).seen
+        (by_at caller.old.number caller.old.session.levels.commands) (members_lock bank)
+        (member_page_in_full offset)) }
     ensures met { IfErr result (IsTrimMet (start_of hall.now) (view caller.new.pass).seen
         (by_at caller.old.number caller.old.session.levels.commands)) }
 {
@@ -188,8 +191,9 @@ fn cut_bank<R: Passing, L: LogDisk, P: PageDisk>(
         multis.now.oldest_multi multis.now.oldest_offset }
     requires xmin { WasOldestXmin (start_of hall.now) (view caller.old.pass).seen found.now.oldest_xmin }
     ensures visited { Visited hall.now banks (MayTrim result) [] caller.old caller.new }
-    ensures cut { IfOk result (λ _. AreCut (start_of hall.now) (view caller.new.pass).seen found.now.oldest
-        found.now.oldest_xmin multis.now.oldest_multi multis.now.oldest_offset bank) }
+    ensures cut { IfOk result (λ _. AreCut (start_of hall.now) (view caller.new.pass).seen
+        (by_at caller.old.number caller.old.session.levels.commands) found.now.oldest found.now.oldest_xmin
+        multis.now.oldest_multi multis.now.oldest_offset bank) }
     ensures met { IfErr result (IsTrimMet (start_of hall.now) (view caller.new.pass).seen
         (by_at caller.old.number caller.old.session.levels.commands)) }
 {
@@ -226,8 +230,8 @@ pub(crate) fn cut_all<R: Passing, L: LogDisk, P: PageDisk>(
     requires xmin { WasOldestXmin (start_of hall.now) (view caller.old.pass).seen found.now.oldest_xmin }
     ensures visited { Visited hall.now banks (MayTrim result) [] caller.old caller.new }
     ensures cut { IfOk result (λ _. (bank : ℕ) → bank < banks → AreCut (start_of hall.now)
-        (view caller.new.pass).seen found.now.oldest found.now.oldest_xmin multis.now.oldest_multi
-        multis.now.oldest_offset bank) }
+        (view caller.new.pass).seen (by_at caller.old.number caller.old.session.levels.commands) found.now.oldest
+        found.now.oldest_xmin multis.now.oldest_multi multis.now.oldest_offset bank) }
     ensures met { IfErr result (IsTrimMet (start_of hall.now) (view caller.new.pass).seen
         (by_at caller.old.number caller.old.session.levels.commands)) }
 {

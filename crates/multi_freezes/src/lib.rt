@@ -4,6 +4,8 @@
 
 mod cutting;
 mod freezing;
+/// What no truncation removes. The function does nothing; its contract is the law.
+pub mod laws;
 mod logging;
 mod looking;
 mod trimming;

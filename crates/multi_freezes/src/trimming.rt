@@ -36,8 +36,8 @@ pub fn trim<R: Passing, L: LogDisk, P: PageDisk>(
     requires may { MayRun hall.now banks caller.old }
     ensures ran { Ran hall.now (next_command caller.old) commands.Trim (reply_of (λ _. replies.Done) result)
         caller.old caller.new }
-    ensures trimmed { IfOk result (λ _. HasTrimmed (start_of hall.now) (view caller.new.pass).seen
-        (by_at caller.old.number (next_command caller.old))) }
+    ensures trimmed { IfOk result (λ _. HasTrimmed (start_of hall.now) (view caller.old.pass).seen
+        (view caller.new.pass).seen (by_at caller.old.number (next_command caller.old))) }
 {
     count(caller);
     let base = read_base(rt, hall, caller);

@@ -30,4 +30,7 @@ module _ (front all : List Rec) (low first : ℕ) (place : low + length front �
       whole = ap (λ (t : List Rec). front ++ t) k.whole ∙ sym (append_assoc front k.earlier recs);
       count = let long = length-append front all in let at = k.count in omega (arith, long, at, place);
       each = λ c image. let has = k.each c image in record { opens = opens_before (opened c) has.opens; ends = has.ends };
+      other = k.other;
+      begins = k.begins;
+      settled = k.settled;
     }

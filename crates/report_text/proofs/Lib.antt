@@ -1,1 +1,2 @@
 pub mod MoreWords
+pub mod Laid

@@ -25,11 +25,10 @@ unfolding more
 no_more o = append-nil o
 
 -- a piece joined to a word by a colon
-then_joined : (o w p : List ℕ) → ((o ++ more (w ∷ [])) ++ 58 ∷ []) ++ p ≡ o ++ more ((w ++ 58 ∷ p) ∷ [])
+then_joined : (o w p : List ℕ) → (o ++ more (w ∷ [])) ++ 58 ∷ p ≡ o ++ more ((w ++ 58 ∷ p) ∷ [])
 unfolding more
 then_joined o w p =
-    ap (λ t. ((o ++ t) ++ 58 ∷ []) ++ p) (append-nil (32 ∷ w))
-    ∙ append_assoc (o ++ 32 ∷ w) (58 ∷ []) p ∙ append_assoc o (32 ∷ w) (58 ∷ p)
+    ap (λ t. (o ++ t) ++ 58 ∷ p) (append-nil (32 ∷ w)) ∙ append_assoc o (32 ∷ w) (58 ∷ p)
     ∙ ap (λ t. o ++ t) (sym (append-nil ((32 ∷ w) ++ 58 ∷ p)))
 
 -- one item's word more
@@ -80,11 +79,10 @@ go_on (Ok x) o a b xs ys e h = h ∙ ap (λ t. t ++ more ys) e ∙ then_more o x
 go_on (Err x) o a b xs ys e h = tt
 
 -- a call that joins the piece p to the last word, and so makes the word v of it
-pub join_on : {T E : Type 0} (r : Result T E) (o a b w p q v : List ℕ) → a ≡ o ++ more (w ∷ []) → q ≡ p → w ++ 58 ∷ p ≡ v → OnOk r (b ≡ (a ++ 58 ∷ []) ++ q) → OnOk r (b ≡ o ++ more (v ∷ []))
-join_on (Ok x) o a b w p q v e same word h =
-    h ∙ ap (λ t. (t ++ 58 ∷ []) ++ q) e ∙ ap (λ t. ((o ++ more (w ∷ [])) ++ 58 ∷ []) ++ t) same ∙ then_joined o w p
-    ∙ ap (λ t. o ++ more (t ∷ [])) word
-join_on (Err x) o a b w p q v e same word h = tt
+pub join_on : {T E : Type 0} (r : Result T E) (o a b w p v : List ℕ) → a ≡ o ++ more (w ∷ []) → w ++ 58 ∷ p ≡ v → OnOk r (b ≡ a ++ 58 ∷ p) → OnOk r (b ≡ o ++ more (v ∷ []))
+join_on (Ok x) o a b w p v e word h =
+    h ∙ ap (λ t. t ++ 58 ∷ p) e ∙ then_joined o w p ∙ ap (λ t. o ++ more (t ∷ [])) word
+join_on (Err x) o a b w p v e word h = tt
 
 pub id_joined : (id : ℕ) (mode : Mode) → decimal id ++ 58 ∷ mode_word mode ≡ id_word id mode
 unfolding id_word

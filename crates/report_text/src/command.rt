@@ -9,28 +9,28 @@ use tx_model::{Command, Memory, Name};
 
 /// A command's first word behind a space.
 #[tactic(auto, unfolding(crate::specs::CommandText::command_word))]
-fn spaced_word(command: &Command) -> &'static [u8]
-    ensures { result.now ≡ 32 ∷ command_word command.now }
+fn put_spaced(out: &mut Text, command: &Command) -> Result<(), Memory>
+    ensures ok { OnOk result (out.new ≡ out.old ++ 32 ∷ command_word command.now) }
 {
     match command {
-        Command::Begin => b" begin",
-        Command::Save => b" save",
-        Command::Write => b" write",
-        Command::Release => b" release",
-        Command::Undo => b" undo",
-        Command::Commit => b" commit",
-        Command::Abort => b" abort",
-        Command::Trim => b" trim",
-        Command::Horizon => b" horizon",
-        Command::Snap { .. } => b" snap",
-        Command::DropSnap { .. } => b" drop",
-        Command::See { .. } => b" see",
-        Command::Status { .. } => b" status",
-        Command::Did { .. } => b" did",
-        Command::Multi { .. } => b" multi",
-        Command::SeeMulti { .. } => b" seemulti",
-        Command::Freeze { .. } => b" freeze",
-        Command::MultiFreeze { .. } => b" multifreeze",
+        Command::Begin => out.put(b" begin"),
+        Command::Save => out.put(b" save"),
+        Command::Write => out.put(b" write"),
+        Command::Release => out.put(b" release"),
+        Command::Undo => out.put(b" undo"),
+        Command::Commit => out.put(b" commit"),
+        Command::Abort => out.put(b" abort"),
+        Command::Trim => out.put(b" trim"),
+        Command::Horizon => out.put(b" horizon"),
+        Command::Snap { .. } => out.put(b" snap"),
+        Command::DropSnap { .. } => out.put(b" drop"),
+        Command::See { .. } => out.put(b" see"),
+        Command::Status { .. } => out.put(b" status"),
+        Command::Did { .. } => out.put(b" did"),
+        Command::Multi { .. } => out.put(b" multi"),
+        Command::SeeMulti { .. } => out.put(b" seemulti"),
+        Command::Freeze { .. } => out.put(b" freeze"),
+        Command::MultiFreeze { .. } => out.put(b" multifreeze"),
     }
 }
 
@@ -38,7 +38,7 @@ fn spaced_word(command: &Command) -> &'static [u8]
 fn put_command_word(out: &mut Text, command: &Command) -> Result<(), Memory>
     ensures ok { OnOk result (out.new ≡ out.old ++ more (command_word command.now ∷ [])) }
 {
-    out.put(spaced_word(command))
+    put_spaced(out, command)
 }
 
 #[tactic(auto, using(crate::proofs::MoreWords::then_more, crate::proofs::MoreWords::no_more))]

@@ -20,19 +20,19 @@ fn put_by(out: &mut Text, names: &NameList, by: By) -> Result<(), Memory>
 }
 
 #[tactic(auto, unfolding(crate::specs::EventText::event_word))]
-fn event_word(event: &Event) -> &'static [u8]
-    ensures { result.now ≡ event_word event.now }
+fn put_event_word(out: &mut Text, event: &Event) -> Result<(), Memory>
+    ensures ok { OnOk result (out.new ≡ out.old ++ event_word event.now) }
 {
     match event {
-        Event::Id { .. } => b"id",
-        Event::Sub { .. } => b"sub",
-        Event::Undo { .. } => b"undo",
-        Event::Commit { .. } => b"commit",
-        Event::Abort { .. } => b"abort",
-        Event::Snap { .. } => b"snap",
-        Event::SnapDrop { .. } => b"drop",
-        Event::Oldest { .. } => b"oldest",
-        Event::Ask { .. } => b"ask",
+        Event::Id { .. } => out.put(b"id"),
+        Event::Sub { .. } => out.put(b"sub"),
+        Event::Undo { .. } => out.put(b"undo"),
+        Event::Commit { .. } => out.put(b"commit"),
+        Event::Abort { .. } => out.put(b"abort"),
+        Event::Snap { .. } => out.put(b"snap"),
+        Event::SnapDrop { .. } => out.put(b"drop"),
+        Event::Oldest { .. } => out.put(b"oldest"),
+        Event::Ask { .. } => out.put(b"ask"),
     }
 }
 
@@ -77,7 +77,7 @@ fn put_event_rest(out: &mut Text, event: &Event) -> Result<(), Memory>
 pub fn put_event(out: &mut Text, names: &NameList, event: &Event) -> Result<(), Memory>
     ensures ok { OnOk result (out.new ≡ out.old ++ line_text (event_words names.now event.now)) }
 {
-    out.put(event_word(event))?;
+    put_event_word(out, event)?;
     put_by(out, names, by_of(event))?;
     put_event_rest(out, event)?;
     out.end_line()
@@ -95,14 +95,14 @@ pub fn put_events(out: &mut Text, names: &NameList, events: &[Event]) -> Result<
 }
 
 #[tactic(auto, unfolding(crate::specs::EventText::multi_event_word))]
-fn multi_event_word(event: &MultiEvent) -> &'static [u8]
-    ensures { result.now ≡ multi_event_word event.now }
+fn put_multi_event_word(out: &mut Text, event: &MultiEvent) -> Result<(), Memory>
+    ensures ok { OnOk result (out.new ≡ out.old ++ multi_event_word event.now) }
 {
     match event {
-        MultiEvent::Gen { .. } => b"gen",
-        MultiEvent::Hold { .. } => b"hold",
-        MultiEvent::Unhold { .. } => b"unhold",
-        MultiEvent::Raise { .. } => b"raise",
+        MultiEvent::Gen { .. } => out.put(b"gen"),
+        MultiEvent::Hold { .. } => out.put(b"hold"),
+        MultiEvent::Unhold { .. } => out.put(b"unhold"),
+        MultiEvent::Raise { .. } => out.put(b"raise"),
     }
 }
 
@@ -146,7 +146,7 @@ fn put_multi_event_rest(out: &mut Text, event: &MultiEvent) -> Result<(), Memory
 pub fn put_multi_event(out: &mut Text, names: &NameList, event: &MultiEvent) -> Result<(), Memory>
     ensures ok { OnOk result (out.new ≡ out.old ++ line_text (multi_event_words names.now event.now)) }
 {
-    out.put(multi_event_word(event))?;
+    put_multi_event_word(out, event)?;
     put_by(out, names, multi_by_of(event))?;
     put_multi_event_rest(out, event)?;
     out.end_line()

@@ -1,6 +1,7 @@
 //! The report that the tool writes, as text (docs/SCRIPT-AND-REPORT.md).
 #![tactic(auto)]
 
+mod bytes;
 mod command;
 mod event;
 mod member;

@@ -1,6 +1,6 @@
 //! The members of a multixact.
 ghost use Rattle.std.specs.Prelude.{◌≡◌, [], ◌∷◌, ◌++◌, OnOk};
-ghost use Rattle.report_text.specs.Words.{more};
+ghost use Rattle.report_text.specs.Words.{colon, more};
 ghost use Rattle.report_text.specs.MemberText.{mode_word, verdict_word, id_word, pair_word, pair_words, member_words, member_verdict_word, member_verdict_words};
 
 use crate::text::Text;
@@ -8,37 +8,31 @@ use tx_model::{
     Member, MemberList, MemberVerdict, Memory, Mode, Pair, PairList, Verdict, VerdictList,
 };
 
+/// A mode behind a colon, joined to the word before. Each word's length is known where it is copied, here as below.
 #[tactic(auto, unfolding(crate::specs::MemberText::mode_word))]
-fn mode_word(mode: Mode) -> &'static [u8]
-    ensures { result.now ≡ mode_word mode }
+fn put_mode(out: &mut Text, mode: Mode) -> Result<(), Memory>
+    ensures ok { OnOk result (out.new ≡ out.old ++ colon ∷ mode_word mode) }
 {
     match mode {
-        Mode::KeySh => b"keysh",
-        Mode::Sh => b"sh",
-        Mode::ForNoKeyUpd => b"fornokeyupd",
-        Mode::ForUpd => b"forupd",
-        Mode::NoKeyUpd => b"nokeyupd",
-        Mode::Upd => b"upd",
+        Mode::KeySh => out.put(b":keysh"),
+        Mode::Sh => out.put(b":sh"),
+        Mode::ForNoKeyUpd => out.put(b":fornokeyupd"),
+        Mode::ForUpd => out.put(b":forupd"),
+        Mode::NoKeyUpd => out.put(b":nokeyupd"),
+        Mode::Upd => out.put(b":upd"),
     }
 }
 
+/// A verdict's word behind a colon.
 #[tactic(auto, unfolding(crate::specs::MemberText::verdict_word))]
-fn verdict_word(verdict: Verdict) -> &'static [u8]
-    ensures { result.now ≡ verdict_word verdict }
+fn put_verdict_word(out: &mut Text, verdict: Verdict) -> Result<(), Memory>
+    ensures ok { OnOk result (out.new ≡ out.old ++ colon ∷ verdict_word verdict) }
 {
     match verdict {
-        Verdict::Visible => b"visible",
-        Verdict::Hidden => b"hidden",
-        Verdict::TooOld => b"too-old",
+        Verdict::Visible => out.put(b":visible"),
+        Verdict::Hidden => out.put(b":hidden"),
+        Verdict::TooOld => out.put(b":too-old"),
     }
-}
-
-/// A colon and a piece, joined to the word before.
-fn put_joined(out: &mut Text, piece: &[u8]) -> Result<(), Memory>
-    ensures ok { OnOk result (out.new ≡ (out.old ++ 58 ∷ []) ++ piece.now) }
-{
-    out.put(b":")?;
-    out.put(piece)
 }
 
 /// An id and a mode, a colon between them.
@@ -46,7 +40,7 @@ fn put_id(out: &mut Text, id: u64, mode: Mode) -> Result<(), Memory>
     ensures ok { OnOk result (out.new ≡ out.old ++ more (id_word id mode ∷ [])) }
 {
     out.number(id)?;
-    put_joined(out, mode_word(mode))
+    put_mode(out, mode)
 }
 
 fn put_verdict_id(out: &mut Text, verdict: &MemberVerdict) -> Result<(), Memory>
@@ -59,7 +53,7 @@ fn put_verdict(out: &mut Text, verdict: &MemberVerdict) -> Result<(), Memory>
     ensures ok { OnOk result (out.new ≡ out.old ++ more (member_verdict_word verdict.now ∷ [])) }
 {
     put_verdict_id(out, verdict)?;
-    put_joined(out, verdict_word(verdict.verdict))
+    put_verdict_word(out, verdict.verdict)
 }
 
 #[tactic(auto, unfolding(crate::specs::MemberText::pair_word))]

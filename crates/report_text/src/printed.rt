@@ -2,6 +2,7 @@
 ghost use Rattle.std.specs.Prelude.{◌≡◌, ◌++◌, [], IsTrue, OnOk};
 ghost use Rattle.report_text.specs.Words.{more, numbers};
 
+use crate::bytes::Bytes;
 use crate::numbers::push_numbers;
 use std::alloc::Global;
 use std::marker::Model;
@@ -63,19 +64,18 @@ impl Printed {
     }
 
     /// Adds the numbers to a text, each behind a space.
-    pub fn put(&mut self, bytes: &mut Vec<u8>, ids: &[FullXid]) -> Result<(), Memory>
-        ensures ok { OnOk result (bytes.new.items ≡ bytes.old.items ++ more (numbers ids.now)) }
+    pub fn put(&mut self, bytes: &mut Bytes, ids: &[FullXid]) -> Result<(), Memory>
+        ensures ok { OnOk result (bytes.new ≡ bytes.old ++ more (numbers ids.now)) }
     {
         if ids.len() < MANY {
             return push_numbers(bytes, ids);
         }
         if self.is_of(ids) {
-            bytes.extend_from_slice(self.words.as_slice())?;
-            return Ok(());
+            return bytes.put(self.words.as_slice());
         }
         let from = bytes.len();
         push_numbers(bytes, ids)?;
-        self.keep(ids, &bytes[from..]);
+        self.keep(ids, &bytes.items()[from..]);
         Ok(())
     }
 }

@@ -3,7 +3,8 @@ ghost use Rattle.std.specs.Prelude.{◌≡◌, ℕ, List, [], ◌∷◌, ◌++�
 ghost use Rattle.std.specs.Fmt.{decimal};
 ghost use Rattle.report_text.specs.Words.{more, line_text, numbers, numbers_or_dash, yes_or_no, name_at};
 
-use crate::numbers::{push_number, push_numbers};
+use crate::bytes::Bytes;
+use crate::numbers::push_numbers;
 use crate::printed::Printed;
 use itoa::Buffer;
 use std::alloc::Global;
@@ -13,7 +14,7 @@ use tx_model::{IdList, Memory, NameList};
 /// A text. After want of memory it may have grown by a part of what was to be added.
 #[derive(Drop)]
 pub struct Text {
-    bytes: Vec<u8>,
+    bytes: Bytes,
     // The top-level ids and the subtransactions' ids of the snapshot that was printed last.
     tops: Printed,
     subs: Printed,
@@ -24,7 +25,7 @@ impl Model for Text {
 
     ghost Value = { List ℕ };
 
-    ghost view = { λ t. t.bytes.items };
+    ghost view = { λ t. t.bytes };
 }
 
 impl Text {
@@ -32,17 +33,17 @@ impl Text {
         ensures { result ≡ [] }
     {
         Text {
-            bytes: Vec::new(alloc),
+            bytes: Bytes::new(alloc),
             tops: Printed::new(alloc),
             subs: Printed::new(alloc),
         }
     }
 
+    #[inline(always)]
     pub fn put(&mut self, piece: &[u8]) -> Result<(), Memory>
         ensures ok { OnOk result (self.new ≡ self.old ++ piece.now) }
     {
-        self.bytes.extend_from_slice(piece)?;
-        Ok(())
+        self.bytes.put(piece)
     }
 
     /// A word behind a space.
@@ -50,24 +51,28 @@ impl Text {
     pub fn word(&mut self, word: &[u8]) -> Result<(), Memory>
         ensures ok { OnOk result (self.new ≡ self.old ++ more (word.now ∷ [])) }
     {
-        self.bytes.push(b' ')?;
-        self.bytes.extend_from_slice(word)?;
-        Ok(())
+        self.bytes.byte(b' ')?;
+        self.bytes.put(word)
     }
 
     /// A number's digits. A record's number may need more than 64 bits.
     pub fn digits(&mut self, n: u128) -> Result<(), Memory>
         ensures ok { OnOk result (self.new ≡ self.old ++ decimal n) }
     {
-        let mut buffer = Buffer::new();
-        self.put(buffer.format(n).as_bytes())
+        match u64::try_from(n) {
+            Ok(short) => self.bytes.digits(short),
+            Err(_) => {
+                let mut buffer = Buffer::new();
+                self.put(buffer.format(n).as_bytes())
+            }
+        }
     }
 
     /// A number behind a space.
     pub fn number(&mut self, n: u64) -> Result<(), Memory>
         ensures ok { OnOk result (self.new ≡ self.old ++ more (decimal n ∷ [])) }
     {
-        push_number(&mut self.bytes, n)
+        self.bytes.number(n)
     }
 
     /// The numbers, each behind a space.
@@ -106,11 +111,11 @@ impl Text {
         self.number(n)
     }
 
+    #[inline(always)]
     pub fn end_line(&mut self) -> Result<(), Memory>
         ensures ok { OnOk result (self.new ≡ self.old ++ 10 ∷ []) }
     {
-        self.bytes.push(b'\n')?;
-        Ok(())
+        self.bytes.byte(b'\n')
     }
 
     /// A line of one word.
@@ -126,7 +131,7 @@ impl Text {
     pub fn bytes(&self) -> &[u8]
         ensures { result.now ≡ self.now }
     {
-        self.bytes.as_slice()
+        self.bytes.items()
     }
 
     /// Takes all bytes off, so that the text can be used again.
@@ -139,7 +144,7 @@ impl Text {
     pub fn into_bytes(self) -> Vec<u8>
         ensures { result.items ≡ self }
     {
-        self.bytes
+        self.bytes.into_vec()
     }
 }
 

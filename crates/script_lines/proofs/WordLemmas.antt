@@ -1,6 +1,9 @@
 -- A line's words, one after the other.
 use Rattle.std.proofs.Common.{◌≡◌, ℕ, ◌<◌, ◌≤◌, List, [], ◌∷◌, Bool, true, false, not, refl, sym, ap, ◌∙◌, take, drop, suc, one-add, length, arith, ◌==◌}
 use Rattle.std.specs.List.{prefix_len, filter}
+use Rattle.std.specs.Str.{bytes_eq}
+use Rattle.std.proofs.lemmas.Slice.Eq.{bytes_eq-Decides}
+use Rattle.std.proofs.lemmas.Bool.Decides.{nat_tests}
 use Rattle.script_lines.proofs.Parts.{first_part, parts_behind}
 use Rattle.script_lines.specs.LineWords.{is_blank, is_word, words_in}
 
@@ -69,3 +72,10 @@ no_word line (y ∷ ys) r l = absurd (omega arith)
 pub not_empty : (xs : List ℕ) (b : Bool) → b ≡ (length xs == 0) → b ≡ false → 1 ≤ length xs
 not_empty [] b e f = absurd cc
 not_empty (x ∷ xs) b e f = omega arith
+
+pub other_length : (xs ys : List ℕ) → (length xs == length ys) ≡ false → bytes_eq xs ys ≡ false
+other_length xs ys e = one (bytes_eq xs ys) refl
+  where
+    one : (b : Bool) → bytes_eq xs ys ≡ b → b ≡ false
+    one false f = refl
+    one true f = let same : length xs ≡ length ys = ap length ((bytes_eq-Decides xs ys).0 f) in absurd (grind (arith, nat_tests))

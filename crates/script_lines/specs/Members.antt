@@ -50,3 +50,8 @@ unfoldable pub pairs_in : List (List ℕ) → Result (List Pair) Kind
 pairs_in ws = do
   _ ← modes_in ws
   pairs_from [] ws
+
+-- the fault of a member whose number has this one: that of a later member's mode comes before it
+abbrev pub fault_behind : Kind → Result (Unit {0}) Kind → Kind
+fault_behind kind (Ok _) = kind
+fault_behind kind (Err other) = other

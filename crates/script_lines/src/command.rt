@@ -9,7 +9,7 @@ ghost use Rattle.script_lines.specs.Commands.{long_command, command_in, command_
 use crate::argument::{asked_id_in, id_in, multi_in, name_in, none_of, one_of, stored_in, two_of};
 use crate::kind::{Kind, Stop};
 use crate::member::pairs_in;
-use crate::word::next_word;
+use crate::word::{is_same, next_word};
 use std::alloc::Global;
 use tx_events::{MultiId, Xid};
 use tx_model::{Command, Name};
@@ -114,31 +114,31 @@ fn told(command: Result<Command, Kind>) -> Result<Command, Stop>
 fn long_command(alloc: Global, word: &[u8], rest: &[u8]) -> Result<Command, Stop>
     ensures { Gives (λ c. c) result (long_command word.now (words_in rest.now)) }
 {
-    if word == b"snap".as_slice() {
+    if is_same(word, b"snap") {
         return told(snap_in(rest));
     }
-    if word == b"drop".as_slice() {
+    if is_same(word, b"drop") {
         return told(drop_in(rest));
     }
-    if word == b"see".as_slice() {
+    if is_same(word, b"see") {
         return told(see_in(rest));
     }
-    if word == b"status".as_slice() {
+    if is_same(word, b"status") {
         return told(status_in(rest));
     }
-    if word == b"did".as_slice() {
+    if is_same(word, b"did") {
         return told(did_in(rest));
     }
-    if word == b"multi".as_slice() {
+    if is_same(word, b"multi") {
         return members_in(alloc, rest);
     }
-    if word == b"seemulti".as_slice() {
+    if is_same(word, b"seemulti") {
         return told(see_multi_in(rest));
     }
-    if word == b"freeze".as_slice() {
+    if is_same(word, b"freeze") {
         return told(freeze_in(rest));
     }
-    if word == b"multifreeze".as_slice() {
+    if is_same(word, b"multifreeze") {
         return told(multi_freeze_in(rest));
     }
     Err(Stop::Fault(Kind::Command))
@@ -148,31 +148,31 @@ fn long_command(alloc: Global, word: &[u8], rest: &[u8]) -> Result<Command, Stop
 fn command_in(alloc: Global, word: &[u8], rest: &[u8]) -> Result<Command, Stop>
     ensures { Gives (λ c. c) result (command_in word.now (words_in rest.now)) }
 {
-    if word == b"begin".as_slice() {
+    if is_same(word, b"begin") {
         return alone(Command::Begin, rest);
     }
-    if word == b"write".as_slice() {
+    if is_same(word, b"write") {
         return alone(Command::Write, rest);
     }
-    if word == b"commit".as_slice() {
+    if is_same(word, b"commit") {
         return alone(Command::Commit, rest);
     }
-    if word == b"abort".as_slice() {
+    if is_same(word, b"abort") {
         return alone(Command::Abort, rest);
     }
-    if word == b"save".as_slice() {
+    if is_same(word, b"save") {
         return alone(Command::Save, rest);
     }
-    if word == b"release".as_slice() {
+    if is_same(word, b"release") {
         return alone(Command::Release, rest);
     }
-    if word == b"undo".as_slice() {
+    if is_same(word, b"undo") {
         return alone(Command::Undo, rest);
     }
-    if word == b"trim".as_slice() {
+    if is_same(word, b"trim") {
         return alone(Command::Trim, rest);
     }
-    if word == b"horizon".as_slice() {
+    if is_same(word, b"horizon") {
         return alone(Command::Horizon, rest);
     }
     long_command(alloc, word, rest)

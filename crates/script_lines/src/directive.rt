@@ -5,7 +5,7 @@ ghost use Rattle.script_lines.specs.Directives.{how_in, store_in, on_page, log_d
 
 use crate::argument::{none_of, number_in, one_of, stored_in, three_of, two_of};
 use crate::kind::Kind;
-use crate::word::next_word;
+use crate::word::{is_same, next_word};
 use tx_model::{DumpOf, How};
 
 /// A line that begins with a dot and isn't of the header.
@@ -34,13 +34,13 @@ enum Store {
 fn how_in(word: &[u8]) -> Result<How, Kind>
     ensures { result ≡ how_in word.now }
 {
-    if word == b"lost".as_slice() {
+    if is_same(word, b"lost") {
         return Ok(How::Lost);
     }
-    if word == b"kept".as_slice() {
+    if is_same(word, b"kept") {
         return Ok(How::Kept);
     }
-    if word == b"torn".as_slice() {
+    if is_same(word, b"torn") {
         return Ok(How::Torn);
     }
     Err(Kind::Name)
@@ -50,16 +50,16 @@ fn how_in(word: &[u8]) -> Result<How, Kind>
 fn store_in(word: &[u8]) -> Result<Store, Kind>
     ensures { result ≡ store_in word.now }
 {
-    if word == b"xact".as_slice() {
+    if is_same(word, b"xact") {
         return Ok(Store::Xact);
     }
-    if word == b"subtrans".as_slice() {
+    if is_same(word, b"subtrans") {
         return Ok(Store::Subtrans);
     }
-    if word == b"offsets".as_slice() {
+    if is_same(word, b"offsets") {
         return Ok(Store::Offsets);
     }
-    if word == b"members".as_slice() {
+    if is_same(word, b"members") {
         return Ok(Store::Members);
     }
     Err(Kind::Name)
@@ -110,7 +110,7 @@ fn dump_at(rest: &[u8]) -> Result<Directive, Kind>
     let Some((word, rest)) = next_word(rest) else {
         return Err(Kind::Arguments);
     };
-    if word == b"log".as_slice() {
+    if is_same(word, b"log") {
         return log_dump_in(rest);
     }
     page_dump_in(word, rest)
@@ -122,19 +122,19 @@ fn dump_at(rest: &[u8]) -> Result<Directive, Kind>
 pub fn directive_at(word: &[u8], rest: &[u8]) -> Result<Directive, Kind>
     ensures { result ≡ directive_at word.now (words_in rest.now) }
 {
-    if word == b".round".as_slice() {
+    if is_same(word, b".round") {
         none_of(rest)?;
         return Ok(Directive::Round);
     }
-    if word == b".checkpoint".as_slice() {
+    if is_same(word, b".checkpoint") {
         none_of(rest)?;
         return Ok(Directive::Checkpoint);
     }
-    if word == b".crash".as_slice() {
+    if is_same(word, b".crash") {
         let how = how_in(one_of(rest)?)?;
         return Ok(Directive::Crash { how });
     }
-    if word == b".dump".as_slice() {
+    if is_same(word, b".dump") {
         return dump_at(rest);
     }
     Err(Kind::Directive)

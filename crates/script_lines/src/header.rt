@@ -5,6 +5,7 @@ ghost use Rattle.script_lines.specs.Header.{is_header_word, given_id, given_mult
 
 use crate::argument::{GREATEST, id_in, multi_in, number_in, one_of};
 use crate::kind::Kind;
+use crate::word::is_same;
 use tx_events::{FullMulti, FullXid};
 use tx_model::Counters;
 
@@ -34,13 +35,13 @@ pub struct Header {
 pub fn is_header_word(word: &[u8]) -> bool
     ensures { result ≡ is_header_word word.now }
 {
-    word == b".start".as_slice()
-        || word == b".oldest".as_slice()
-        || word == b".multi".as_slice()
-        || word == b".offset".as_slice()
-        || word == b".oldest-multi".as_slice()
-        || word == b".oldest-offset".as_slice()
-        || word == b".banks".as_slice()
+    is_same(word, b".start")
+        || is_same(word, b".oldest")
+        || is_same(word, b".multi")
+        || is_same(word, b".offset")
+        || is_same(word, b".oldest-multi")
+        || is_same(word, b".oldest-offset")
+        || is_same(word, b".banks")
 }
 
 #[tactic(auto, unfolding(crate::specs::Header::given_id))]
@@ -106,37 +107,37 @@ impl Header {
     pub fn with(self, word: &[u8], rest: &[u8]) -> Result<Header, Kind>
         ensures { result ≡ header_with self word.now (words_in rest.now) }
     {
-        if word == b".start".as_slice() {
+        if is_same(word, b".start") {
             let start = Some(given_id(self.start, rest)?);
             return Ok(Header { start, ..self });
         }
-        if word == b".oldest".as_slice() {
+        if is_same(word, b".oldest") {
             let oldest = Some(given_id(self.oldest, rest)?);
             return Ok(Header { oldest, ..self });
         }
-        if word == b".multi".as_slice() {
+        if is_same(word, b".multi") {
             let multi = Some(given_multi(self.multi, rest)?);
             return Ok(Header { multi, ..self });
         }
-        if word == b".offset".as_slice() {
+        if is_same(word, b".offset") {
             let offset = Some(given_offset(self.offset, rest)?);
             return Ok(Header { offset, ..self });
         }
-        if word == b".oldest-multi".as_slice() {
+        if is_same(word, b".oldest-multi") {
             let oldest_multi = Some(given_multi(self.oldest_multi, rest)?);
             return Ok(Header {
                 oldest_multi,
                 ..self
             });
         }
-        if word == b".oldest-offset".as_slice() {
+        if is_same(word, b".oldest-offset") {
             let oldest_offset = Some(given_offset(self.oldest_offset, rest)?);
             return Ok(Header {
                 oldest_offset,
                 ..self
             });
         }
-        if word == b".banks".as_slice() {
+        if is_same(word, b".banks") {
             let banks = Some(given_banks(self.banks, rest)?);
             return Ok(Header { banks, ..self });
         }

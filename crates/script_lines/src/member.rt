@@ -3,11 +3,11 @@ ghost use Rattle.std.specs.Prelude.{◌≡◌, ◌≤◌, not, length, [], OnOk,
 ghost use Rattle.std.specs.List.{prefix_len};
 ghost use Rattle.script_lines.specs.LineWords.{words_in};
 ghost use Rattle.script_lines.specs.Kinds.{Gives, seen};
-ghost use Rattle.script_lines.specs.Members.{is_colon, id_part, mode_part, mode_in, modes_in, pair_in, pairs_from, pairs_in};
+ghost use Rattle.script_lines.specs.Members.{is_colon, id_part, mode_part, mode_in, modes_in, fault_behind, pairs_in};
 
 use crate::argument::stored_in;
 use crate::kind::{Kind, Stop};
-use crate::word::next_word;
+use crate::word::{is_same, next_word};
 use std::alloc::Global;
 use tx_events::Xid;
 use tx_model::{Mode, Pair, PairList};
@@ -26,44 +26,38 @@ fn colon_place(word: &[u8]) -> usize
     word.len()
 }
 
-/// What stands before the first colon.
-fn id_part(word: &[u8]) -> &[u8]
-    ensures { result.now ≡ id_part word.now }
-{
-    &word[..colon_place(word)]
-}
-
-/// What stands behind the first colon; nothing, where there is none.
-fn mode_part(word: &[u8]) -> &[u8]
-    ensures { result.now ≡ mode_part word.now }
+/// What stands before the first colon, and what behind it; nothing behind, where there is none.
+fn parts_of(word: &[u8]) -> (&[u8], &[u8])
+    ensures id { result.0.now ≡ id_part word.now }
+    ensures mode { result.1.now ≡ mode_part word.now }
 {
     let place = colon_place(word);
     if place == word.len() {
-        return &[];
+        return (word, &[]);
     }
-    &word[place + 1..]
+    (&word[..place], &word[place + 1..])
 }
 
 #[tactic(auto, unfolding(crate::specs::Members::mode_in))]
 fn mode_in(word: &[u8]) -> Result<Mode, Kind>
     ensures { result ≡ mode_in word.now }
 {
-    if word == b"keysh".as_slice() {
+    if is_same(word, b"keysh") {
         return Ok(Mode::KeySh);
     }
-    if word == b"sh".as_slice() {
+    if is_same(word, b"sh") {
         return Ok(Mode::Sh);
     }
-    if word == b"fornokeyupd".as_slice() {
+    if is_same(word, b"fornokeyupd") {
         return Ok(Mode::ForNoKeyUpd);
     }
-    if word == b"forupd".as_slice() {
+    if is_same(word, b"forupd") {
         return Ok(Mode::ForUpd);
     }
-    if word == b"nokeyupd".as_slice() {
+    if is_same(word, b"nokeyupd") {
         return Ok(Mode::NoKeyUpd);
     }
-    if word == b"upd".as_slice() {
+    if is_same(word, b"upd") {
         return Ok(Mode::Upd);
     }
     Err(Kind::Mode)
@@ -75,7 +69,8 @@ fn modes_in(words: &[u8]) -> Result<(), Kind>
 {
     let mut rest = words;
     while let Some((word, more)) = next_word(rest) {
-        if let Err(kind) = mode_in(mode_part(word)) {
+        let (_id, mode) = parts_of(word);
+        if let Err(kind) = mode_in(mode) {
             return Err(kind);
         }
         rest = more;
@@ -83,38 +78,33 @@ fn modes_in(words: &[u8]) -> Result<(), Kind>
     Ok(())
 }
 
-#[tactic(auto, unfolding(crate::specs::Members::pair_in))]
-fn pair_in(word: &[u8]) -> Result<Pair, Kind>
-    ensures { result ≡ pair_in word.now }
+/// The fault of a word whose number has this one: that of a later word's mode comes before it.
+fn number_fault(kind: Kind, more: &[u8]) -> Kind
+    ensures { result ≡ fault_behind kind (modes_in (words_in more.now)) }
 {
-    let number = stored_in(0, id_part(word))?;
-    let mode = mode_in(mode_part(word))?;
-    Ok(Pair {
-        x: Xid { number },
-        mode,
-    })
+    match modes_in(more) {
+        Ok(()) => kind,
+        Err(other) => other,
+    }
 }
 
-fn pairs_from(alloc: Global, words: &[u8]) -> Result<PairList, Stop>
-    ensures { Gives (λ pairs. pairs) result (pairs_from [] (words_in words.now)) }
+/// The members that the words are. All modes are tested before any number.
+pub fn pairs_in(alloc: Global, words: &[u8]) -> Result<PairList, Stop>
+    ensures { Gives (λ pairs. pairs) result (pairs_in (words_in words.now)) }
 {
     let mut pairs = PairList::new(alloc)?;
     let mut rest = words;
     while let Some((word, more)) = next_word(rest) {
-        match pair_in(word) {
-            Ok(pair) => pairs.push(pair)?,
-            Err(kind) => return Err(Stop::Fault(kind)),
+        let (id, mode) = parts_of(word);
+        let mode = mode_in(mode)?;
+        match stored_in(0, id) {
+            Ok(number) => {
+                let x = Xid { number };
+                pairs.push(Pair { x, mode })?;
+            }
+            Err(kind) => return Err(Stop::Fault(number_fault(kind, more))),
         }
         rest = more;
     }
     Ok(pairs)
-}
-
-/// The members that the words are. All modes are tested before any number.
-#[tactic(auto, unfolding(crate::specs::Members::pairs_in))]
-pub fn pairs_in(alloc: Global, words: &[u8]) -> Result<PairList, Stop>
-    ensures { Gives (λ pairs. pairs) result (pairs_in (words_in words.now)) }
-{
-    modes_in(words)?;
-    pairs_from(alloc, words)
 }

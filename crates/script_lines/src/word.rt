@@ -1,6 +1,7 @@
 //! The bytes of a line, its words, names and numbers.
 ghost use Rattle.std.specs.Prelude.{◌≡◌, ◌≤◌, ◌<◌, ◌∷◌, [], length, not, IfSome, IfNone, drop};
 ghost use Rattle.std.specs.List.{prefix_len, list_all};
+ghost use Rattle.std.specs.Str.{bytes_eq};
 ghost use Rattle.script_lines.specs.LineWords.{is_blank, is_word, words_in, next, number_from, number_of, is_line_byte, is_plain};
 
 /// How many blanks stand at the front.
@@ -43,6 +44,14 @@ pub fn next_word(line: &[u8]) -> Option<(&[u8], &[u8])>
         return None;
     }
     Some(rest.split_at(word_len(rest)))
+}
+
+/// Whether a word is this one. Most that aren't differ in length.
+#[tactic(auto, using(crate::proofs::WordLemmas::other_length))]
+pub fn is_same(word: &[u8], other: &[u8]) -> bool
+    ensures { result ≡ bytes_eq word.now other.now }
+{
+    word.len() == other.len() && word == other
 }
 
 fn next(n: u64, digit: u64) -> Option<u64>

@@ -25,6 +25,7 @@ use Rattle.tx_core.specs.Laws.{all_set}
 use Rattle.tx_core.specs.Locks.{xact_lock}
 use Rattle.tx_core.proofs.Nearness.{made_near}
 use Rattle.recoverable.specs.Images.{Now}
+use Rattle.recoverable.specs.Whole.{StatesLeft}
 use Rattle.recoverable.specs.XactImages.{code_of}
 use Rattle.bank_follows.specs.Cells.{SetsAsSaid}
 use Rattle.bank_follows.specs.Holding.{XactHolds}
@@ -197,7 +198,7 @@ module _ {P : Type 0} (g : disks.Ghosts P) (start : Start) (bank : ℕ) (told : 
 
     -- in a life of few ids
     pub course_follows : (lists : List (List Entry)) (store : SlruBank P O g r) → EngineInvariant start lists → AreFewIds lists → HasCourse start bank store (at lists (xact_lock bank))
-        → FollowsThroughout start bank (at lists (xact_lock bank)) store
+        → FollowsThroughout (λ opened. IsOpened start bank opened) (StatesLeft start bank) (at lists (xact_lock bank)) store
     course_follows lists store kept few course =
         let es : List Entry = at lists (xact_lock bank) in
         let t = through course.0 store es course.1 in
@@ -207,6 +208,6 @@ module _ {P : Type 0} (g : disks.Ghosts P) (start : Start) (bank : ℕ) (told : 
         record {
           opened = t.0;
           is_opened = t.1;
-          each = leaves_weaker g.moment g.left_at (volume_of t.0) (volume_of store) (ShowsBeginning (xact_cells start h.shown) (IsXactAt start bank) es) (FollowsBeginning start bank es) (t.2.moments near)
+          each = leaves_weaker g.moment g.left_at (volume_of t.0) (volume_of store) (ShowsBeginning (xact_cells start h.shown) (IsXactAt start bank) es) (FollowsBeginning (StatesLeft start bank) es) (t.2.moments near)
               (λ c is. (is.0, is.1, is.2, record { shown = h.shown; clean = h.clean; follows = (images_follow start bank is.0 c).0 h.shown is.3 }));
         }

@@ -1,4 +1,4 @@
-ghost use Rattle.section_fits.specs.Courses.{CourseFollows};
+ghost use Rattle.section_fits.specs.Courses.{CourseFollows, MembersCourseFollows, OffsetsCourseFollows};
 ghost use Rattle.section_fits.specs.Sections.{MembersMoments, OffsetsMoments, SectionsFit, StatesMoments};
 
 use disk_core::PageDisk;
@@ -18,8 +18,11 @@ pub fn moments_follow<P: PageDisk>()
     ensures members { MembersMoments P.images P.moment P.left_at }
 {}
 
-/// At each moment since a bank of pg_xact was opened what a crash leaves of its volume follows a beginning of the bank's list,
-/// in a life of fewer than 2,900,000 ids: the list as it was behind some entry, or behind none.
+/// At each moment since a bank of pg_xact, of offsets or of members was opened what a crash leaves of its volume follows a
+/// beginning of the bank's list: the list as it was behind some entry, or behind none. So in a life of fewer than 2,900,000
+/// ids, and for the other two of fewer than 2,900,000 multixacts.
 pub fn course_follows<P: PageDisk, O: PageRule>()
-    ensures { CourseFollows P.PageDisk O.PageRule }
+    ensures states { CourseFollows P.PageDisk O.PageRule }
+    ensures offsets { OffsetsCourseFollows P.PageDisk O.PageRule }
+    ensures members { MembersCourseFollows P.PageDisk O.PageRule }
 {}

@@ -89,9 +89,9 @@ made_by start lists n (Ok g) done = (done.members, done.done)
 made_by start lists n (Err r) done = tt
 
 -- a truncation that a call did has its record on disk
-pub trimmed_by : {T : Type 0} (start : Start) (lists : List (List Entry)) (by : By) (result : Result T Refusal) → IfOk result (λ _. HasCut start lists by) → reply_of (λ _. replies.Done) result ≡ replies.Done → HasTrimmed start lists by
-trimmed_by start lists by (Ok x) cut done = record { place = cut.place; to = cut.to; oldest = cut.oldest; multi = cut.multi; offset = cut.offset; stands = cut.stands; past = cut.past; flushed = cut.flushed }
-trimmed_by start lists by (Err r) cut done = absurd cc
+pub trimmed_by : {T : Type 0} (start : Start) (before lists : List (List Entry)) (by : By) (result : Result T Refusal) → IfOk result (λ _. HasCut start before lists by) → reply_of (λ _. replies.Done) result ≡ replies.Done → HasTrimmed start lists by
+trimmed_by start before lists by (Ok x) cut done = record { place = cut.place; to = cut.to; oldest = cut.oldest; multi = cut.multi; offset = cut.offset; stands = cut.stands; past = cut.past; flushed = cut.flushed }
+trimmed_by start before lists by (Err r) cut done = absurd cc
 
 -- a raise that a call did is to what is recorded
 pub raised_by : {T : Type 0} (tells : Bool) (start : Start) (lists : List (List Entry)) (by : By) (multi : ℕ) (result : Result T Refusal)

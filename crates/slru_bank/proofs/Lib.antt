@@ -10,4 +10,5 @@ pub mod BufferLists
 pub mod NumberBytes
 pub mod PageBytes
 pub mod RemovalLists
+pub mod RowLemmas
 pub mod ZeroBytes

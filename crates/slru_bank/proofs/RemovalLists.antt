@@ -202,6 +202,24 @@ passed_one gone old new from page q so_far least lack here within passed taken =
     (λ (same : q ≡ page). subst (λ (r : ℕ). new r ≡ None) (sym same) (here (ap gone (sym same) ∙ taken)))
     passed
 
+-- a walk past a page and past a row behind it of which none is to be removed
+pub passed_row : (gone : ℕ → Bool) (old new : Pages) (from : Option ℕ) (page end q : ℕ) → ((q : ℕ) → q < 2 ^ 32 → IsPassed from q → gone q ≡ true → old q ≡ None)
+    → IsLeastAfter old from page → MayLack gone old new → (gone page ≡ true → new page ≡ None) → ((q : ℕ) → page < q → q ≤ end → gone q ≡ false)
+    → q < 2 ^ 32 → IsPassed (Some end) q → gone q ≡ true → new q ≡ None
+passed_row gone old new from page end q so_far least lack here stay within passed taken = ⊎_elim
+    (λ (low : q ≤ page). passed_one gone old new from page q so_far least lack here within (at_or_below low) taken)
+    (λ (high : page < q). let kept : gone q ≡ false = stay q high (to_end passed) in absurd cc)
+    (either_way q page)
+  where
+    at_or_below : q ≤ page → IsPassed (Some page) q
+    at_or_below low = grind arith
+
+    to_end : IsPassed (Some end) q → q ≤ end
+    to_end p = ⊎_elim (λ (h : q < end). omega arith) (λ (h : q ≡ end). omega arith) p
+
+    either_way : (a b : ℕ) → (a ≤ b) ⊎ (b < a)
+    either_way a b = grind arith
+
 -- the walk is at its end
 pub passed_all : (gone : ℕ → Bool) (pages : Pages) (from : Option ℕ) → ((q : ℕ) → q < 2 ^ 32 → IsPassed from q → gone q ≡ true → pages q ≡ None)
     → ((r : ℕ) → r < 2 ^ 32 → IsAfter from r → IsNone (pages r)) → AllAbsent gone pages

@@ -8,3 +8,4 @@ pub mod ByteRange
 pub mod Calls
 pub mod Crash
 pub mod Removal
+pub mod Rows

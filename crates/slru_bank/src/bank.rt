@@ -1,6 +1,6 @@
 // A bank: up to 16 buffers over a volume of pages. Each call first brings its page to the front; what it changes stands in a
 // buffer until the buffer is taken for another page, or all are flushed.
-ghost use Rattle.std.specs.Prelude.{◌≡◌, ◌≢◌, ◌⊎◌, ℕ, ◌+◌, ◌-◌, ◌<◌, ◌≤◌, ◌^◌, Bool, true, false, List, ◌∷◌, length, take, drop, slice_index, slice_set, bit_and, bit_or, OnOk, OnErr, IsOk, IsTrue, Some, None, IfOk, IfErr, Ok, Err, cond, ◌&&◌, is_ok, IsErr, MatchBool};
+ghost use Rattle.std.specs.Prelude.{◌≡◌, ◌≢◌, ◌⊎◌, ℕ, ◌+◌, ◌-◌, ◌<◌, ◌≤◌, ◌^◌, Bool, true, false, List, ◌∷◌, length, take, drop, slice_index, slice_set, bit_and, bit_or, OnOk, OnErr, IsOk, IsTrue, Some, None, IfOk, IfErr, IfSome, Ok, Err, cond, ◌&&◌, is_ok, IsErr, MatchBool};
 ghost use Rattle.std.proofs.Props.{props};
 ghost use Rattle.disk_core.specs.Faults.{CountsFault, HasRisen};
 ghost use Rattle.disk_core.specs.Images.{Only};
@@ -18,6 +18,7 @@ use crate::buffers::{
     touch, write_pages,
 };
 use crate::removal::{Removal, blank_removed, empty_removed, later_of, lies_before, remove_pages};
+use crate::rows::PageSpan;
 use disk_core::{Failed, Memory, PageDisk};
 use std::alloc::Global;
 use std::marker::PhantomData;
@@ -156,8 +157,9 @@ impl<P: PageDisk, O: PageRule> SlruBank<P, O> {
         Ok(())
     }
 
-    // Removes the volume's pages, and their bytes from the map.
-    fn remove(&mut self, removal: Removal) -> Result<(), Failed>
+    // Removes the volume's pages, and their bytes from the map. It may be told how many numbers a page holds.
+    fn remove(&mut self, removal: Removal, per_page: Option<u32>) -> Result<(), Failed>
+        requires span { IfSome per_page (λ n. n ≡ O.per_page) }
         ensures ok { IsTrue P.tells → OnOk result (Drops (removes O.shape O.per_page removal) (pages_of self.old) (pages_of self.new)) }
         ensures any { IsTrue P.tells → MayDrop (removes O.shape O.per_page removal) (pages_of self.old) (pages_of self.new) }
         ensures absent { IsTrue P.tells → OnOk result (AllAbsent (removes O.shape O.per_page removal) (P.pages (volume_of self.new))) }
@@ -168,10 +170,31 @@ impl<P: PageDisk, O: PageRule> SlruBank<P, O> {
         ensures crash { CrashMayLack (removes O.shape O.per_page removal) self.old self.new }
     {
         blank_removed::<O>(&mut self.buffers, removal);
-        remove_pages::<P, O>(&mut self.disk, removal)?;
+        remove_pages::<P, O>(&mut self.disk, removal, per_page)?;
         empty_removed::<O>(&mut self.buffers, removal);
         Ok(())
     }
+
+    /// Removes every page, as a start does with the parents (`StartupSUBTRANS`). After an `Err` some are removed, and no
+    /// other one changed.
+    pub fn clear_all(&mut self) -> Result<(), BankRefusal>
+        ensures cutoff { cutoff_of self.new ≡ cutoff_of self.old }
+        ensures bank { RemovesPages (λ q. true) self.old self.new result }
+    {
+        self.remove(Removal::All, None)?;
+        Ok(())
+    }
+
+    /// The volume. Changed pages are not written first.
+    pub fn into_disk(self) -> P
+        ensures { result ≡ volume_of self }
+    {
+        self.disk
+    }
+}
+
+impl<P: PageDisk, O: PageSpan> SlruBank<P, O> {
+    ghost use Rattle.slru_bank.specs.Calls.{IsAtHand, RemovesPages, TrimsBank, cutoff_of, pages_of, volume_of};
 
     /// Keeps the later of the two cutoffs, and removes each segment of 32 pages that lies wholly before it
     /// (`SimpleLruTruncate`). After an `Err` the cutoff is kept and some of these pages are removed.
@@ -180,9 +203,10 @@ impl<P: PageDisk, O: PageRule> SlruBank<P, O> {
         ensures bank { RemovesPages (is_cut O.shape O.per_page (cutoff_of self.new)) self.old self.new result }
     {
         self.cutoff = later_of::<O>(self.cutoff, cutoff);
-        self.remove(Removal::Before {
+        let removal = Removal::Before {
             cutoff: self.cutoff,
-        })?;
+        };
+        self.remove(removal, Some(O::per_page()))?;
         Ok(())
     }
 
@@ -195,27 +219,10 @@ impl<P: PageDisk, O: PageRule> SlruBank<P, O> {
         ensures at_hand { OnOk result (IsAtHand page self.new) }
         ensures bank { TrimsBank (page_precedes O.shape O.per_page page) self.old self.new result }
     {
-        self.remove(Removal::After { page })?;
+        self.remove(Removal::After { page }, Some(O::per_page()))?;
         self.load(page)?;
         clear_first(&mut self.buffers, page, at as usize);
         Ok(())
-    }
-
-    /// Removes every page, as a start does with the parents (`StartupSUBTRANS`). After an `Err` some are removed, and no
-    /// other one changed.
-    pub fn clear_all(&mut self) -> Result<(), BankRefusal>
-        ensures cutoff { cutoff_of self.new ≡ cutoff_of self.old }
-        ensures bank { RemovesPages (λ q. true) self.old self.new result }
-    {
-        self.remove(Removal::All)?;
-        Ok(())
-    }
-
-    /// The volume. Changed pages are not written first.
-    pub fn into_disk(self) -> P
-        ensures { result ≡ volume_of self }
-    {
-        self.disk
     }
 }
 

@@ -1,5 +1,5 @@
 // Which pages a call removes.
-ghost use Rattle.std.specs.Prelude.{◌≡◌, ◌≤◌, ◌<◌, ◌+◌, ◌^◌, ℕ, Bool, List, true, length, get_or, IsTrue, OnOk, None};
+ghost use Rattle.std.specs.Prelude.{◌≡◌, ◌≤◌, ◌<◌, ◌+◌, ◌^◌, ℕ, Bool, List, true, length, get_or, IsTrue, IfOk, IfSome, OnOk, None, false};
 ghost use Rattle.disk_core.specs.Faults.{CountsFault};
 ghost use Rattle.disk_core.specs.Pages.{Pages, zero_page};
 ghost use Rattle.tx_events.specs.PageOrder.{is_cut, page_precedes};
@@ -93,11 +93,13 @@ pub(crate) fn blank_removed<O: PageRule>(buffers: &mut Vec<Buffer>, removal: Rem
     blank_all::<O>(buffers, removal);
 }
 
-// Removes the volume's pages, from the lowest on.
+// Removes the volume's pages, from the lowest on. Where it is told how many numbers a page holds, it costs those that go.
 pub(crate) fn remove_pages<P: PageDisk, O: PageRule>(
     disk: &mut P,
     removal: Removal,
+    per_page: Option<u32>,
 ) -> Result<(), Failed>
+    requires span { IfSome per_page (λ n. n ≡ O.per_page) }
     ensures absent { IsTrue P.tells → OnOk result (AllAbsent (removes O.shape O.per_page removal) (P.pages disk.new)) }
     ensures others { IsTrue P.tells → MayLack (removes O.shape O.per_page removal) (P.pages disk.old) (P.pages disk.new) }
     ensures crash { IsTrue P.tells → CrashLeaves (MayLack (removes O.shape O.per_page removal)) P.images P.moment P.left_at disk.old disk.new }
@@ -105,19 +107,23 @@ pub(crate) fn remove_pages<P: PageDisk, O: PageRule>(
 {
     let mut last = None;
     while let Some(page) = disk.after(last)? {
-        remove_if::<P, O>(disk, page, removal)?;
-        last = Some(page);
+        let end = remove_if::<P, O>(disk, page, removal, per_page)?;
+        last = Some(end);
     }
     Ok(())
 }
 
-// Removes one page, if it is to be removed.
+// Removes one page, if it is to be removed. The last page of a row of which, from this one on, none is to be removed then.
 fn remove_if<P: PageDisk, O: PageRule>(
     disk: &mut P,
     page: u32,
     removal: Removal,
-) -> Result<(), Failed>
+    per_page: Option<u32>,
+) -> Result<u32, Failed>
+    requires span { IfSome per_page (λ n. n ≡ O.per_page) }
     ensures fits { page < 2 ^ 32 }
+    ensures end { IfOk result (λ end. (page ≤ end) × (end < 2 ^ 32)) }
+    ensures stay { IfOk result (λ end. (q : ℕ) → page < q → q ≤ end → removes O.shape O.per_page removal q ≡ false) }
     ensures absent { IsTrue P.tells → OnOk result (removes O.shape O.per_page removal page ≡ true → P.pages disk.new page ≡ None) }
     ensures others { IsTrue P.tells → MayLack (removes O.shape O.per_page removal) (P.pages disk.old) (P.pages disk.new) }
     ensures crash { IsTrue P.tells → CrashLeaves (MayLack (removes O.shape O.per_page removal)) P.images P.moment P.left_at disk.old disk.new }
@@ -125,8 +131,9 @@ fn remove_if<P: PageDisk, O: PageRule>(
 {
     if removal.takes::<O>(page) {
         disk.remove(page)?;
+        return Ok(page);
     }
-    Ok(())
+    Ok(removal.row_end::<O>(page, per_page))
 }
 
 // Gives one buffer up, if its page was removed.

@@ -14,7 +14,7 @@ use Rattle.wal_core.specs.Log.{history_in, history_on, bytes_of, End, end_of, en
 use Rattle.wal_records.specs.Lawful.{are_lawful}
 use Rattle.wal_core.specs.Checkpoint.{record_of, begun_with, numbered, MayBegin}
 use Rattle.wal_core.specs.declared.checkpoint.LastCheckpoint.{LastCheckpoint}
-use Rattle.wal_core.specs.Kept.{IsStretch, HasRecords, OpensToRecords, HasFlushed, KeepsRecords}
+use Rattle.wal_core.specs.Kept.{IsStretch, HasRecords, OpensToRecords, HasFlushed, KeepsRecords, first_in, first_on}
 use Rattle.wal_core.proofs.Flush.{goes, goes_by, ready_ends}
 use Rattle.wal_core.proofs.Append.{continued, with_body-bytes}
 use Rattle.wal_records.proofs.LawfulTests.{all_lawful}
@@ -36,7 +36,7 @@ pub record Joined (h : History) (recs : List Rec) (x : History) : Type 0 where
   pub first : x.first ≡ h.first
   pub recs_are : x.recs ≡ h.recs ++ recs
 
-joined_all : (recs : List Rec) (h x : History) → joined h recs ≡ Some x → Joined h recs x
+pub joined_all : (recs : List Rec) (h x : History) → joined h recs ≡ Some x → Joined h recs x
 joined_all [] h x e =
     let same : h ≡ x = some_is h x e in
     record { first = ap (λ (y : History). y.first) (sym same); recs_are = ap (λ (y : History). y.recs) (sym same) ∙ sym (append-nil h.recs) }
@@ -151,7 +151,7 @@ all_flushed first all kept flushed gate left counters next c none ready has =
 
 -- ---- what a forget leaves
 
-ends_count : (gate : ℕ) (x : History) (pending : List Rec) (counters : Option Counters) (next : ℕ) → are_lawful pending ≡ true → end_with gate (Some x) pending ≡ Some (record { counters = counters; next = next }) → next ≡ next_number x + length pending
+pub ends_count : (gate : ℕ) (x : History) (pending : List Rec) (counters : Option Counters) (next : ℕ) → are_lawful pending ≡ true → end_with gate (Some x) pending ≡ Some (record { counters = counters; next = next }) → next ≡ next_number x + length pending
 ends_count gate x [] counters next lawful e =
     let last : next_number x ≡ next = ap (λ (o : End). o.next) (ends_none gate (Some x) counters next e) in
     omega (arith, last)
@@ -162,7 +162,7 @@ ends_count gate x (r ∷ recs) counters next lawful e =
 
 -- a record that a stretch of the list has
 -- a record that it has isn't before its first
-not_lower : (b : Bool) (o : Option Rec) (r : Rec) → cond b None o ≡ Some r → (b ≡ false) × (o ≡ Some r)
+pub not_lower : (b : Bool) (o : Option Rec) (r : Rec) → cond b None o ≡ Some r → (b ≡ false) × (o ≡ Some r)
 not_lower true o r e = absurd cc
 not_lower false o r e = (refl, e)
 
@@ -235,6 +235,9 @@ append_keeps first all recs recs_2 r next next_2 kept flushed images more one ke
   whole = ap (λ (l : List Rec). l ++ r ∷ []) keeps.whole ∙ append_assoc keeps.earlier recs (r ∷ []) ∙ ap (λ (l : List Rec). keeps.earlier ++ l) (sym more);
   count = omega (arith, keeps.count, one, length-append all (r ∷ []));
   each = λ c left. record { opens = one_more_opened first all r kept flushed (opened c) (keeps.each c left).opens; ends = (keeps.each c left).ends };
+  other = keeps.other;
+  begins = keeps.begins;
+  settled = λ past. keeps.settled past;
 }
 
 found_all : (first : ℕ) (recs : List Rec) (counters : Option Counters) (next : ℕ) (h : Option History) → h ≡ history_with first recs counters → next ≡ first + length recs → end_of h ≡ record { counters = counters; next = next } → HasRecords first recs first next h
@@ -243,6 +246,17 @@ found_all first recs None next h is last ends =
     subst (HasRecords first recs first next) (sym is) (omega (arith, none), omega arith)
 found_all first recs (Some cs) next h is last ends =
     subst (HasRecords first recs first next) (sym is) (record { before = []; after = []; split = sym (append-nil recs); place = omega arith }, (omega arith, omega (arith, last)))
+
+first_found_in : (first : ℕ) (recs : List Rec) (counters : Option Counters) (next : ℕ) (h : Option History) → h ≡ history_with first recs counters → next ≡ first + length recs → end_of h ≡ record { counters = counters; next = next } → first_in h ≡ first
+first_found_in first recs None next h is last ends =
+    let none : 0 ≡ next = sym (ap (λ (o : Option History). (end_of o).next) is) ∙ ap (λ (e : End). e.next) ends in
+    ap first_in is ∙ omega (arith, none, last)
+first_found_in first recs (Some c) next h is last ends = ap first_in is
+
+pub first_found : (first : ℕ) (recs : List Rec) (counters : Option Counters) (gate next : ℕ) (v : Volume) → opened v ≡ Ok (record { history = history_with first recs counters; gate = gate }) → next ≡ first + length recs
+    → IsReady gate [] counters next v → first_on v ≡ first
+first_found first recs counters gate next v opens last ready =
+    first_found_in first recs counters next (history_on v) (ap history_in opens) last (ends_none gate (history_on v) counters next ready.ends)
 
 pub start_keeps : (first : ℕ) (recs none : List Rec) (counters : Option Counters) (gate next flushed : ℕ) (v : Volume) (images : Volume → Type 0) → none ≡ [] → next ≡ first + length recs → flushed ≡ next → ((c : Volume) → images c → c ≡ v)
     → opened v ≡ Ok (record { history = history_with first recs counters; gate = gate }) → IsReady gate [] counters next v → KeepsRecords first recs none next first flushed images
@@ -254,4 +268,7 @@ start_keeps first recs none counters gate next flushed v images empty last all_o
       whole = sym (append-nil recs) ∙ ap (λ (l : List Rec). recs ++ l) (sym empty);
       count = sym last;
       each = λ c left. subst (λ (k : ℕ). HasFlushed first recs first k c) (sym all_of) (subst (HasFlushed first recs first next) (sym (only c left)) here);
+      other = first;
+      begins = λ c left. inl (ap first_on (only c left) ∙ first_found first recs counters gate next v opens last ready);
+      settled = λ past c left. ap first_on (only c left) ∙ first_found first recs counters gate next v opens last ready;
     }

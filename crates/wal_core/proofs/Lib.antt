@@ -15,6 +15,7 @@ pub mod NextRecs
 pub mod Begins
 pub mod GateWrites
 pub mod Keeping
+pub mod Firsts
 pub mod Forgetting
 pub mod LastBatches
 pub mod Comings

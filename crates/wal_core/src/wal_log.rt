@@ -5,6 +5,7 @@ ghost use Rattle.disk_core.specs.Volume.{Volume};
 ghost use Rattle.wal_core.specs.declared.refusal.LogRefusal.TheVariants.{LogFault};
 ghost use Rattle.wal_core.specs.Opening.{behind_gate};
 ghost use Rattle.wal_core.specs.Log.{IsReady, IsNextBatch};
+ghost use Rattle.wal_core.specs.Kept.{first_on};
 ghost use Rattle.wal_records.specs.Lawful.{are_lawful};
 ghost use Rattle.wal_core.specs.Checkpoint.{MayBegin};
 ghost use Rattle.wal_core.specs.declared.checkpoint.LastCheckpoint.{LastCheckpoint};
@@ -49,6 +50,7 @@ pub struct WalLog<D: LogDisk> {
     ghost few: { flushed < length recs → gate + length behind.items ≤ 2 ^ 40 },
     ghost lawful: { IsTrue (are_lawful (drop flushed recs)) },
     ghost numbered: { from + flushed ≤ gate },
+    ghost firsts: { IsTrue D.tells → down ≡ None → first ≤ first_on (D.reads disk) },
     ghost starts: { IsTrue D.tells → down ≡ None → (D.reads disk).start ≡ start },
     ghost begins: { IsTrue D.tells → down ≡ None → (k : LastCheckpoint) → checkpoint ≡ Some k → (c : Volume) → D.images disk c → MayBegin k gate (drop flushed recs) counters (from + length recs) c } by { Prim.hlevel props },
     ghost ready: { IsTrue D.tells → down ≡ None → (c : Volume) → D.images disk c → IsReady gate (drop flushed recs) counters (from + length recs) c } by { Prim.hlevel props },
@@ -86,7 +88,7 @@ impl<D: LogDisk> WalLog<D> {
     ghost use Rattle.wal_core.specs.Checkpoint.{IsLastCheckpoint, OpensOrBegins};
     ghost use Rattle.wal_core.specs.declared.checkpoint.LastCheckpoint.{LastCheckpoint};
     ghost use Rattle.wal_core.specs.LogViews.{log_disk, log_recs, log_pending, log_next, log_flushed, log_end, log_counters, log_down, log_start, log_first, log_checkpoint, KeepsAll};
-    ghost use Rattle.wal_core.specs.Kept.{HasFlushed};
+    ghost use Rattle.wal_core.specs.Kept.{BeginWith, HasFlushed, first_on, other_behind};
     ghost use Rattle.tx_events.specs.declared.record.Rec.{Rec};
 
     /// Whether the record may be appended: it is lawful, a checkpoint has the number `next()`, the first record of a new
@@ -167,6 +169,11 @@ impl<D: LogDisk> WalLog<D> {
         ensures bytes { IsTrue D.tells → OnOk result (log_pending self.old ≢ [] → (D.reads (log_disk self.new)).bytes
             ≡ overlaid (overlaid (D.reads (log_disk self.old)).bytes (log_end self.old + 1) (behind_gate (bytes_of (log_pending self.old)))) (log_end self.old) (1 ∷ [])) }
 
+        // Where a batch was written, no image begins before `log_first`: what was forgotten before is on the disk.
+        ensures begins { IsTrue D.tells → OnOk result (log_pending self.old ≢ [] → (c : Volume) → D.images (log_disk self.new) c → log_first self.new ≤ first_on c) }
+        // And in any case each begins as one of before.
+        ensures begins_same { IsTrue D.tells → (other : ℕ) → BeginWith (log_first self.old) other (D.images (log_disk self.old)) → BeginWith (log_first self.new) other (D.images (log_disk self.new)) }
+
         // A checkpoint alone, with the counters of the log, may stand first from then on.
         ensures checkpoint { OnOk result (log_pending self.old ≢ [] → IsLastCheckpoint (log_end self.old) (log_pending self.old) (log_counters self.old) (log_checkpoint self.new)) }
         ensures no_batch { OnOk result (log_pending self.old ≡ [] → log_checkpoint self.new ≡ log_checkpoint self.old) }
@@ -236,6 +243,10 @@ impl<D: LogDisk> WalLog<D> {
         // From then on an image begins with the checkpoint, or before it where the start wasn't raised.
         ensures first { ((at : ℕ) → result ≢ Err (LogDown at)) → IfSome (log_checkpoint self.old) (λ k. log_first self.new ≡ k.number) }
         ensures first_down { (at : ℕ) → result ≡ Err (LogDown at) → log_first self.new ≡ log_first self.old }
+        // Before it: with the record with which the log was to begin so far, if that stands there.
+        ensures begins { IsTrue D.tells → log_down self.old ≡ None → (first : ℕ) (all : List Rec) → KeepsAll first all D.images self.old → (other : ℕ)
+            → BeginWith (log_first self.old) other (D.images (log_disk self.old))
+            → BeginWith (log_first self.new) (other_behind (log_first self.new) (log_first self.old) other) (D.images (log_disk self.new)) }
         ensures down_asks_nothing { (at : ℕ) → log_down self.old ≡ Some at → log_disk self.new ≡ log_disk self.old }
         ensures no_call { IfSome (log_checkpoint self.old) (λ k. log_start self.old ≡ k.gate → (log_disk self.new ≡ log_disk self.old) × (result ≢ Err LogFault)) }
         ensures down { (at : ℕ) → result ≡ Err (LogDown at) → log_down self.old ≡ Some at }
@@ -266,11 +277,11 @@ impl<D: LogDisk> WalLog<D> {
         }
         let checkpoint = self.checkpoint.unwrap();
         let gate = checkpoint.gate;
+        let flushed = self.flushed();
         self.first = checkpoint.number;
         if self.start == gate {
             return Ok(());
         }
-        let flushed = self.flushed();
         match self.disk.forget(gate) {
             Ok(()) => {
                 self.start = gate;

@@ -20,7 +20,7 @@ use Rattle.wal_core.specs.LogViews.{log_checkpoint, log_counters, log_disk, log_
 use Rattle.engine_parts.specs.Holds.{Knowledge, Leaves}
 use Rattle.engine_parts.specs.Law.{MayKeep}
 use Rattle.engine_parts.specs.Parts.{IsLogOf}
-use Rattle.engine_parts.proofs.Logging.{appends}
+use Rattle.engine_parts.proofs.Logging.{appends, begins_untouched}
 use Rattle.host_sections.specs.HostEntries.{checkpoint_by, next_number}
 use Rattle.host_sections.proofs.Aloneness.{came_out, may_add, went_out}
 use Rattle.host_sections.proofs.LogSteps.{log_untouched, may_append}
@@ -84,7 +84,7 @@ leave-requires-clause-stands g c =
       refl,
       subst (λ (e : Entry). IsLogOf start n (es ++ e ∷ [])) (sym c.append_note-mark.ensures)
           (appends start d.tells (d.faults (log_disk o)) (d.faults (log_disk n)) (d.images (log_disk o)) (d.images (log_disk n)) (log_recs o) (log_recs n) (log_next o) (log_next n) (log_first o) (log_first n) (log_flushed o) (log_flushed n) (log_counters o) (log_counters n) (log_down o) (log_down n) (log_checkpoint o) (log_checkpoint n) es c.args.by here rec
-          a.recs a.next a.flushed (a.counters ∙ ap (λ (l : Option Counters). Some (after_record (counters_or_none l) rec)) here.counters_are) a.stays (ap d.faults a.disk) a.first a.keeps),
+          a.recs a.next a.flushed (a.counters ∙ ap (λ (l : Option Counters). Some (after_record (counters_or_none l) rec)) here.counters_are) a.stays (ap d.faults a.disk) a.first a.keeps (begins_untouched o n a.disk a.first)),
     )
 
 pub returns-in-Ok-clause-alone : goal.returns-in-Ok-clause-alone

@@ -69,7 +69,7 @@ leave-requires-clause-stands g c =
     subst (λ (z : ℕ). (z ≡ log_lock) × IsLogOf start n (at seen z ++ c.flush_note-flush.result.value ∷ [])) (sym i.cell) (
       refl,
       subst (λ (e : Entry). IsLogOf start n (at seen log_lock ++ e ∷ [])) (sym c.flush_note-flush.ensures)
-          (flushed_stands start o n (at seen log_lock) c.args.by here c.next-next.result c.next-next.ensures f.recs f.next f.counters f.ok (f.stays (λ q. cc)) up f.faults f.first f.checkpoint f.keeps),
+          (flushed_stands start o n (at seen log_lock) c.args.by here c.next-next.result c.next-next.ensures f.recs f.next f.counters f.ok (f.stays (λ q. cc)) up f.faults f.first f.checkpoint f.keeps f.begins_same),
     )
 
 pub returns-in-Ok-clause-alone : goal.returns-in-Ok-clause-alone
@@ -139,7 +139,7 @@ leave-requires-in-LogFault-clause-stands g c =
     subst (λ (z : ℕ). (z ≡ log_lock) × IsLogOf start n (at seen z ++ c.flush_fault_note-fault.result.value ∷ [])) (sym i.cell) (
       refl,
       subst (λ (e : Entry). IsLogOf start n (at seen log_lock ++ e ∷ [])) (sym noted)
-          (flush_fails start o n (at seen log_lock) c.args.by here f.recs f.next f.counters f.err (f.put_down (ap Err c.in-LogFault.is)) f.first f.keeps),
+          (flush_fails start o n (at seen log_lock) c.args.by here f.recs f.next f.counters f.err (f.put_down (ap Err c.in-LogFault.is)) f.first f.keeps f.begins_same),
     )
 
 pub returns-in-LogFault-clause-alone : goal.returns-in-LogFault-clause-alone

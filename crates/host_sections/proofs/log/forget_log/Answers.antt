@@ -70,7 +70,7 @@ leave-requires-clause-stands g c =
     subst (λ (z : ℕ). (z ≡ log_lock) × IsLogOf start n (at seen z ++ c.forget_note-forget.result.value ∷ [])) (sym i.cell) (
       refl,
       subst (λ (e : Entry). IsLogOf start n (at seen log_lock ++ e ∷ [])) (sym c.forget_note-forget.ensures)
-          (forgotten_stands start o n (at seen log_lock) c.args.by here c.args.number f.recs f.next f.counters f.flushed (f.stays (λ q. cc)) up f.faults (first_is c.args.number (log_checkpoint o) (log_first n) (s.alone c.args.number c.requires.ends) (f.first (λ place q. cc))) f.keeps),
+          (forgotten_stands start o n (at seen log_lock) c.args.by here c.args.number f.recs f.next f.counters f.flushed (f.stays (λ q. cc)) up f.faults (first_is c.args.number (log_checkpoint o) (log_first n) (s.alone c.args.number c.requires.ends) (f.first (λ place q. cc))) f.keeps f.begins),
     )
 
 pub returns-in-Ok-clause-alone : goal.returns-in-Ok-clause-alone
@@ -136,11 +136,12 @@ leave-requires-in-LogFault-clause-stands g c =
     let n = c.forget_before_checkpoint.new.self in
     let f = c.in-Err.ensures in
     let noted = c.forget_fault_note-fault.ensures ∙ ap (λ l. forget_fault_by c.args.by c.args.number (d.faults (log_disk l))) c.deref.ensures in
+    let up = not_down (log_down o) (λ m put. let refused = same_err (f.is_down m put) in let failed = c.in-LogFault.is in cc) in
     subst (λ (z : ℕ). (z ≡ log_lock) × IsLogOf start n (at seen z ++ c.forget_fault_note-fault.result.value ∷ [])) (sym i.cell) (
       refl,
       subst (λ (e : Entry). IsLogOf start n (at seen log_lock ++ e ∷ [])) (sym noted)
-          (forget_fails start o n (at seen log_lock) c.args.by here c.args.number f.recs f.next f.counters f.flushed (f.put_down (ap Err c.in-LogFault.is))
-          (first_is c.args.number (log_checkpoint o) (log_first n) (s.alone c.args.number c.requires.ends) (f.first (λ place q. let failed = c.in-LogFault.is in let other = same_err q in cc))) f.keeps),
+          (forget_fails start o n (at seen log_lock) c.args.by here c.args.number f.recs f.next f.counters f.flushed (f.put_down (ap Err c.in-LogFault.is)) up
+          (first_is c.args.number (log_checkpoint o) (log_first n) (s.alone c.args.number c.requires.ends) (f.first (λ place q. let failed = c.in-LogFault.is in let other = same_err q in cc))) f.keeps f.begins),
     )
 
 pub returns-in-LogFault-clause-alone : goal.returns-in-LogFault-clause-alone

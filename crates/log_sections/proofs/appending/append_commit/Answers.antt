@@ -18,7 +18,7 @@ use Rattle.engine_parts.specs.Faults.{look_of}
 use Rattle.engine_parts.specs.Sessions.{by_at, inner_id, look_by}
 use Rattle.engine_parts.specs.Stages.{AreUnasked, IsInStage}
 use Rattle.engine_parts.proofs.Leaving.{call_left}
-use Rattle.engine_parts.proofs.Logging.{appends, failed_more, first_same, goes_on, log_looks, unflushed, up_more}
+use Rattle.engine_parts.proofs.Logging.{appends, begins_untouched, failed_more, first_same, goes_on, log_looks, unflushed, up_more}
 use Rattle.engine_parts.proofs.Sectioning.{same_command, section_of}
 use Rattle.engine_parts.proofs.Stepping.{went_quiet}
 use Rattle.log_sections.proofs.Sections.{append_refused, base_of_log, call_recorded, down_left, log_refused, may_come, not_down, same_err, unasked_on, up_left}
@@ -88,7 +88,7 @@ leave_appended-requires-clause-stands g c =
     let a = c.in-Ok.ensures in
     let s = (subst (λ l. IsLogOf (start_of c.args.hall.now) l (at (view c.enter_log-held.new.caller.pass).seen log_lock)) (sym c.deref_mut-log.ensures.value) c.enter_log-held.ensures.stands) in
     appends (start_of c.args.hall.now) d.tells (d.faults (log_disk o)) (d.faults (log_disk n)) (d.images (log_disk o)) (d.images (log_disk n)) (log_recs o) (log_recs n) (log_next o) (log_next n) (log_first o) (log_first n) (log_flushed o) (log_flushed n) (log_counters o) (log_counters n) (log_down o) (log_down n) (log_checkpoint o) (log_checkpoint n) (at (view u.pass).seen log_lock) (by_at u.number u.session.levels.commands) s c.args.rec.now
-    a.recs a.next a.flushed (a.counters ∙ ap (λ (l : _). Some (after_record (counters_or_none l) c.args.rec.now)) s.counters_are) a.stays (ap d.faults a.disk) a.first a.keeps
+    a.recs a.next a.flushed (a.counters ∙ ap (λ (l : _). Some (after_record (counters_or_none l) c.args.rec.now)) s.counters_are) a.stays (ap d.faults a.disk) a.first a.keeps (begins_untouched o n a.disk a.first)
 
 pub leave_looked-requires-in-Err-clause-stands : goal.leave_looked-requires-in-Err-clause-stands
 leave_looked-requires-in-Err-clause-stands g c =
@@ -107,7 +107,7 @@ leave_looked-requires-in-Err-clause-stands g c =
           (let same : faults_told start log_lock (es ++ look ∷ []) ≡ faults_told start log_lock es = number_same count_in (faults_at start log_lock) es look refl in let before = s.count in let still = ap d.faults a.disk in omega arith)
           (λ m is. let f = s.failed m (sym a.stays ∙ is) in let same = a.flushed in (failed_more start es look m f.0, (let le = f.1 in omega arith)))
           (λ none. up_more es look refl (s.up (sym a.stays ∙ none)))
-          (first_same start es look (log_first o) (log_first n) a.first refl s.first_is) (unflushed start es look (log_checkpoint n) refl) a.err_keeps,
+          (first_same start es look (log_first o) (log_first n) a.first refl s.first_is) (unflushed start es look (log_checkpoint n) refl) a.err_keeps refl (begins_untouched o n a.disk a.first),
     )
 
 pub refusal_of-requires : goal.refusal_of-requires

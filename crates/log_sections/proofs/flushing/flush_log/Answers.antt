@@ -62,7 +62,7 @@ leave_flushed-requires-clause-stands g c =
     (let same : faults_told start log_lock (es ++ flush ∷ []) ≡ faults_told start log_lock es = number_same count_in (faults_at start log_lock) es flush refl in let before = s.count in let rises = f.faults in omega arith)
     (λ m is. absurd (let refused = f.is_down m (sym (f.stays (λ q. cc)) ∙ is) in cc))
     (λ none. up_more es flush refl (s.up (sym (f.stays (λ q. cc)) ∙ none)))
-    (first_same start es flush (log_first o) (log_first n) f.first refl s.first_is) (flush_alone start o n es by s c.next-next.result f.checkpoint) f.keeps
+    (first_same start es flush (log_first o) (log_first n) f.first refl s.first_is) (flush_alone start o n es by s c.next-next.result f.checkpoint) f.keeps refl f.begins_same
 
 pub returns-then-flushed-number-clause-may : goal.returns-then-flushed-number-clause-may
 returns-then-flushed-number-clause-may g c =
@@ -142,7 +142,7 @@ leave_failed-requires-clause-stands g c =
     let still = f.err in
     (failed_here start es by calls.Flush (d.faults (log_disk n)) m refl (here ∙ s.flushed_is), omega arith))
     (λ none. absurd (let some = sym none ∙ f.put_down (ap Err c.in-LogFault.is) in cc))
-    (first_same start es fault (log_first o) (log_first n) f.first refl s.first_is) (unflushed start es fault (log_checkpoint n) refl) f.keeps
+    (first_same start es fault (log_first o) (log_first n) f.first refl s.first_is) (unflushed start es fault (log_checkpoint n) refl) f.keeps refl f.begins_same
 
 pub returns-in-LogFault-clause-may : goal.returns-in-LogFault-clause-may
 returns-in-LogFault-clause-may g c =
@@ -195,7 +195,7 @@ leave_looked-requires-in-Err-clause-stands g c =
           (let same : faults_told start log_lock (es ++ look ∷ []) ≡ faults_told start log_lock es = number_same count_in (faults_at start log_lock) es look refl in let before = s.count in let rises = f.faults in omega arith)
           (λ m is. let before = s.failed m (sym (f.stays (λ q. c.in_default.not-LogFault (same_err q))) ∙ is) in let still = f.err in (failed_more start es look m before.0, (let le = before.1 in omega arith)))
           (λ none. up_more es look refl (s.up (sym (f.stays (λ q. c.in_default.not-LogFault (same_err q))) ∙ none)))
-          (first_same start es look (log_first o) (log_first n) f.first refl s.first_is) (unflushed start es look (log_checkpoint n) refl) f.keeps,
+          (first_same start es look (log_first o) (log_first n) f.first refl s.first_is) (unflushed start es look (log_checkpoint n) refl) f.keeps refl f.begins_same,
     )
 
 pub refusal_of-requires : goal.refusal_of-requires

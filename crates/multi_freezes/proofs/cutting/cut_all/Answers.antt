@@ -2,11 +2,11 @@ use Rattle.std.proofs.Common.{Ok, Err, subst, arith}
 use Rattle.hall.specs.Calls.{view, start_of}
 use Rattle.tx_events.specs.declared.event.By.{By}
 use Rattle.multi_banks.proofs.Adding.{truncated_later}
-use Rattle.multi_freezes.specs.Trims.{IsTrimMet}
+use Rattle.engine_parts.specs.Sessions.{by_at}
+use Rattle.multi_freezes.specs.Trims.{AreCut, IsTrimMet, MayTrim}
 use Rattle.multi_freezes.proofs.Going.{command_kept}
 use Rattle.multi_freezes.proofs.Letting.{cut_more, xmin_later}
 use Rattle.multi_freezes.proofs.TrimSteps.{trim_then, visited_still}
-use Rattle.multi_freezes.specs.Trims.{MayTrim}
 use Rattle.multi_freezes.proofs.cutting.cut_all.Goals as goal
 
 pub loop-bank-init : goal.loop-bank-init
@@ -26,14 +26,19 @@ cut_bank-requires-clause-xmin g c = xmin_later (start_of c.args.hall.now) (view 
 pub loop-bank-preserved : goal.loop-bank-preserved
 loop-bank-preserved g c =
     let hall = c.args.hall.now in
+    let start = start_of hall in
     let i = c.loop-bank.invariant in
+    let old = c.args.caller.now in
     let t = c.loop-bank.caller in
     let w = c.cut_bank.new.caller in
+    let bank = c.loop-bank.bank in
     let found = c.args.found.now in
     let m = c.args.multis.now in
+    let v = i.visited in
     record {
-      visited = trim_then hall c.args.banks {T = Unit {0}} {U = Unit {0}} tt (Ok tt) c.args.caller.now t w i.visited c.in-Ok.ensures.visited;
-      cut = cut_more (start_of hall) (view t.pass).seen (view w.pass).seen found.oldest found.oldest_xmin m.oldest_multi m.oldest_offset c.loop-bank.bank c.in-Ok.ensures.visited.went.grows i.cut c.in-Ok.ensures.cut;
+      visited = trim_then hall c.args.banks {T = Unit {0}} {U = Unit {0}} tt (Ok tt) old t w v c.in-Ok.ensures.visited;
+      cut = cut_more start (view t.pass).seen (view w.pass).seen (by_at old.number old.session.levels.commands) found.oldest found.oldest_xmin m.oldest_multi m.oldest_offset bank c.in-Ok.ensures.visited.went.grows i.cut
+          (subst (λ (z : By). AreCut start (view w.pass).seen z found.oldest found.oldest_xmin m.oldest_multi m.oldest_offset bank) (command_kept old.number t.number old.session t.session v.number v.session) c.in-Ok.ensures.cut);
     }
 
 pub returns-in-Err-clause-visited : goal.returns-in-Err-clause-visited

@@ -1,11 +1,17 @@
-use Rattle.std.proofs.Common.{IfErr, Result, Err, subst, ◌∙◌}
+use Rattle.std.proofs.Common.{◌≡◌, IfErr, Result, Err, subst, ◌∙◌}
 use Rattle.hall.specs.Calls.{view, start_of}
+use Rattle.store_pages.specs.Layouts.{multi_before}
+use Rattle.tx_events.specs.Ids.{id_before}
+use Rattle.tx_events.specs.declared.event.By.{By}
 use Rattle.tx_events.specs.declared.refusal.Refusal.{Refusal}
-use Rattle.tx_core.proofs.Lasting.{stands_grows}
+use Rattle.tx_core.specs.Locks.{member_page_in_full, members_lock, offset_page, offsets_lock}
+use Rattle.tx_core.specs.Locks.{subtrans_lock, subtrans_page, xact_lock, xact_page}
 use Rattle.bank_cuts.proofs.Cutting.{truncated_later, xmin_later}
+use Rattle.engine_parts.specs.Sessions.{by_at}
 use Rattle.engine_parts.proofs.Leaving.{grows_then}
-use Rattle.multi_freezes.specs.Trims.{AreCut, IsTrimMet}
+use Rattle.multi_freezes.specs.Trims.{AreCut, IsCutBy, IsTrimMet}
 use Rattle.multi_freezes.proofs.Going.{command_kept}
+use Rattle.multi_freezes.proofs.Letting.{cut_by_grows}
 use Rattle.multi_freezes.proofs.TrimSteps.{ok_maps, trim_then}
 use Rattle.multi_freezes.proofs.cutting.cut_bank.Goals as goal
 
@@ -82,22 +88,33 @@ returns-clause-visited g c =
 pub returns-clause-cut : goal.returns-clause-cut
 returns-clause-cut g c =
     let start = start_of c.args.hall.now in
+    let old = c.args.caller.now in
     let a = c.let_states.new.caller in
     let b = c.let_parents.new.caller in
     let d = c.let_offsets.new.caller in
     let e = c.let_members.new.caller in
+    let found = c.args.found.now in
+    let m = c.args.multis.now in
+    let bank = c.args.bank in
+    let by = by_at old.number old.session.levels.commands in
+    let v = c.in-Ok.ensures.visited in
     let w = c.in-Ok-let_parents.ensures.visited in
     let x = c.in-Ok-let_offsets.ensures.visited in
     let y = c.let_members.ensures.visited in
     let last = y.went.grows in
     let two = grows_then (view b.pass).seen (view d.pass).seen (view e.pass).seen x.went.grows last in
     let three = grows_then (view a.pass).seen (view b.pass).seen (view e.pass).seen w.went.grows two in
-    ok_maps c.let_members.result _ (AreCut start (view e.pass).seen c.args.found.now.oldest c.args.found.now.oldest_xmin c.args.multis.now.oldest_multi c.args.multis.now.oldest_offset c.args.bank)
-    (λ m. record {
-      states = λ reach. stands_grows (view a.pass).seen (view e.pass).seen _ _ three (c.in-Ok.ensures.cut reach);
-      parents = λ reach. stands_grows (view b.pass).seen (view e.pass).seen _ _ two (c.in-Ok-let_parents.ensures.cut reach);
-      offsets = stands_grows (view d.pass).seen (view e.pass).seen _ _ last c.in-Ok-let_offsets.ensures.cut;
-      members = m;
+    let first : by_at a.number a.session.levels.commands ≡ by = command_kept old.number a.number old.session a.session v.number v.session in
+    let second : by_at b.number b.session.levels.commands ≡ by = command_kept a.number b.number a.session b.session w.number w.session ∙ first in
+    let third : by_at d.number d.session.levels.commands ≡ by = command_kept b.number d.number b.session d.session x.number x.session ∙ second in
+    ok_maps c.let_members.result _ (AreCut start (view e.pass).seen by found.oldest found.oldest_xmin m.oldest_multi m.oldest_offset bank)
+    (λ now. record {
+      states = λ reach. cut_by_grows (view a.pass).seen (view e.pass).seen by (xact_lock bank) (xact_page found.oldest) three (c.in-Ok.ensures.cut reach);
+      parents = λ reach. cut_by_grows (view b.pass).seen (view e.pass).seen by (subtrans_lock bank) (subtrans_page (id_before found.oldest_xmin)) two
+          (subst (λ (z : By). IsCutBy (view b.pass).seen z (subtrans_lock bank) (subtrans_page (id_before found.oldest_xmin))) first (c.in-Ok-let_parents.ensures.cut reach));
+      offsets = cut_by_grows (view d.pass).seen (view e.pass).seen by (offsets_lock bank) (offset_page (multi_before m.oldest_multi)) last
+          (subst (λ (z : By). IsCutBy (view d.pass).seen z (offsets_lock bank) (offset_page (multi_before m.oldest_multi))) second c.in-Ok-let_offsets.ensures.cut);
+      members = subst (λ (z : By). IsCutBy (view e.pass).seen z (members_lock bank) (member_page_in_full m.oldest_offset)) third now;
     })
     c.let_members.ensures.cut
 

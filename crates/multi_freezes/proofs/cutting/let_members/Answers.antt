@@ -39,7 +39,7 @@ returns-in-Ok-clause-cut g c =
     let a = c.requires.step.may.ready.at in
     let wide = a.wide in
     let entry : Entry = record { by = by; kind = kinds.Cut (member_page_in_full c.args.offset) } in
-    (by, section_stands start (view old.pass) (view w.pass) (members_lock c.args.bank) entry c.in-Ok.ensures.section (omega (arith, inside, wide)))
+    section_stands start (view old.pass) (view w.pass) (members_lock c.args.bank) entry c.in-Ok.ensures.section (omega (arith, inside, wide))
 
 pub returns-in-Err-DiskFault-clause-visited : goal.returns-in-Err-DiskFault-clause-visited
 returns-in-Err-DiskFault-clause-visited g c =

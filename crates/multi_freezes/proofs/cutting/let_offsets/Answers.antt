@@ -40,7 +40,7 @@ returns-in-Ok-clause-cut g c =
     let a = c.requires.step.may.ready.at in
     let wide = a.wide in
     let entry : Entry = record { by = by; kind = kinds.Cut (offset_page (multi_before c.args.multi)) } in
-    (by, section_stands start (view old.pass) (view w.pass) (offsets_lock c.args.bank) entry c.in-Ok.ensures.section (omega (arith, inside, wide)))
+    section_stands start (view old.pass) (view w.pass) (offsets_lock c.args.bank) entry c.in-Ok.ensures.section (omega (arith, inside, wide))
 
 pub returns-in-Err-DiskFault-clause-visited : goal.returns-in-Err-DiskFault-clause-visited
 returns-in-Err-DiskFault-clause-visited g c =

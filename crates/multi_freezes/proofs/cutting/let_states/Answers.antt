@@ -39,7 +39,7 @@ returns-in-Ok-clause-cut g c reach =
     let a = c.requires.step.may.ready.at in
     let wide = a.wide in
     let entry : Entry = record { by = by; kind = kinds.Cut (xact_page c.args.oldest) } in
-    (by, section_stands start (view old.pass) (view w.pass) (xact_lock c.args.bank) entry c.in-Ok.ensures.section (omega (arith, inside, wide)))
+    section_stands start (view old.pass) (view w.pass) (xact_lock c.args.bank) entry c.in-Ok.ensures.section (omega (arith, inside, wide))
 
 pub returns-in-Err-DiskFault-clause-visited : goal.returns-in-Err-DiskFault-clause-visited
 returns-in-Err-DiskFault-clause-visited g c =

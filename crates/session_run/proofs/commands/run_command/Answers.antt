@@ -17,7 +17,7 @@ returns-in-Multi-clause-made g c = λ pairs is. (
 
 pub returns-in-Trim-clause-trimmed : goal.returns-in-Trim-clause-trimmed
 returns-in-Trim-clause-trimmed g c = λ is done.
-    trimmed_by (start_of c.args.hall.now) (view c.trim.new.caller.pass).seen (by_at c.args.caller.now.number (next_command c.args.caller.now)) c.trim.result c.trim.ensures.trimmed (sym c.done-in-Trim.ensures ∙ done)
+    trimmed_by (start_of c.args.hall.now) (view c.args.caller.now.pass).seen (view c.trim.new.caller.pass).seen (by_at c.args.caller.now.number (next_command c.args.caller.now)) c.trim.result c.trim.ensures.trimmed (sym c.done-in-Trim.ensures ∙ done)
 
 pub returns-in-MultiFreeze-clause-raised : goal.returns-in-MultiFreeze-clause-raised
 returns-in-MultiFreeze-clause-raised g c = λ multi is.

@@ -2,7 +2,7 @@ use Rattle.std.proofs.Common.{ℕ, Bool, arith, subst}
 use Rattle.disk_core.specs.Pages.{Pages}
 use Rattle.slru_bank.specs.Crash.{no_call, one_call, runs_then}
 use Rattle.slru_bank.specs.Removal.{removes, MayLack}
-use Rattle.slru_bank.proofs.RemovalLists.{nothing_lacks, lack_then, passed_one}
+use Rattle.slru_bank.proofs.RemovalLists.{nothing_lacks, lack_then, passed_row}
 use Rattle.slru_bank.proofs.removal.remove_pages.Goals as goal
 
 pub loop-page-init : goal.loop-page-init
@@ -27,7 +27,7 @@ loop-page-preserved g c =
       absent = λ told q within passed taken.
           let lack : MayLack gone p0 p2 = subst (λ (p : Pages). MayLack gone p p2) (c.after.ensures.same told) (c.remove_if.ensures.others told) in
           let least = rw c.in-Some.is at (c.in_ok-page.ensures.next told) in
-          passed_one gone p0 p2 c.loop-page.last c.in-Some.page q (was.absent told) least lack (c.in_ok-remove_if.ensures.absent told) within passed taken;
+          passed_row gone p0 p2 c.loop-page.last c.in-Some.page c.in_ok-end.end q (was.absent told) least lack (c.in_ok-end.ensures.absent told) c.in_ok-end.ensures.stay within passed taken;
       others = λ told.
           let lack : MayLack gone p0 p2 = subst (λ (p : Pages). MayLack gone p p2) (c.after.ensures.same told) (c.remove_if.ensures.others told) in
           lack_then gone (d.pages c.args.disk.now) p0 p2 (was.others told) lack;

@@ -76,6 +76,7 @@ invariant_of-self g c =
       few = λ some. omega (arith, longer, long, within);
       lawful = ap are_lawful p ∙ lawful-push pending r s.lawful c.requires.lawful;
       numbered = s.numbered;
+      firsts = λ told up. s.firsts told up;
       starts = λ told up. s.starts told up;
       begins = λ told up k e v left. begins-push k s.gate s.counters (s.from + length s.recs) r c.requires pending (drop s.flushed c.add_rec.new.recs) c.counters_with-self.result (s.from + length c.add_rec.new.recs) v p
           c.counters_with-self.ensures (omega (arith, counted)) s.lawful (s.begins told up k e v left);

@@ -1,4 +1,4 @@
-use Rattle.std.proofs.Common.{◌≡◌, inl, refl, ℕ, ◌+◌, ◌<◌, List, [], ◌∷◌, ◌++◌, length, drop, slice_index, Option, Some, None, sym, ◌∙◌, ap, subst, arith}
+use Rattle.std.proofs.Common.{◌≡◌, ◌⊎◌, inl, refl, ℕ, ◌+◌, ◌<◌, ◌≤◌, List, [], ◌∷◌, ◌++◌, length, drop, slice_index, Option, Some, None, sym, ◌∙◌, ap, subst, arith}
 use Rattle.std.proofs.lemmas.List.{drop_all, length-drop, take_rest}
 use Rattle.tx_events.specs.declared.record.Rec.{Rec}
 use Rattle.disk_core.specs.Volume.{Volume, overlaid}
@@ -13,8 +13,9 @@ use Rattle.wal_core.specs.Checkpoint.{IsLastCheckpoint, MayBegin}
 use Rattle.wal_core.specs.declared.checkpoint.LastCheckpoint.{LastCheckpoint}
 use Rattle.wal_core.proofs.Walks.{gate_is}
 use Rattle.wal_core.proofs.Begins.{flushed_alone, stands_at}
-use Rattle.wal_core.specs.Kept.{HasFlushed}
+use Rattle.wal_core.specs.Kept.{HasFlushed, first_on}
 use Rattle.wal_core.proofs.Keeping.{flush_from, all_flushed}
+use Rattle.wal_core.proofs.Firsts.{begins_at, first_from, still_from}
 use Rattle.wal_core.proofs.wal_log.WalLog.flush.Goals as goal
 
 pub returns-then-self-count-clause-any_moment : goal.returns-then-self-count-clause-any_moment
@@ -137,7 +138,39 @@ returns-in-Err-clause-keeps g c told first all keeps =
     let some : 0 < length pending = omega (arith, s.counts, c.if-self-count.false, ap length c.items.ensures, length-drop s.flushed s.recs) in
     let up : s.down ≡ None = c.in_default.is in
     let stays : (x : Volume) → OpensFromImage (d.images s.disk) s.gate pending x → HasFlushed first all s.first (s.from + s.flushed) x = flush_from first all s.recs s.from s.first s.flushed s.gate s.counters (d.images s.disk) s.lawful s.counts some (s.ready told up) keeps in
-    record { earlier = keeps.earlier; whole = keeps.whole; count = keeps.count; each = λ x left. stays x (returns-in-Err-clause-left g c told up x left) }
+    record {
+      earlier = keeps.earlier;
+      whole = keeps.whole;
+      count = keeps.count;
+      each = λ x left. stays x (returns-in-Err-clause-left g c told up x left);
+      other = keeps.other;
+      begins = λ x left. let from = returns-in-Err-clause-left g c told up x left in
+          subst (λ (n : ℕ). (n ≡ s.first) ⊎ (n ≡ keeps.other)) (sym (first_from s.gate pending s.counters (s.from + length s.recs) some s.lawful from.0 x (s.ready told up from.0 from.1) from.2.0)) (keeps.begins from.0 from.1);
+      settled = λ past x left. let from = returns-in-Err-clause-left g c told up x left in
+          first_from s.gate pending s.counters (s.from + length s.recs) some s.lawful from.0 x (s.ready told up from.0 from.1) from.2.0 ∙ keeps.settled past from.0 from.1;
+    }
+
+pub invariant_of-self-in-Ok-clause-firsts : goal.invariant_of-self-in-Ok-clause-firsts
+invariant_of-self-in-Ok-clause-firsts g c told up =
+    let d = g.D.LogDisk in let s = c.args.self.now in let pending : List Rec = drop s.flushed s.recs in let body : List ℕ = body_in c.deref.result.now in
+    let v : Volume = d.reads s.disk in let w : Volume = d.reads c.write_batch.new.disk in
+    let some : 0 < length pending = omega (arith, s.counts, c.if-self-count.false, ap length c.items.ensures, length-drop s.flushed s.recs) in
+    let is : body ≡ bytes_of pending = ap body_in c.deref.ensures.value ∙ body_of_next s.behind.items pending s.next_batch in
+    let long : length c.deref.result.now ≡ 5 + length (bytes_of pending) = ap length c.deref.ensures.value ∙ long_behind s.behind.items pending s.next_batch in
+    still_from s.gate pending s.counters (s.from + length s.recs) some s.lawful s.first v (s.ready told up v (g.met.D.LogDisk.reads_image s.disk told)) w body (s.gate + length c.deref.result.now) is
+    (ap (λ (n : ℕ). s.gate + n) long) (c.in-Ok.ensures.written told) (s.firsts told up)
+
+pub returns-in-Ok-clause-begins : goal.returns-in-Ok-clause-begins
+returns-in-Ok-clause-begins g c told any x left =
+    let d = g.D.LogDisk in let s = c.args.self.now in let pending : List Rec = drop s.flushed s.recs in let body : List ℕ = body_in c.deref.result.now in
+    let v : Volume = d.reads s.disk in let w : Volume = d.reads c.write_batch.new.disk in
+    let some : 0 < length pending = omega (arith, s.counts, c.if-self-count.false, ap length c.items.ensures, length-drop s.flushed s.recs) in
+    let is : body ≡ bytes_of pending = ap body_in c.deref.ensures.value ∙ body_of_next s.behind.items pending s.next_batch in
+    let long : length c.deref.result.now ≡ 5 + length (bytes_of pending) = ap length c.deref.ensures.value ∙ long_behind s.behind.items pending s.next_batch in
+    let up : s.down ≡ None = c.in_default.is in
+    let low : s.first ≤ first_on w = still_from s.gate pending s.counters (s.from + length s.recs) some s.lawful s.first v (s.ready told up v (g.met.D.LogDisk.reads_image s.disk told)) w body (s.gate + length c.deref.result.now) is
+    (ap (λ (n : ℕ). s.gate + n) long) (c.in-Ok.ensures.written told) (s.firsts told up) in
+    subst (λ (y : Volume). s.first ≤ first_on y) (sym (c.in-Ok.ensures.synced told x left)) low
 
 pub returns-in-Ok-clause-keeps : goal.returns-in-Ok-clause-keeps
 returns-in-Ok-clause-keeps g c told first all keeps =
@@ -152,6 +185,8 @@ returns-in-Ok-clause-keeps g c told first all keeps =
     let none : left_2 ≡ [] = drop_all (length c.items.result.now) s.recs (omega (arith, ap length c.items.ensures)) in
     let ready : IsReady gate_2 left_2 s.counters (s.from + length s.recs) w =
     ready_again s.gate pending s.counters (s.from + length s.recs) some v (s.ready told up v (g.met.D.LogDisk.reads_image s.disk told)) w body gate_2 left_2 is (ap (λ (n : ℕ). s.gate + n) long) (c.in-Ok.ensures.written told) none in
+    let low : s.first ≤ first_on w = still_from s.gate pending s.counters (s.from + length s.recs) some s.lawful s.first v (s.ready told up v (g.met.D.LogDisk.reads_image s.disk told)) w body gate_2 is
+    (ap (λ (n : ℕ). s.gate + n) long) (c.in-Ok.ensures.written told) (s.firsts told up) in
     record {
       earlier = keeps.earlier;
       whole = keeps.whole;
@@ -160,7 +195,30 @@ returns-in-Ok-clause-keeps g c told first all keeps =
           let here : IsReady gate_2 left_2 s.counters (s.from + length s.recs) x = subst (λ (y : Volume). IsReady gate_2 left_2 s.counters (s.from + length s.recs) y) (sym (c.in-Ok.ensures.synced told x left)) ready in
           subst (λ (n : ℕ). HasFlushed first all s.first (s.from + n) x) (sym (ap length c.items.ensures))
           (all_flushed first all s.first (s.from + s.flushed) gate_2 left_2 s.counters (s.from + length s.recs) x none here (stays x (returns-in-Ok-clause-left g c told up x left)));
+      other = s.first;
+      begins = λ x left.
+          let low_on : s.first ≤ first_on x = subst (λ (y : Volume). s.first ≤ first_on y) (sym (c.in-Ok.ensures.synced told x left)) low in
+          inl (begins_at first all s.first (s.from + s.flushed) x (stays x (returns-in-Ok-clause-left g c told up x left)) low_on);
+      settled = λ past x left.
+          let low_on : s.first ≤ first_on x = subst (λ (y : Volume). s.first ≤ first_on y) (sym (c.in-Ok.ensures.synced told x left)) low in
+          begins_at first all s.first (s.from + s.flushed) x (stays x (returns-in-Ok-clause-left g c told up x left)) low_on;
     }
+
+pub returns-in-Err-clause-begins_same : goal.returns-in-Err-clause-begins_same
+returns-in-Err-clause-begins_same g c told other old x left =
+    let s = c.args.self.now in let pending : List Rec = drop s.flushed s.recs in
+    let some : 0 < length pending = omega (arith, s.counts, c.if-self-count.false, ap length c.items.ensures, length-drop s.flushed s.recs) in
+    let up : s.down ≡ None = c.in_default.is in
+    let from = returns-in-Err-clause-left g c told up x left in
+    subst (λ (n : ℕ). (n ≡ s.first) ⊎ (n ≡ other)) (sym (first_from s.gate pending s.counters (s.from + length s.recs) some s.lawful from.0 x (s.ready told up from.0 from.1) from.2.0)) (old from.0 from.1)
+
+pub returns-in-Ok-clause-begins_same : goal.returns-in-Ok-clause-begins_same
+returns-in-Ok-clause-begins_same g c told other old x left =
+    let s = c.args.self.now in let pending : List Rec = drop s.flushed s.recs in
+    let some : 0 < length pending = omega (arith, s.counts, c.if-self-count.false, ap length c.items.ensures, length-drop s.flushed s.recs) in
+    let up : s.down ≡ None = c.in_default.is in
+    let from = returns-in-Ok-clause-left g c told up x left in
+    subst (λ (n : ℕ). (n ≡ s.first) ⊎ (n ≡ other)) (sym (first_from s.gate pending s.counters (s.from + length s.recs) some s.lawful from.0 x (s.ready told up from.0 from.1) from.2.0)) (old from.0 from.1)
 
 pub returns-in-Err-clause-no_call : goal.returns-in-Err-clause-no_call
 returns-in-Err-clause-no_call g c none =

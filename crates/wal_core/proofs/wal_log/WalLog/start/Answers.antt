@@ -1,4 +1,4 @@
-use Rattle.std.proofs.Common.{◌≡◌, ℕ, ◌+◌, ◌<◌, List, [], length, Option, sym, ◌∙◌, ap, subst, arith}
+use Rattle.std.proofs.Common.{◌≡◌, refl, ℕ, ◌+◌, ◌<◌, List, [], length, Option, sym, ◌∙◌, ap, subst, arith}
 use Rattle.std.specs.Prelude.{IsSome}
 use Rattle.disk_core.specs.Images.{LeavesOnly}
 use Rattle.tx_events.specs.declared.record.Rec.{Rec}
@@ -13,7 +13,7 @@ use Rattle.wal_core.specs.Opening.{opened, walked}
 use Rattle.wal_core.specs.LastBatch.{last_batch}
 use Rattle.wal_core.specs.Checkpoint.{IsCheckpointIn, MayBegin}
 use Rattle.wal_core.proofs.LastBatches.{started_alone}
-use Rattle.wal_core.proofs.Keeping.{start_keeps}
+use Rattle.wal_core.proofs.Keeping.{first_found, start_keeps}
 use Rattle.wal_core.proofs.GateWrites.{gate_within, one_gate, opens_so, writes_so}
 use Rattle.wal_core.proofs.wal_log.WalLog.start.Goals as goal
 
@@ -31,6 +31,12 @@ invariant_of-log g c =
       few = λ some. absurd (omega (arith, empty, some));
       lawful = ap are_lawful none;
       numbered = omega (arith, recs, c.in-Ok.ensures.numbers);
+      firsts = λ told up.
+          let ready = c.in-Ok-close_gate.ensures.ready told in
+          let w : Volume = g.D.LogDisk.reads c.close_gate.new.disk in
+          let same = first_found found.first found.recs found.counters found.gate (found.first + length found.recs) w
+          (c.in-Ok-close_gate.ensures.opens told ∙ ap opened (c.read_log.ensures.same told) ∙ c.in-Ok.ensures.read told) refl ready in
+          omega (arith, same);
       starts = λ told up. c.in-Ok-close_gate.ensures.start told ∙ ap (λ (v : Volume). v.start) (c.read_log.ensures.same told) ∙ sym (c.in-Ok.ensures.begins told);
       begins = λ told up k e v left.
           let d = g.D.LogDisk in let next : ℕ = found.first + length c.items.result.now + length c.new.result in

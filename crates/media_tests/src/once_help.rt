@@ -143,7 +143,10 @@ fn check_volume(rt: &(impl Abort + AllocGlobal + Threads + Wait + Sync), row: Ro
         let (status, written) = run_once(rt, row.script, at, call);
         let written = written.as_str();
         if !is_so(rt, row, status, written, way) {
-            way = ways.next().unwrap_or("no way is left");
+            let Some(next) = ways.next() else {
+                panic!(rt; "{name}: {front} call {call}: {written}")
+            };
+            way = next;
             let is_well = is_so(rt, row, status, written, way);
             assert!(rt; is_well, "{name}: {front} call {call}: {written}");
         }

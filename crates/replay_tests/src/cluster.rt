@@ -57,8 +57,8 @@ pub fn write_log<L: LogDisk + Drop>(
     log.into_disk()
 }
 
-/// The pages of a bank's volume.
-pub fn bank_of<P: PageDisk + Drop, O: PageRule>(
+/// A bank over this volume.
+pub fn bank_over<P: PageDisk + Drop, O: PageRule>(
     rt: &(impl Abort + AllocGlobal),
     disk: P,
 ) -> SlruBank<P, O> {
@@ -76,7 +76,7 @@ pub fn states_of<P: PageDisk + Drop>(
     let mut states = [State::InProgress; 6];
     let mut bank = 0;
     for disk in xact {
-        let mut pages = bank_of::<P, XactPages>(rt, disk);
+        let mut pages = bank_over::<P, XactPages>(rt, disk);
         for at in 0..6 {
             if numbers[at] / 32768 % 2 == bank {
                 let found = state(&mut pages, id(rt, numbers[at]).low());
@@ -88,7 +88,7 @@ pub fn states_of<P: PageDisk + Drop>(
     states
 }
 
-/// Takes a bank's volume out, in whose place it can be put again.
+/// Takes a bank's volume out; `put_back` puts it back.
 pub fn take_out<P>(rt: &impl Abort, disks: &mut Vec<P>, at: usize) -> P {
     assert!(rt; at < disks.len(), "two banks");
     disks.remove(at)
@@ -109,7 +109,7 @@ pub fn put_state<P: PageDisk + Drop>(
 ) {
     let at = (number / 32768 % 2) as usize;
     let disk = take_out(rt, xact, at);
-    let mut bank = bank_of::<P, XactPages>(rt, disk);
+    let mut bank = bank_over::<P, XactPages>(rt, disk);
     assert!(rt; set_states(&mut bank, &[id(rt, number)], to).is_ok());
     assert!(rt; bank.flush_all().is_ok());
     put_back(rt, xact, at, bank.into_disk());
@@ -167,8 +167,9 @@ fn recovered<L: LogDisk + Drop, P: PageDisk + Drop>(
         offsets,
         members,
     } = volumes;
-    assert!(rt; xact.len() == 2 && subtrans.len() == 2);
-    assert!(rt; offsets.len() == 2 && members.len() == 2);
+    if xact.len() != 2 || subtrans.len() != 2 || offsets.len() != 2 || members.len() != 2 {
+        panic!(rt; "two banks")
+    }
     match find_log(rt.alloc(), log) {
         Ok(FoundLog::Old(found)) => recover(rt.alloc(), found, xact, subtrans, offsets, members),
         Ok(FoundLog::New(_)) => panic!(rt; "a log without a record"),

@@ -1,5 +1,5 @@
 // The multixacts of a cluster of two banks.
-use crate::cluster::{bank_of, id, put_back, take_out};
+use crate::cluster::{bank_over, id, put_back, take_out};
 use disk_core::PageDisk;
 use multi_members::{Slot, read_member, write_member};
 use multi_offsets::{offset, set_offset};
@@ -43,7 +43,7 @@ pub fn put_offset<P: PageDisk + Drop>(
 ) {
     let at = (number / 2048 % 2) as usize;
     let disk = take_out(rt, offsets, at);
-    let mut bank = bank_of::<P, OffsetPages>(rt, disk);
+    let mut bank = bank_over::<P, OffsetPages>(rt, disk);
     assert!(rt; set_offset(&mut bank, MultiId { number }, to).is_ok());
     assert!(rt; bank.flush_all().is_ok());
     put_back(rt, offsets, at, bank.into_disk());
@@ -58,7 +58,7 @@ pub fn put_member<P: PageDisk + Drop>(
 ) {
     let at = (place / 1636 % 2) as usize;
     let disk = take_out(rt, members, at);
-    let mut bank = bank_of::<P, MemberPages>(rt, disk);
+    let mut bank = bank_over::<P, MemberPages>(rt, disk);
     let written = write_member(&mut bank, place, id(rt, number).low(), Mode::Sh);
     assert!(rt; written.is_ok());
     assert!(rt; bank.flush_all().is_ok());
@@ -74,7 +74,7 @@ pub fn offsets_of<P: PageDisk + Drop>(
     let mut found = [0; 3];
     let mut bank = 0;
     for disk in offsets {
-        let mut pages = bank_of::<P, OffsetPages>(rt, disk);
+        let mut pages = bank_over::<P, OffsetPages>(rt, disk);
         for at in 0..3 {
             let number = numbers[at];
             if number / 2048 % 2 == bank {
@@ -96,7 +96,7 @@ pub fn members_of<P: PageDisk + Drop>(
     let mut found = [0; 4];
     let mut bank = 0;
     for disk in members {
-        let mut pages = bank_of::<P, MemberPages>(rt, disk);
+        let mut pages = bank_over::<P, MemberPages>(rt, disk);
         for at in 0..4 {
             let place = places[at];
             if place / 1636 % 2 == bank {

@@ -1,8 +1,7 @@
 // Reports judged through the tool: the worked rows, and what is wrong in each wrong one.
 use report_check::check_tool;
-use std::alloc::Global;
+use std::alloc::AllocGlobal;
 use std::process::Abort;
-use std::test::Fail;
 use tx_io::{MemSink, MemSource};
 
 /// A transaction that commits, and a snapshot that sees it.
@@ -25,46 +24,45 @@ log flushed 2 end 80
 end
 ";
 
-/// The status of a check of these bytes, of which these reads fail, and what it writes into this room.
-fn checked(
-    alloc: Global,
+/// A check of these bytes, of which these reads fail, into so much room ends with this status and this line.
+fn check(
+    rt: &(impl Abort + AllocGlobal),
     bytes: Vec<u8>,
     failing: Vec<u64>,
     room: u64,
-) -> Result<(u8, String), Fail> {
+    status: u8,
+    line: &str,
+) {
     let mut source = MemSource::new(bytes, failing);
-    let mut sink = MemSink::new(alloc, room, Vec::new(alloc))?;
-    let status = check_tool(alloc, &mut source, &mut sink);
-    let held = Vec::from_slice(alloc, sink.held())?;
-    Ok((status, String::from_utf8(held).ok().ok_or("no text")?))
+    let mut sink = MemSink::new(rt.alloc(), room, Vec::new(rt.alloc())).expect(rt, "memory");
+    let found = check_tool(rt.alloc(), &mut source, &mut sink);
+    assert!(rt;
+        found == status && sink.held() == line.as_bytes(),
+        "not {line}"
+    );
 }
 
-/// Whether a check of the text ends with this status and this line.
-pub fn ends(alloc: Global, text: &str, status: u8, line: &str) -> Result<bool, Fail> {
-    let bytes = Vec::from_slice(alloc, text.as_bytes())?;
-    let (answered, written) = checked(alloc, bytes, Vec::new(alloc), 100)?;
-    Ok(answered == status && written.as_str() == line)
+/// A check of the text ends with this status and this line.
+pub fn ends(rt: &(impl Abort + AllocGlobal), text: &str, status: u8, line: &str) {
+    let bytes = Vec::from_slice(rt.alloc(), text.as_bytes()).expect(rt, "memory");
+    check(rt, bytes, Vec::new(rt.alloc()), 100, status, line);
 }
 
-/// The report with the one place that has these words changed.
-pub fn changed(alloc: Global, report: &str, old: &str, new: &str) -> Result<String, Fail> {
-    let at = report.find(old).ok_or("no such words")?;
-    let mut text = String::new(alloc);
-    text.push_str(&report[..at])?;
-    text.push_str(new)?;
-    text.push_str(&report[at + old.len()..])?;
-    Ok(text)
-}
-
-#[test]
-fn a_lawful_report_is_lawful(rt: HostRuntime) -> Result<(), Fail> {
-    assert!(rt; ends(rt.alloc(), COMMITTED, 0, "lawful\n")?);
-    Ok(())
+/// Where the first words stand in the report, it has the second ones in their place; so changed it is refused with this line.
+pub fn is_refused(rt: &(impl Abort + AllocGlobal), report: &str, old: &str, new: &str, line: &str) {
+    let (front, behind) = report.split_once(old).expect(rt, "the words");
+    let text = format!(in rt.alloc(); "{front}{new}{behind}").expect(rt, "memory");
+    ends(rt, text.as_str(), 8, line);
 }
 
 #[test]
-fn each_wrong_line_is_told_where_it_stands(rt: HostRuntime) -> Result<(), Fail> {
-    let rows = [
+fn a_lawful_report_is_lawful(rt: HostRuntime) {
+    ends(&rt, COMMITTED, 0, "lawful\n");
+}
+
+#[test]
+fn each_wrong_line_is_told_where_it_stands(rt: HostRuntime) {
+    for (old, new, line) in [
         // A verdict that no snapshot gave.
         ("see s 3 -> visible", "see s 3 -> hidden", "unlawful 8\n"),
         // The last line is missing.
@@ -91,51 +89,37 @@ fn each_wrong_line_is_told_where_it_stands(rt: HostRuntime) -> Result<(), Fail> 
             "a 1 begin -> already-open",
             "unlawful 4\n",
         ),
-    ];
-    for (old, new, line) in rows {
-        let text = changed(rt.alloc(), COMMITTED, old, new)?;
-        assert!(rt; ends(rt.alloc(), text.as_str(), 8, line)?, "{old}");
+    ] {
+        is_refused(&rt, COMMITTED, old, new, line);
     }
-    Ok(())
 }
 
 #[test]
-fn first_lines_of_a_report_lack_the_next_one(rt: HostRuntime) -> Result<(), Fail> {
-    let alloc = rt.alloc();
-    let mut front = String::new(alloc);
+fn first_lines_of_a_report_lack_the_next_one(rt: HostRuntime) {
+    let mut front = String::new(rt.alloc());
     let mut next: u32 = 1;
-    for line in COMMITTED.lines() {
-        let mut told = String::from_str(alloc, "unlawful ")?;
-        told.push_str(next.to_string(alloc)?.as_str())?;
-        told.push('\n')?;
-        assert!(rt; ends(alloc, front.as_str(), 8, told.as_str())?, "{next}");
-        front.push_str(line)?;
-        front.push('\n')?;
+    for line in COMMITTED.split_inclusive("\n") {
+        let told = format!(in rt.alloc(); "unlawful {next}\n").expect(&rt, "memory");
+        ends(&rt, front.as_str(), 8, told.as_str());
+        front.push_str(line).expect(&rt, "memory");
         next = next.saturating_add(1);
     }
-    assert_eq!(rt; next, 18);
-    assert!(rt; ends(alloc, front.as_str(), 0, "lawful\n")?);
-    Ok(())
+    assert!(rt; next == 18);
+    ends(&rt, front.as_str(), 0, "lawful\n");
 }
 
 #[test]
-fn text_past_the_limit_is_told_at_line_0(rt: HostRuntime) -> Result<(), Fail> {
-    let alloc = rt.alloc();
-    let mut bytes = Vec::new(alloc);
-    bytes.resize(16_777_217, b'\n')?;
-    let (status, written) = checked(alloc, bytes, Vec::new(alloc), 100)?;
-    assert_eq!(rt; (status, written.as_str()), (8, "unlawful 0\n"));
-    Ok(())
+fn text_past_the_limit_is_told_at_line_0(rt: HostRuntime) {
+    let mut bytes = Vec::new(rt.alloc());
+    assert!(rt; bytes.resize(16_777_217, b'\n').is_ok());
+    check(&rt, bytes, Vec::new(rt.alloc()), 100, 8, "unlawful 0\n");
 }
 
 #[test]
-fn a_source_or_a_sink_that_fails_ends_the_check(rt: HostRuntime) -> Result<(), Fail> {
-    let alloc = rt.alloc();
-    let bytes = Vec::from_slice(alloc, COMMITTED.as_bytes())?;
-    let (status, written) = checked(alloc, bytes, [1].to_vec(alloc)?, 100)?;
-    assert_eq!(rt; (status, written.as_str()), (3, "read-fault\n"));
-    let bytes = Vec::from_slice(alloc, COMMITTED.as_bytes())?;
-    let (status, written) = checked(alloc, bytes, Vec::new(alloc), 4)?;
-    assert_eq!(rt; (status, written.as_str()), (4, "lawf"));
-    Ok(())
+fn a_source_or_a_sink_that_fails_ends_the_check(rt: HostRuntime) {
+    let bytes = Vec::from_slice(rt.alloc(), COMMITTED.as_bytes()).expect(&rt, "memory");
+    let failing = [1].to_vec(rt.alloc()).expect(&rt, "memory");
+    check(&rt, bytes, failing, 100, 3, "read-fault\n");
+    let bytes = Vec::from_slice(rt.alloc(), COMMITTED.as_bytes()).expect(&rt, "memory");
+    check(&rt, bytes, Vec::new(rt.alloc()), 4, 4, "lawf");
 }

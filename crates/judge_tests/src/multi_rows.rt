@@ -1,6 +1,5 @@
 // A report of two lives with multixacts, judged through the tool, and what is wrong in each wrong one.
-use crate::judge_tests::{changed, ends};
-use std::test::Fail;
+use crate::judge_tests::{ends, is_refused};
 
 /// A multixact is given, recorded and seen; behind a crash it is seen by its record, and given up.
 const GIVEN: &str = "txid report 1
@@ -56,14 +55,13 @@ end
 ";
 
 #[test]
-fn a_lawful_report_with_multixacts_is_lawful(rt: HostRuntime) -> Result<(), Fail> {
-    assert!(rt; ends(rt.alloc(), GIVEN, 0, "lawful\n")?);
-    Ok(())
+fn a_lawful_report_with_multixacts_is_lawful(rt: HostRuntime) {
+    ends(&rt, GIVEN, 0, "lawful\n");
 }
 
 #[test]
-fn each_wrong_line_on_multixacts_is_told(rt: HostRuntime) -> Result<(), Fail> {
-    let rows = [
+fn each_wrong_line_on_multixacts_is_told(rt: HostRuntime) {
+    for (old, new, line) in [
         // Another offset than that of its event.
         ("3:upd -> ok 1 1\n", "3:upd -> ok 1 2\n", "unlawful 6\n"),
         // A member that committed isn't hidden.
@@ -100,10 +98,7 @@ fn each_wrong_line_on_multixacts_is_told(rt: HostRuntime) -> Result<(), Fail> {
         ("raise a 3 1 1", "raise a 3 1 2", "unlawful 44\n"),
         // A record of an offset that wasn't announced.
         ("truncate 3 2 3", "truncate 3 2 4", "unlawful 49\n"),
-    ];
-    for (old, new, line) in rows {
-        let text = changed(rt.alloc(), GIVEN, old, new)?;
-        assert!(rt; ends(rt.alloc(), text.as_str(), 8, line)?, "{line}");
+    ] {
+        is_refused(&rt, GIVEN, old, new, line);
     }
-    Ok(())
 }

@@ -1,6 +1,5 @@
 // Reports of runs, as the tests of runs have them (`session_tests`, `media_tests`): each is lawful.
 use crate::judge_tests::ends;
-use std::test::Fail;
 
 /// A commit that a fault of the log met.
 const RUN_1: &str = "txid report 1
@@ -323,12 +322,10 @@ end
 ";
 
 #[test]
-fn reports_of_runs_are_lawful(rt: HostRuntime) -> Result<(), Fail> {
-    let rows = [
+fn reports_of_runs_are_lawful(rt: HostRuntime) {
+    for text in [
         RUN_1, RUN_2, RUN_3, RUN_4, RUN_5, RUN_6, RUN_7, RUN_8, RUN_9, RUN_11, RUN_12, RUN_10,
-    ];
-    for text in rows {
-        assert!(rt; ends(rt.alloc(), text, 0, "lawful\n")?);
+    ] {
+        ends(&rt, text, 0, "lawful\n");
     }
-    Ok(())
 }

@@ -1,6 +1,5 @@
 //! A media that is handed to a second run, which goes on behind the records of the first.
 use crate::run_help::{clear, run_in};
-use std::test::Fail;
 
 const FIRST: &str = ".banks 3
 a begin
@@ -14,6 +13,17 @@ b commit
 a begin
 a write
 a commit
+";
+
+const SECOND: &str = ".banks BANKS
+a snap s
+a see s 3
+a see s 4
+a see s 5
+a see s 6
+a seemulti s 1
+a begin
+a write
 ";
 
 // Behind the checkpoints of two lives, the multixact and the two commits. The first run's first life left 3 open.
@@ -40,27 +50,19 @@ end
 ";
 
 #[test]
-fn a_second_run_goes_on_behind_the_first_in_its_banks(rt: HostRuntime) -> Result<(), Fail> {
-    let alloc = rt.alloc();
-    for banks in [1, 3, 16] {
-        clear(&rt, "again")?;
-        let (status, _) = run_in(&rt, rt, "again", FIRST)?;
-        assert_eq!(rt; status, 0);
-        let script = format!(in alloc;
-            ".banks {banks}
-a snap s
-a see s 3
-a see s 4
-a see s 5
-a see s 6
-a seemulti s 1
-a begin
-a write
-"
-        )?;
-        let (status, written) = run_in(&rt, rt, "again", script.as_str())?;
-        assert_eq!(rt; (status, written.as_str()), (0, NEXT));
+fn a_second_run_goes_on_behind_the_first_in_its_banks(rt: HostRuntime) {
+    for banks in ["1", "3", "16"] {
+        clear(&rt, &rt, "again");
+        let (status, _) = run_in(&rt, rt, "again", FIRST);
+        assert!(rt; status == 0);
+        let script = SECOND
+            .replace(rt.alloc(), "BANKS", banks)
+            .expect(&rt, "memory");
+        let (status, written) = run_in(&rt, rt, "again", script.as_str());
+        assert!(rt;
+            status == 0 && written.as_str() == NEXT,
+            "{banks}: {written}"
+        );
     }
-    clear(&rt, "again")?;
-    Ok(())
+    clear(&rt, &rt, "again");
 }

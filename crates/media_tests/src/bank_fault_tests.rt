@@ -1,8 +1,8 @@
 //! Runs over a bank's volume that passes so many calls, and then fails each.
 use crate::run_help::{check_rows, run_fused};
 use disk_core::Which;
-use std::alloc::Global;
-use std::test::Fail;
+use std::alloc::AllocGlobal;
+use std::process::Abort;
 
 const ROWS: &str = "=== a_fault_of_pg_xact_leaves_the_commit_pending
 # The record is on disk then.
@@ -245,50 +245,46 @@ history
 ";
 
 #[test]
-fn banks_that_fail(rt: HostRuntime) -> Result<(), Fail> {
-    check_rows(&rt, ROWS)
+fn banks_that_fail(rt: HostRuntime) {
+    check_rows(&rt, ROWS);
 }
 
 /// Thirty-three transactions of 1,000 savepoints each, all but the last committed; then a write and a commit more.
-fn many_subtransactions(alloc: Global) -> Result<String, Fail> {
-    let mut script = String::from_str(alloc, ".banks 1\n")?;
-    for transaction in 0..33 {
-        if transaction > 0 {
-            script.push_str("a commit\n")?;
-        }
-        script.push_str("a begin\n")?;
-        for _ in 0..1000 {
-            script.push_str("a save\n")?;
-        }
-        script.push_str("a write\n")?;
-    }
-    script.push_str("a write\na commit\n")?;
-    Ok(script)
+fn many_subtransactions(rt: &(impl Abort + AllocGlobal)) -> String {
+    let alloc = rt.alloc();
+    let saves = "a save\n".repeat(alloc, 1000).expect(rt, "memory");
+    let one = format!(in alloc; "a begin\n{saves}a write\n").expect(rt, "memory");
+    let committed = format!(in alloc; "{one}a commit\n").expect(rt, "memory");
+    let before = committed.repeat(alloc, 32).expect(rt, "memory");
+    format!(in alloc; ".banks 1\n{before}{one}a write\na commit\n").expect(rt, "memory")
 }
 
 /// A page of pg_subtrans has the parents of 2,048 ids, so that of 32,768 is the seventeenth, and one that was changed must
 /// be written for it. Two calls pass at the opening, and one reads the first page. The write keeps the ids that it gave,
 /// and the commit names them.
 #[test]
-fn a_fault_of_pg_subtrans_stops_a_write_halfway(rt: HostRuntime) -> Result<(), Fail> {
-    let script = many_subtransactions(rt.alloc())?;
-    let (status, report) = run_fused(&rt, "run", script.as_str(), Which::Subtrans(0), 3, 1)?;
-    assert_eq!(rt; status, 0);
-    for part in [
-        "
+fn a_fault_of_pg_subtrans_stops_a_write_halfway(rt: HostRuntime) {
+    let script = many_subtransactions(&rt);
+    let (status, report) = run_fused(&rt, "run", script.as_str(), Which::Subtrans(0), 3, 1);
+    assert!(rt; status == 0);
+    assert!(rt;
+        report.contains(
+            "
 a 33098 write -> disk-fault subtrans 0
 a 33099 write -> disk-fault subtrans 0
 a 33100 commit -> ok
 history
-",
-        "
+"
+        )
+    );
+    assert!(rt;
+        report.contains(
+            "
 sub a 33098 32765 32766
 sub a 33098 32766 32767
 commit a 33100 32035
 multis
-log flushed 34 end ",
-    ] {
-        assert!(rt; report.contains(part), "{part}");
-    }
-    Ok(())
+log flushed 34 end "
+        )
+    );
 }

@@ -1,7 +1,6 @@
 //! Runs over devices that fail: one volume passes so many calls, and then fails each. Opening a life makes eight calls on
 //! the log's volume, and each flush four.
 use crate::run_help::check_rows;
-use std::test::Fail;
 
 const ROWS: &str = "=== a_life_is_not_opened_over_a_log_that_fails
 a begin
@@ -268,6 +267,6 @@ commands 15 ids 4 undone 2 commits 1 aborts 0 snaps 1 sees 1
 ";
 
 #[test]
-fn devices_that_fail(rt: HostRuntime) -> Result<(), Fail> {
-    check_rows(&rt, ROWS)
+fn devices_that_fail(rt: HostRuntime) {
+    check_rows(&rt, ROWS);
 }

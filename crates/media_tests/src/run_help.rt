@@ -5,31 +5,16 @@ use disk_fuse::Fuse;
 use engine_parts::OpenGate;
 use script_rounds::RoundThreads;
 use session_run::run_tool;
-use std::alloc::{AllocGlobal, Global};
+use std::alloc::AllocGlobal;
 use std::process::Abort;
 use std::str::SplitWhitespace;
 use std::sync::Wait;
-use std::test::Fail;
 use std::thread::Threads;
 use std::{fs, io};
 use tx_io::{MemSink, MemSource};
 
-/// The tool over a new media in memory, without its contract, so that a test proves no more than that it is safe.
-fn status_new(
-    rt: &(impl AllocGlobal + Threads + Wait + Sync),
-    words: &[String],
-    source: &mut MemSource,
-    sink: &mut MemSink,
-    threads: RoundThreads,
-) -> u8 {
-    let alloc = rt.alloc();
-    let mut media = MemMedia::new(alloc);
-    run_tool(
-        rt, alloc, words, source, sink, &mut media, threads, &OpenGate,
-    )
-}
-
-/// The same over a new media of which this volume passes so many calls.
+/// The tool over a new media of which this volume passes so many calls, without its contract, so that a test proves no more
+/// than that it is safe.
 fn status_fused(
     rt: &(impl AllocGlobal + Threads + Wait + Sync),
     words: &[String],
@@ -64,119 +49,115 @@ fn status_in(
     )
 }
 
-fn words_of(alloc: Global, words: &str) -> Result<Vec<String>, Fail> {
-    let mut all = Vec::new(alloc);
-    for word in words.split_whitespace() {
-        all.push(String::from_str(alloc, word)?)?;
-    }
-    Ok(all)
+pub fn text_from(rt: &(impl Abort + AllocGlobal), text: &str) -> String {
+    String::from_str(rt.alloc(), text).expect(rt, "memory")
 }
 
-fn source_of(alloc: Global, script: &str) -> Result<MemSource, Fail> {
-    let bytes = Vec::from_slice(alloc, script.as_bytes())?;
-    Ok(MemSource::new(bytes, Vec::new(alloc)))
+pub fn source_of(rt: &(impl Abort + AllocGlobal), script: &str) -> MemSource {
+    let bytes = Vec::from_slice(rt.alloc(), script.as_bytes()).expect(rt, "memory");
+    MemSource::new(bytes, Vec::new(rt.alloc()))
 }
 
-fn new_sink(alloc: Global) -> Result<MemSink, Fail> {
-    Ok(MemSink::new(alloc, 4_000_000, Vec::new(alloc))?)
+pub fn sink_of(rt: &(impl Abort + AllocGlobal), room: u64) -> MemSink {
+    let alloc = rt.alloc();
+    MemSink::new(alloc, room, Vec::new(alloc)).expect(rt, "memory")
 }
 
 /// What was written, as text.
-fn written_to(alloc: Global, sink: &MemSink) -> Result<String, Fail> {
-    let held = Vec::from_slice(alloc, sink.held())?;
-    Ok(String::from_utf8(held).ok().ok_or("no text was written")?)
+pub fn written_to(rt: &(impl Abort + AllocGlobal), sink: &MemSink) -> String {
+    let held = Vec::from_slice(rt.alloc(), sink.held()).expect(rt, "memory");
+    String::from_utf8(held).ok().expect(rt, "text is written")
 }
 
-/// Runs a script over a new media in memory, the sessions of a round on at most so many threads. Answers the status and
-/// what was written.
-pub fn run_new(
-    rt: &(impl AllocGlobal + Threads + Wait + Sync),
-    script: &str,
-    threads: usize,
-) -> Result<(u8, String), Fail> {
-    let alloc = rt.alloc();
-    let words = words_of(alloc, "run")?;
-    let mut source = source_of(alloc, script)?;
-    let mut sink = new_sink(alloc)?;
-    let threads = RoundThreads::AtMost(threads);
-    let status = status_new(rt, words.as_slice(), &mut source, &mut sink, threads);
-    Ok((status, written_to(alloc, &sink)?))
-}
-
-/// Runs the tool with these words over a media of which this volume passes so many calls.
+/// Runs the tool with these words over a media of which this volume passes so many calls, the sessions of a round on at most
+/// so many threads. Answers the status and what was written.
 pub fn run_fused(
-    rt: &(impl AllocGlobal + Threads + Wait + Sync),
+    rt: &(impl Abort + AllocGlobal + Threads + Wait + Sync),
     words: &str,
     script: &str,
     at: Which,
     passes: u64,
     threads: usize,
-) -> Result<(u8, String), Fail> {
-    let alloc = rt.alloc();
-    let words = words_of(alloc, words)?;
-    let mut source = source_of(alloc, script)?;
-    let mut sink = new_sink(alloc)?;
+) -> (u8, String) {
+    let mut all = Vec::new(rt.alloc());
+    for word in words.split_whitespace() {
+        all.push(text_from(rt, word)).expect(rt, "memory");
+    }
+    let mut source = source_of(rt, script);
+    let mut sink = sink_of(rt, 4_000_000);
     let threads = RoundThreads::AtMost(threads);
-    let words = words.as_slice();
+    let words = all.as_slice();
     let status = status_fused(rt, words, &mut source, &mut sink, at, passes, threads);
-    Ok((status, written_to(alloc, &sink)?))
+    (status, written_to(rt, &sink))
+}
+
+/// Runs a script over a media that fails no call: a fuse that passes more than there are.
+pub fn run_new(
+    rt: &(impl Abort + AllocGlobal + Threads + Wait + Sync),
+    script: &str,
+    threads: usize,
+) -> (u8, String) {
+    run_fused(rt, "run", script, Which::Log, u64::MAX, threads)
 }
 
 /// Runs a script over a folder, by a media of its own.
 pub fn run_in(
-    rt: &(impl AllocGlobal + Threads + Wait + Sync),
+    rt: &(impl Abort + AllocGlobal + Threads + Wait + Sync),
     files: HostRuntime,
     folder: &str,
     script: &str,
-) -> Result<(u8, String), Fail> {
-    let alloc = rt.alloc();
-    let words = words_of(alloc, "run")?;
-    let mut source = source_of(alloc, script)?;
-    let mut sink = new_sink(alloc)?;
+) -> (u8, String) {
+    let words = [text_from(rt, "run")];
+    let mut source = source_of(rt, script);
+    let mut sink = sink_of(rt, 4_000_000);
     let threads = RoundThreads::AtMost(2);
-    let folder = String::from_str(alloc, folder)?;
-    let words = words.as_slice();
-    let status = status_in(rt, files, folder, words, &mut source, &mut sink, threads);
-    Ok((status, written_to(alloc, &sink)?))
+    let folder = text_from(rt, folder);
+    let status = status_in(rt, files, folder, &words, &mut source, &mut sink, threads);
+    (status, written_to(rt, &sink))
 }
 
 /// Takes away a folder that an earlier run of a test left.
-pub fn clear(rt: &HostRuntime, path: &str) -> io::Result<()> {
-    match fs::remove_dir_all(rt, path) {
-        Err(error) if error.kind() != io::ErrorKind::NotFound => Err(error),
-        _ => Ok(()),
-    }
+pub fn clear(rt: &impl Abort, files: &HostRuntime, path: &str) {
+    let is_gone = match fs::remove_dir_all(files, path) {
+        Err(error) => error.kind() == io::ErrorKind::NotFound,
+        Ok(()) => true,
+    };
+    assert!(rt; is_gone, "{path} stands");
 }
 
-/// Makes a folder of one bank with this log, and no pages.
-fn make(files: &HostRuntime, folder: &str, log: &[u8]) -> Result<(), Fail> {
-    let alloc: Global = files.alloc();
-    clear(files, folder)?;
-    fs::create_dir(files, folder)?;
-    fs::write(files, format!(in alloc; "{folder}/log")?.as_str(), log)?;
-    fs::write(
-        files,
-        format!(in alloc; "{folder}/start")?.as_str(),
-        [0; 8].as_slice(),
-    )?;
-    let banks = [1, 0, 0, 0, 0, 0, 0, 0];
-    fs::write(
-        files,
-        format!(in alloc; "{folder}/banks")?.as_str(),
-        banks.as_slice(),
-    )?;
-    Ok(())
+/// Writes a file of a folder.
+fn write(
+    rt: &(impl Abort + AllocGlobal),
+    files: &HostRuntime,
+    folder: &str,
+    name: &str,
+    bytes: &[u8],
+) {
+    let path = format!(in rt.alloc(); "{folder}/{name}").expect(rt, "memory");
+    let written = fs::write(files, path.as_str(), bytes);
+    assert!(rt; written.is_ok(), "{path} can't be written");
 }
 
-/// Runs a script over a folder with this log.
+/// Runs a script over a folder of one bank with this log, and no pages.
 pub fn run_behind(
-    rt: &(impl AllocGlobal + Threads + Wait + Sync),
+    rt: &(impl Abort + AllocGlobal + Threads + Wait + Sync),
     files: HostRuntime,
     folder: &str,
     log: &[u8],
     script: &str,
-) -> Result<(u8, String), Fail> {
-    make(&files, folder, log)?;
+) -> (u8, String) {
+    clear(rt, &files, folder);
+    let made = fs::create_dir(&files, folder);
+    assert!(rt; made.is_ok(), "{folder} can't be made");
+    write(rt, &files, folder, "log", log);
+    write(rt, &files, folder, "start", [0; 8].as_slice());
+    write(
+        rt,
+        &files,
+        folder,
+        "banks",
+        [1, 0, 0, 0, 0, 0, 0, 0].as_slice(),
+    );
     run_in(rt, files, folder, script)
 }
 
@@ -192,17 +173,20 @@ struct Fused<'a> {
 /// Runs the row's script over its volume with so many calls. Answers the status and what was written. The line `gen ..` in
 /// the place of a script stands for these words.
 fn run_row(
-    rt: &(impl AllocGlobal + Threads + Wait + Sync),
+    rt: &(impl Abort + AllocGlobal + Threads + Wait + Sync),
     row: &Fused<'_>,
     passes: u64,
     how: &str,
-) -> Result<(u8, String), Fail> {
+) -> (u8, String) {
     let words = if row.script.starts_with("gen ") {
         row.script
     } else {
         "run"
     };
-    let script = row.script.replace(rt.alloc(), "HOW", how)?;
+    let script = row
+        .script
+        .replace(rt.alloc(), "HOW", how)
+        .expect(rt, "memory");
     run_fused(rt, words, script.as_str(), row.at, passes, 1)
 }
 
@@ -215,31 +199,29 @@ fn has_lines(text: &str, lines: &str) -> bool {
 }
 
 /// So many texts of the row on.
-fn text_at<'a>(row: &Fused<'a>, place: usize) -> Result<&'a str, Fail> {
-    Ok(row.texts.split("+++\n").nth(place).ok_or("another text")?)
+fn text_at<'a>(row: &Fused<'a>, place: usize) -> &'a str {
+    row.texts
+        .split("+++\n")
+        .nth(place)
+        .unwrap_or("no further text")
 }
 
 /// The volume passes ever more calls. What the first runs write has the first of the texts, what the next ones write the
 /// next, and so on. The first text is that of runs in which no life is opened.
-fn check_ways(
-    rt: &(impl Abort + AllocGlobal + Threads + Wait + Sync),
-    row: &Fused<'_>,
-    most: u64,
-) -> Result<(), Fail> {
+fn check_ways(rt: &(impl Abort + AllocGlobal + Threads + Wait + Sync), row: &Fused<'_>, most: u64) {
     let name = row.name;
     let mut next = 0usize;
     for passes in 0..most {
-        let (status, written) = run_row(rt, row, passes, "")?;
-        if !has_lines(written.as_str(), text_at(row, next)?) {
+        let (status, written) = run_row(rt, row, passes, "");
+        if !has_lines(written.as_str(), text_at(row, next)) {
             next = next.saturating_add(1);
         }
         let status_wanted = if next > 0 { 0 } else { 5 };
-        let holds = has_lines(written.as_str(), text_at(row, next)?) && status == status_wanted;
+        let holds = has_lines(written.as_str(), text_at(row, next)) && status == status_wanted;
         assert!(rt; holds, "{name}: {passes} calls: {written}");
     }
     let others = row.texts.split("+++\n").nth(next.saturating_add(1));
     assert!(rt; others.is_none(), "{name}");
-    Ok(())
 }
 
 /// Whether what was written is the text, or has each of the texts.
@@ -261,39 +243,41 @@ fn check_calls(
     rt: &(impl Abort + AllocGlobal + Threads + Wait + Sync),
     row: &Fused<'_>,
     words: &mut SplitWhitespace<'_>,
-) -> Result<(), Fail> {
+) {
     let name = row.name;
-    let first = next_number(words)?;
-    let last = next_number(words)?;
-    let status_wanted = next_number(words)?;
+    let first = next_number(rt, words);
+    let last = next_number(rt, words);
+    let status_wanted = next_number(rt, words);
     let is_whole = words.next() == Some("report");
     for how in words {
         for passes in first..=last {
-            let (status, written) = run_row(rt, row, passes, how)?;
+            let (status, written) = run_row(rt, row, passes, how);
             let is_well = u64::from(status) == status_wanted
                 && holds(written.as_str(), is_whole, row.texts);
             assert!(rt; is_well, "{name}: {passes} calls, {how}: {written}");
         }
     }
-    Ok(())
 }
 
-fn next_number(words: &mut SplitWhitespace<'_>) -> Result<u64, Fail> {
-    let word = words.next().ok_or("a number is missing")?;
-    Ok(word.parse::<u64>().ok().ok_or("no number")?)
+/// The number that the next word writes.
+pub fn next_number(rt: &impl Abort, words: &mut SplitWhitespace<'_>) -> u64 {
+    let word = words.next().unwrap_or("");
+    word.parse::<u64>().ok().expect(rt, "a number")
 }
 
 /// The volume that the next two words name.
-fn next_volume(words: &mut SplitWhitespace<'_>) -> Result<Which, Fail> {
-    let store = words.next().ok_or("no store")?;
-    let bank = u32::try_from(next_number(words)?).ok().ok_or("no bank")?;
+pub fn next_volume(rt: &impl Abort, words: &mut SplitWhitespace<'_>) -> Which {
+    let store = words.next().unwrap_or("");
+    let bank = u32::try_from(next_number(rt, words))
+        .ok()
+        .expect(rt, "a bank");
     match store {
-        "log" => Ok(Which::Log),
-        "xact" => Ok(Which::Xact(bank)),
-        "subtrans" => Ok(Which::Subtrans(bank)),
-        "offsets" => Ok(Which::Offsets(bank)),
-        "members" => Ok(Which::Members(bank)),
-        _ => Err("another store".into()),
+        "log" => Which::Log,
+        "xact" => Which::Xact(bank),
+        "subtrans" => Which::Subtrans(bank),
+        "offsets" => Which::Offsets(bank),
+        "members" => Which::Members(bank),
+        _ => panic!(rt; "another store"),
     }
 }
 
@@ -303,25 +287,22 @@ fn check_part(
     name: &str,
     script: &str,
     part: &str,
-) -> Result<(), Fail> {
-    let (front, texts) = part.split_once("\n").ok_or("a part without a text")?;
-    let mut words = front.split_whitespace();
-    let goes_on = front.starts_with("ways ");
-    if goes_on {
-        words.next();
-    }
-    let at = next_volume(&mut words)?;
+) {
+    let (front, texts) = part.split_once("\n").expect(rt, "a part with a text");
+    let volume = front.strip_prefix("ways ");
+    let mut words = volume.unwrap_or(front).split_whitespace();
+    let at = next_volume(rt, &mut words);
     let row = Fused {
         name,
         script,
         at,
         texts,
     };
-    if goes_on {
-        let most = next_number(&mut words)?;
-        check_ways(rt, &row, most)
+    if volume.is_some() {
+        let most = next_number(rt, &mut words);
+        check_ways(rt, &row, most);
     } else {
-        check_calls(rt, &row, &mut words)
+        check_calls(rt, &row, &mut words);
     }
 }
 
@@ -330,18 +311,14 @@ fn check_part(
 /// passes FIRST to LAST calls, with each kind of crash for the word HOW of the script, the run ends with this status, and
 /// the text is all that it writes; with the word `part` in the place of `report` each text has lines that stand in it. Or it
 /// begins with `--- ways STORE BANK MOST`: over the volume, which passes fewer than MOST calls, one text after the other.
-pub fn check_rows(
-    rt: &(impl Abort + AllocGlobal + Threads + Wait + Sync),
-    rows: &str,
-) -> Result<(), Fail> {
+pub fn check_rows(rt: &(impl Abort + AllocGlobal + Threads + Wait + Sync), rows: &str) {
     for row in rows.split("=== ") {
         let Some((front, parts)) = row.split_once("--- ") else {
             continue;
         };
-        let (name, script) = front.split_once("\n").ok_or("a row without a name")?;
+        let (name, script) = front.split_once("\n").expect(rt, "a row with a name");
         for part in parts.split("--- ") {
-            check_part(rt, name, script, part)?;
+            check_part(rt, name, script, part);
         }
     }
-    Ok(())
 }

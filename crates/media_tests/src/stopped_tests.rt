@@ -1,6 +1,5 @@
 //! Commits that are stopped at any call of any volume and gone on with, also over pages that left their buffers.
 use crate::once_help::{check_rows, check_whole};
-use std::test::Fail;
 
 const ROWS: &str = "=== a_commit_whose_page_left_its_buffer_is_gone_on_with
 # A bank has sixteen buffers, so the seventeen looks push the page of both ids out. Each call of each volume is failed once.
@@ -346,16 +345,16 @@ b 3 see t 1048576 -> disk-fault xact 0
 ";
 
 #[test]
-fn commits_that_are_stopped_at_each_call(rt: HostRuntime) -> Result<(), Fail> {
-    check_rows(&rt, ROWS)
+fn commits_that_are_stopped_at_each_call(rt: HostRuntime) {
+    check_rows(&rt, ROWS);
 }
 
 /// Behind a fault of any volume at any call, once or from there on, either both ids have committed or none, and both where the
 /// commit was answered `ok`.
 #[test]
-fn a_transaction_is_whole_behind_any_fault(rt: HostRuntime) -> Result<(), Fail> {
-    let (front, _) = ROWS.split_once("--- report\n").ok_or("no report")?;
-    let (_, script) = front.split_once("\n").ok_or("no script")?;
+fn a_transaction_is_whole_behind_any_fault(rt: HostRuntime) {
+    let (front, _) = ROWS.split_once("--- report\n").expect(&rt, "a report");
+    let (_, script) = front.split_once("\n").expect(&rt, "a script");
     let asked = ["b 2 see t 1048570 -> ", "b 3 see t 1048571 -> "];
-    check_whole(&rt, script, asked, 40)
+    check_whole(&rt, script, asked, 40);
 }

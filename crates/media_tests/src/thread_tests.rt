@@ -2,11 +2,8 @@
 //! order, each once.
 use crate::run_help::{run_fused, run_new};
 use disk_core::Which;
-use std::alloc::{AllocGlobal, Global};
+use std::alloc::AllocGlobal;
 use std::process::Abort;
-use std::sync::Wait;
-use std::test::Fail;
-use std::thread::Threads;
 
 const SESSIONS: usize = 64;
 
@@ -29,67 +26,65 @@ const LINES: [&str; 10] = [
     "10 drop s -> ok",
 ];
 
-/// The events of its commands, each with the number of the command.
-const EVENTS: [&str; 7] = [
-    "id 2", "sub 4", "undo 5", "sub 7", "commit 8", "snap 9", "drop 10",
+/// The events of its commands: their kinds, and the commands' numbers.
+const EVENTS: [(&str, &str); 7] = [
+    ("id", "2 "),
+    ("sub", "4 "),
+    ("undo", "5 "),
+    ("sub", "7 "),
+    ("commit", "8 "),
+    ("snap", "9 "),
+    ("drop", "10 "),
 ];
 
 /// One round of all sessions, command by command.
-fn one_round(alloc: Global, commands: &[&str]) -> Result<String, Fail> {
-    let mut script = String::new(alloc);
+fn one_round(rt: &(impl Abort + AllocGlobal), commands: &[&str]) -> String {
+    let mut script = String::new(rt.alloc());
     for command in commands {
         for session in 0..SESSIONS {
-            let line = format!(in alloc; "s{session} {command}\n")?;
-            script.push_str(line.as_str())?;
+            let line = format!(in rt.alloc(); "s{session} {command}\n").expect(rt, "memory");
+            script.push_str(line.as_str()).expect(rt, "memory");
         }
     }
-    Ok(script)
+    script
 }
 
 /// What stands in a text between two others.
-fn between<'a>(text: &'a str, first: &str, past: &str) -> Result<&'a str, Fail> {
-    let (_, behind) = text.split_once(first).ok_or("a line is missing")?;
-    let (found, _) = behind.split_once(past).ok_or("a line is missing")?;
-    Ok(found)
+fn between<'a>(rt: &impl Abort, text: &'a str, first: &str, past: &str) -> &'a str {
+    let (_, behind) = text.split_once(first).expect(rt, "the first text");
+    let (found, _) = behind.split_once(past).expect(rt, "the text behind");
+    found
 }
 
 /// The lines are those of the sessions, one session after another, and each command is answered `ok`.
-fn check_lines(rt: &(impl Abort + AllocGlobal), lines: &str) -> Result<(), Fail> {
+fn check_lines(rt: &(impl Abort + AllocGlobal), lines: &str) {
     let mut lines = lines.lines();
     for session in 0..SESSIONS {
         for line in LINES {
-            let wanted = format!(in rt.alloc(); "s{session} {line}")?;
-            let found = lines.next().ok_or("a line is missing")?;
+            let wanted = format!(in rt.alloc(); "s{session} {line}").expect(rt, "memory");
+            let found = lines.next().unwrap_or("");
             assert!(rt; found.starts_with(wanted.as_str()), "{found}");
         }
     }
-    assert_eq!(rt; lines.next(), None);
-    Ok(())
-}
-
-/// The session that an event's line names, and the kind of the event with the number of its command.
-fn event_of(alloc: Global, line: &str) -> Result<(usize, String), Fail> {
-    let mut words = line.split_whitespace();
-    let kind = words.next().ok_or("an empty line")?;
-    let session = words.next().ok_or("no session")?;
-    let number = words.next().ok_or("no number")?;
-    let session = session.strip_prefix("s").ok_or("another session")?;
-    let session = session.parse::<usize>().ok().ok_or("another session")?;
-    Ok((session, format!(in alloc; "{kind} {number}")?))
+    assert!(rt; lines.next().is_none());
 }
 
 /// The events are those of the sessions' commands, each once and in its session's order.
-fn check_history(rt: &(impl Abort + AllocGlobal), history: &str) -> Result<(), Fail> {
-    let mut told = [0usize; SESSIONS];
-    for line in history.lines() {
-        let (session, event) = event_of(rt.alloc(), line)?;
-        let count = told.get_mut(session).ok_or("another session")?;
-        let wanted = EVENTS.get(*count).ok_or("too many events")?;
-        assert_eq!(rt; event.as_str(), *wanted, "{line}");
-        *count = count.saturating_add(1);
+fn check_history(rt: &(impl Abort + AllocGlobal), history: &str) {
+    assert!(rt; history.lines().count() == SESSIONS * EVENTS.len());
+    for session in 0..SESSIONS {
+        let name = format!(in rt.alloc(); " s{session} ").expect(rt, "memory");
+        let mut count = 0usize;
+        for line in history.lines() {
+            let Some((kind, rest)) = line.split_once(name.as_str()) else {
+                continue;
+            };
+            let (wanted, number) = EVENTS.get(count).expect(rt, "an event too many");
+            assert!(rt; kind == *wanted && rest.starts_with(*number), "{line}");
+            count = count.saturating_add(1);
+        }
+        assert!(rt; count == EVENTS.len(), "{name}");
     }
-    assert_eq!(rt; told, [EVENTS.len(); SESSIONS]);
-    Ok(())
 }
 
 /// How many lines begin so and end so.
@@ -104,40 +99,35 @@ fn count_lines(text: &str, begin: &str, end: &str) -> usize {
 }
 
 /// The round, and behind it a snapshot of the first session and a look at each id of the round.
-fn round_and_looks(alloc: Global) -> Result<String, Fail> {
-    let mut script = one_round(alloc, &COMMANDS)?;
-    script.push_str(".round\ns0 snap t\n")?;
+fn round_and_looks(rt: &(impl Abort + AllocGlobal)) -> String {
+    let mut script = one_round(rt, &COMMANDS);
+    script.push_str(".round\ns0 snap t\n").expect(rt, "memory");
     for id in 3..195u32 {
-        let look = format!(in alloc; "s0 see t {id}\n")?;
-        script.push_str(look.as_str())?;
+        let look = format!(in rt.alloc(); "s0 see t {id}\n").expect(rt, "memory");
+        script.push_str(look.as_str()).expect(rt, "memory");
     }
-    Ok(script)
+    script
 }
+
+/// What the second round writes first.
+const SNAP: &str = "s0 11 snap t -> ok xmin 195 xmax 195 xip - sub - overflow no\n";
 
 /// Each session was given three ids, of which one was undone.
 #[test]
-fn threads_tell_each_session_once_and_in_order(rt: HostRuntime) -> Result<(), Fail> {
-    let script = round_and_looks(rt.alloc())?;
+fn threads_tell_each_session_once_and_in_order(rt: HostRuntime) {
+    let script = round_and_looks(&rt);
     for threads in [1, 4, 64] {
-        let (status, report) = run_new(&rt, script.as_str(), threads)?;
-        assert_eq!(rt; status, 0);
-        check_lines(&rt, between(report.as_str(), "\nround 1\n", "round 2\n")?)?;
-        check_history(
-            &rt,
-            between(
-                report.as_str(),
-                "\nhistory\n",
-                "snap s0 11 t\nmultis\nlog flushed 65 end ",
-            )?,
-        )?;
-        let looks = between(report.as_str(), "\nround 2\n", "history\n")?;
-        assert!(rt;
-            looks.starts_with("s0 11 snap t -> ok xmin 195 xmax 195 xip - sub - overflow no\n")
-        );
-        assert_eq!(rt; count_lines(looks, "s0 ", "-> visible"), 128);
-        assert_eq!(rt; count_lines(looks, "s0 ", "-> hidden"), 64);
+        let (status, report) = run_new(&rt, script.as_str(), threads);
+        assert!(rt; status == 0);
+        let report = report.as_str();
+        check_lines(&rt, between(&rt, report, "\nround 1\n", "round 2\n"));
+        let end = "snap s0 11 t\nmultis\nlog flushed 65 end ";
+        check_history(&rt, between(&rt, report, "\nhistory\n", end));
+        let looks = between(&rt, report, "\nround 2\n", "history\n");
+        assert!(rt; looks.starts_with(SNAP));
+        assert!(rt; count_lines(looks, "s0 ", "-> visible") == 128);
+        assert!(rt; count_lines(looks, "s0 ", "-> hidden") == 64);
     }
-    Ok(())
 }
 
 /// A round in which the log's volume fails while many commit.
@@ -147,26 +137,25 @@ const COMMITS: [&str; 8] = [
 
 /// One commit is told the fault, and the others that were too late that the log is down from the flushed number on. Those
 /// that were done are the flushed records behind the checkpoint.
+fn check_fault(rt: &(impl Abort + AllocGlobal), report: &str) {
+    let number = between(rt, report, "\nlog flushed ", " end ");
+    let flushed = number.parse::<usize>().ok().expect(rt, "a number");
+    let down = format!(in rt.alloc(); " 3 commit -> log-down {flushed}").expect(rt, "memory");
+    let done = count_lines(report, "s", " 3 commit -> ok");
+    let late = count_lines(report, "s", down.as_str());
+    assert!(rt; count_lines(report, "s", " 3 commit -> log-fault") == 1);
+    assert!(rt; done.saturating_add(1) == flushed);
+    assert!(rt; done.saturating_add(late).saturating_add(1) == SESSIONS);
+    let history = between(rt, report, "\nhistory\n", "\nmultis\n");
+    assert!(rt; count_lines(history, "commit ", "") == done);
+}
+
 #[test]
-fn one_thread_is_told_the_fault_of_the_log(rt: HostRuntime) -> Result<(), Fail> {
-    let alloc = rt.alloc();
-    let script = one_round(alloc, &COMMITS)?;
+fn one_thread_is_told_the_fault_of_the_log(rt: HostRuntime) {
+    let script = one_round(&rt, &COMMITS);
     for passes in 8..30 {
-        let (status, report) = run_fused(&rt, "run", script.as_str(), Which::Log, passes, 8)?;
-        assert_eq!(rt; status, 0);
-        let flushed = between(report.as_str(), "\nlog flushed ", " end ")?;
-        let flushed = flushed.parse::<usize>().ok().ok_or("no number")?;
-        let down = format!(in alloc; " 3 commit -> log-down {flushed}")?;
-        let done = count_lines(report.as_str(), "s", " 3 commit -> ok");
-        let late = count_lines(report.as_str(), "s", down.as_str());
-        assert_eq!(rt;
-            count_lines(report.as_str(), "s", " 3 commit -> log-fault"),
-            1
-        );
-        assert_eq!(rt; done.saturating_add(1), flushed);
-        assert_eq!(rt; done.saturating_add(late).saturating_add(1), SESSIONS);
-        let history = between(report.as_str(), "\nhistory\n", "\nmultis\n")?;
-        assert_eq!(rt; count_lines(history, "commit ", ""), done);
+        let (status, report) = run_fused(&rt, "run", script.as_str(), Which::Log, passes, 8);
+        assert!(rt; status == 0);
+        check_fault(&rt, report.as_str());
     }
-    Ok(())
 }

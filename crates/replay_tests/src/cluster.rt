@@ -2,32 +2,33 @@
 use disk_core::{LogDisk, PageDisk, Volumes};
 use replay_core::{FoundLog, RecoverRefusal, Recovered, find_log, recover};
 use slru_bank::{SlruBank, State, set_states, state};
-use std::alloc::Global;
-use std::test::Fail;
-use store_pages::XactPages;
+use std::alloc::AllocGlobal;
+use std::process::Abort;
+use store_pages::{PageRule, XactPages};
 use tx_events::{Counters, FullXid, IdList, Rec};
 use wal_core::{Started, WalLog};
 
-pub fn id(number: u64) -> Result<FullXid, Fail> {
-    Ok(FullXid::new(number).ok_or("an id")?)
+pub fn id(rt: &impl Abort, number: u64) -> FullXid {
+    FullXid::new(number).expect(rt, "an id")
 }
 
-pub fn commit(alloc: Global, top: u64, sub: Option<u64>) -> Result<Rec, Fail> {
-    let mut subs = Vec::new(alloc);
-    if let Some(sub) = sub {
-        subs.push(id(sub)?)?;
+/// The commit of an id with these below it.
+pub fn commit(rt: &(impl Abort + AllocGlobal), top: u64, below: &[u64]) -> Rec {
+    let mut subs = IdList::new(rt.alloc());
+    for sub in below {
+        assert!(rt; subs.push(id(rt, *sub)).is_ok());
     }
-    Ok(Rec::Commit {
-        top: id(top)?,
-        subs: IdList::of(subs),
-    })
+    Rec::Commit {
+        top: id(rt, top),
+        subs,
+    }
 }
 
-pub fn abort(alloc: Global, top: u64) -> Result<Rec, Fail> {
-    Ok(Rec::Abort {
-        top: id(top)?,
-        subs: IdList::new(alloc),
-    })
+pub fn abort(rt: &(impl Abort + AllocGlobal), top: u64) -> Rec {
+    Rec::Abort {
+        top: id(rt, top),
+        subs: IdList::new(rt.alloc()),
+    }
 }
 
 pub fn first_checkpoint() -> Rec {
@@ -37,81 +38,81 @@ pub fn first_checkpoint() -> Rec {
     }
 }
 
-// Appends a record that may come next.
-fn add<L: LogDisk>(log: &mut WalLog<L>, rec: &Rec) -> Result<(), Fail> {
-    if !log.may_append(rec) {
-        return Err("the record may not come next".into());
-    }
-    log.append(rec)?;
-    Ok(())
-}
-
 /// A log of these records on its disk, the first so many of them flushed; each of the others is in no batch. The volume.
 pub fn write_log<L: LogDisk + Drop>(
-    alloc: Global,
+    rt: &(impl Abort + AllocGlobal),
     disk: L,
     recs: &[Rec],
     flushed: usize,
-) -> Result<L, Fail> {
-    let Started { mut log, .. } = match WalLog::start(alloc, disk) {
-        Ok(started) => started,
-        Err(_) => return Err("the log was not started".into()),
-    };
-    for rec in recs.iter() {
-        add(&mut log, rec)?;
+) -> L {
+    let started = WalLog::start(rt.alloc(), disk).ok();
+    let Started { mut log, .. } = started.expect(rt, "a log");
+    for rec in recs {
+        assert!(rt; log.may_append(rec));
+        assert!(rt; log.append(rec).is_ok());
         if (log.next() as usize) <= flushed {
-            log.flush()?;
+            assert!(rt; log.flush().is_ok());
         }
     }
-    Ok(log.into_disk())
+    log.into_disk()
+}
+
+/// A bank over this volume.
+pub fn bank_over<P: PageDisk + Drop, O: PageRule>(
+    rt: &(impl Abort + AllocGlobal),
+    disk: P,
+) -> SlruBank<P, O> {
+    SlruBank::<P, O>::new(rt.alloc(), disk, 0, 0)
+        .ok()
+        .expect(rt, "memory")
 }
 
 /// The states of ids in their banks, of which there are two.
 pub fn states_of<P: PageDisk + Drop>(
-    alloc: Global,
+    rt: &(impl Abort + AllocGlobal),
     xact: Vec<P>,
     numbers: [u64; 6],
-) -> Result<[State; 6], Fail> {
+) -> [State; 6] {
     let mut states = [State::InProgress; 6];
     let mut bank = 0;
     for disk in xact {
-        let mut pages = match SlruBank::<P, XactPages>::new(alloc, disk, 0, 0) {
-            Ok(pages) => pages,
-            Err(_) => return Err("no memory".into()),
-        };
+        let mut pages = bank_over::<P, XactPages>(rt, disk);
         for at in 0..6 {
             if numbers[at] / 32768 % 2 == bank {
-                states[at] = state(&mut pages, id(numbers[at])?.low())?;
+                let found = state(&mut pages, id(rt, numbers[at]).low());
+                states[at] = found.ok().expect(rt, "a state");
             }
         }
         bank = 1;
     }
-    Ok(states)
+    states
+}
+
+/// Takes a bank's volume out; `put_back` puts it back.
+pub fn take_out<P>(rt: &impl Abort, disks: &mut Vec<P>, at: usize) -> P {
+    assert!(rt; at < disks.len(), "two banks");
+    disks.remove(at)
+}
+
+/// Puts a bank's volume back.
+pub fn put_back<P: Drop>(rt: &impl Abort, disks: &mut Vec<P>, at: usize, disk: P) {
+    assert!(rt; at <= disks.len(), "two banks");
+    assert!(rt; disks.insert(at, disk).is_ok());
 }
 
 /// Puts a state on a page of its bank's volume.
 pub fn put_state<P: PageDisk + Drop>(
-    alloc: Global,
-    xact: Vec<P>,
+    rt: &(impl Abort + AllocGlobal),
+    xact: &mut Vec<P>,
     number: u64,
     to: State,
-) -> Result<Vec<P>, Fail> {
+) {
     let at = (number / 32768 % 2) as usize;
-    let mut xact = xact;
-    if at >= xact.len() {
-        return Err("two banks".into());
-    }
-    let disk = xact.remove(at);
-    let mut bank = match SlruBank::<P, XactPages>::new(alloc, disk, 0, 0) {
-        Ok(bank) => bank,
-        Err(_) => return Err("no memory".into()),
-    };
-    set_states(&mut bank, &[id(number)?], to)?;
-    bank.flush_all()?;
-    if xact.insert(at, bank.into_disk()).is_err() {
-        return Err("no room".into());
-    }
-    Ok(xact)
+    let disk = take_out(rt, xact, at);
+    let mut bank = bank_over::<P, XactPages>(rt, disk);
+    assert!(rt; set_states(&mut bank, &[id(rt, number)], to).is_ok());
+    assert!(rt; bank.flush_all().is_ok());
+    put_back(rt, xact, at, bank.into_disk());
 }
 
 /// What a recovery of mounted volumes leaves: the volumes, and what was answered.
@@ -123,10 +124,10 @@ pub struct Told<L, P> {
 
 /// Recovers mounted volumes, and gives them all back.
 pub fn recover_mounted<L: LogDisk + Drop, P: PageDisk + Drop>(
-    alloc: Global,
+    rt: &(impl Abort + AllocGlobal),
     volumes: Volumes<L, P>,
-) -> Result<Told<L, P>, Fail> {
-    match recovered(alloc, volumes)? {
+) -> Told<L, P> {
+    match recovered(rt, volumes) {
         Ok(
             Recovered {
                 log,
@@ -137,7 +138,7 @@ pub fn recover_mounted<L: LogDisk + Drop, P: PageDisk + Drop>(
                 from,
                 base,
             },
-        ) => Ok(Told {
+        ) => Told {
             volumes: Volumes {
                 log: log.into_disk(),
                 xact,
@@ -146,19 +147,19 @@ pub fn recover_mounted<L: LogDisk + Drop, P: PageDisk + Drop>(
                 members,
             },
             outcome: Ok((from, base.next.number())),
-        }),
-        Err((volumes, refusal)) => Ok(Told {
+        },
+        Err((volumes, refusal)) => Told {
             volumes,
             outcome: Err(refusal),
-        }),
+        },
     }
 }
 
 /// Recovers a cluster of two banks, of which the log is found first. None is without a record.
 fn recovered<L: LogDisk + Drop, P: PageDisk + Drop>(
-    alloc: Global,
+    rt: &(impl Abort + AllocGlobal),
     volumes: Volumes<L, P>,
-) -> Result<Result<Recovered<L, P>, (Volumes<L, P>, RecoverRefusal)>, Fail> {
+) -> Result<Recovered<L, P>, (Volumes<L, P>, RecoverRefusal)> {
     let Volumes {
         log,
         xact,
@@ -167,11 +168,11 @@ fn recovered<L: LogDisk + Drop, P: PageDisk + Drop>(
         members,
     } = volumes;
     if xact.len() != 2 || subtrans.len() != 2 || offsets.len() != 2 || members.len() != 2 {
-        return Err("two banks".into());
+        panic!(rt; "two banks")
     }
-    match find_log(alloc, log) {
-        Ok(FoundLog::Old(found)) => Ok(recover(alloc, found, xact, subtrans, offsets, members)),
-        Ok(FoundLog::New(_)) => Err("a log without a record".into()),
+    match find_log(rt.alloc(), log) {
+        Ok(FoundLog::Old(found)) => recover(rt.alloc(), found, xact, subtrans, offsets, members),
+        Ok(FoundLog::New(_)) => panic!(rt; "a log without a record"),
         Err((log, refusal)) => {
             let volumes = Volumes {
                 log,
@@ -180,7 +181,7 @@ fn recovered<L: LogDisk + Drop, P: PageDisk + Drop>(
                 offsets,
                 members,
             };
-            Ok(Err((volumes, refusal)))
+            Err((volumes, refusal))
         }
     }
 }

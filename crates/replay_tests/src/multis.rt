@@ -1,134 +1,112 @@
 // The multixacts of a cluster of two banks.
-use crate::cluster::id;
+use crate::cluster::{bank_over, id, put_back, take_out};
 use disk_core::PageDisk;
 use multi_members::{Slot, read_member, write_member};
 use multi_offsets::{offset, set_offset};
-use slru_bank::SlruBank;
-use std::alloc::Global;
-use std::test::Fail;
+use std::alloc::AllocGlobal;
+use std::process::Abort;
 use store_pages::{MemberPages, OffsetPages};
 use tx_events::{FullMulti, Member, MemberList, Mode, MultiId, Rec};
 
 /// A multixact of two members, which hold the row.
 pub fn multi(
-    alloc: Global,
+    rt: &(impl Abort + AllocGlobal),
     number: u64,
     offset: u64,
     first: u64,
     second: u64,
-) -> Result<Rec, Fail> {
-    let mut members = Vec::new(alloc);
-    members.push(Member {
-        id: id(first)?,
+) -> Rec {
+    let mut members = MemberList::new(rt.alloc());
+    let first = Member {
+        id: id(rt, first),
         mode: Mode::Sh,
-    })?;
-    members.push(Member {
-        id: id(second)?,
+    };
+    assert!(rt; members.push(first).is_ok());
+    let second = Member {
+        id: id(rt, second),
         mode: Mode::KeySh,
-    })?;
-    Ok(Rec::Multi {
-        multi: FullMulti::new(number).ok_or("a multixact")?,
+    };
+    assert!(rt; members.push(second).is_ok());
+    Rec::Multi {
+        multi: FullMulti::new(number).expect(rt, "a multixact"),
         offset,
-        members: MemberList::of(members),
-    })
+        members,
+    }
 }
 
 /// Puts an offset on the page of its bank's volume.
 pub fn put_offset<P: PageDisk + Drop>(
-    alloc: Global,
-    offsets: Vec<P>,
+    rt: &(impl Abort + AllocGlobal),
+    offsets: &mut Vec<P>,
     number: u32,
     to: u32,
-) -> Result<Vec<P>, Fail> {
-    let mut offsets = offsets;
+) {
     let at = (number / 2048 % 2) as usize;
-    if at >= offsets.len() {
-        return Err("two banks".into());
-    }
-    let disk = offsets.remove(at);
-    let mut bank = match SlruBank::<P, OffsetPages>::new(alloc, disk, 0, 0) {
-        Ok(bank) => bank,
-        Err(_) => return Err("no memory".into()),
-    };
-    set_offset(&mut bank, MultiId { number }, to)?;
-    bank.flush_all()?;
-    if offsets.insert(at, bank.into_disk()).is_err() {
-        return Err("no room".into());
-    }
-    Ok(offsets)
+    let disk = take_out(rt, offsets, at);
+    let mut bank = bank_over::<P, OffsetPages>(rt, disk);
+    assert!(rt; set_offset(&mut bank, MultiId { number }, to).is_ok());
+    assert!(rt; bank.flush_all().is_ok());
+    put_back(rt, offsets, at, bank.into_disk());
 }
 
 /// Puts a member on the page of its bank's volume.
 pub fn put_member<P: PageDisk + Drop>(
-    alloc: Global,
-    members: Vec<P>,
+    rt: &(impl Abort + AllocGlobal),
+    members: &mut Vec<P>,
     place: u32,
     number: u64,
-) -> Result<Vec<P>, Fail> {
-    let mut members = members;
+) {
     let at = (place / 1636 % 2) as usize;
-    if at >= members.len() {
-        return Err("two banks".into());
-    }
-    let disk = members.remove(at);
-    let mut bank = match SlruBank::<P, MemberPages>::new(alloc, disk, 0, 0) {
-        Ok(bank) => bank,
-        Err(_) => return Err("no memory".into()),
-    };
-    write_member(&mut bank, place, id(number)?.low(), Mode::Sh)?;
-    bank.flush_all()?;
-    if members.insert(at, bank.into_disk()).is_err() {
-        return Err("no room".into());
-    }
-    Ok(members)
+    let disk = take_out(rt, members, at);
+    let mut bank = bank_over::<P, MemberPages>(rt, disk);
+    let written = write_member(&mut bank, place, id(rt, number).low(), Mode::Sh);
+    assert!(rt; written.is_ok());
+    assert!(rt; bank.flush_all().is_ok());
+    put_back(rt, members, at, bank.into_disk());
 }
 
 /// The offsets of multixacts in their banks, of which there are two; 0 for none.
 pub fn offsets_of<P: PageDisk + Drop>(
-    alloc: Global,
+    rt: &(impl Abort + AllocGlobal),
     offsets: Vec<P>,
     numbers: [u32; 3],
-) -> Result<[u32; 3], Fail> {
+) -> [u32; 3] {
     let mut found = [0; 3];
     let mut bank = 0;
     for disk in offsets {
-        let mut pages = match SlruBank::<P, OffsetPages>::new(alloc, disk, 0, 0) {
-            Ok(pages) => pages,
-            Err(_) => return Err("no memory".into()),
-        };
+        let mut pages = bank_over::<P, OffsetPages>(rt, disk);
         for at in 0..3 {
             let number = numbers[at];
             if number / 2048 % 2 == bank {
-                found[at] = offset(&mut pages, MultiId { number })?.unwrap_or(0);
+                let read = offset(&mut pages, MultiId { number }).ok();
+                found[at] = read.expect(rt, "an offset").unwrap_or(0);
             }
         }
         bank = 1;
     }
-    Ok(found)
+    found
 }
 
 /// The ids at these member offsets in their banks, of which there are two; 0 where the slot is unused.
 pub fn members_of<P: PageDisk + Drop>(
-    alloc: Global,
+    rt: &(impl Abort + AllocGlobal),
     members: Vec<P>,
     places: [u32; 4],
-) -> Result<[u32; 4], Fail> {
+) -> [u32; 4] {
     let mut found = [0; 4];
     let mut bank = 0;
     for disk in members {
-        let mut pages = match SlruBank::<P, MemberPages>::new(alloc, disk, 0, 0) {
-            Ok(pages) => pages,
-            Err(_) => return Err("no memory".into()),
-        };
+        let mut pages = bank_over::<P, MemberPages>(rt, disk);
         for at in 0..4 {
             let place = places[at];
             if place / 1636 % 2 == bank {
-                if let Slot::Is { x, .. } = read_member(&mut pages, place)? {
+                let read = read_member(&mut pages, place).ok();
+                if let Slot::Is { x, .. } = read.expect(rt, "a slot") {
                     found[at] = x.number;
                 }
             }
         }
         bank = 1;
     }
-    Ok(found)
+    found
 }

@@ -1,8 +1,8 @@
 // What a log is found to be that is cut off anywhere.
 use disk_core::MemLog;
 use replay_core::{FoundLog, RecoverRefusal, find_log};
-use std::alloc::Global;
-use std::test::Fail;
+use std::alloc::AllocGlobal;
+use std::process::Abort;
 
 // Four batches of a record each, byte by byte: a checkpoint of a new log, the commit of 3, the multixact 1 of 3 and 4 from
 // member offset 1 on, and a checkpoint of what these come to. The last byte is the closed gate behind them.
@@ -22,7 +22,7 @@ const GATES: [u64; 5] = [0, 62, 80, 124, 186];
 const COUNTERS: [(u64, u64, u64); 5] = [(0, 0, 0), (3, 1, 1), (4, 1, 1), (5, 2, 3), (5, 2, 3)];
 
 // What is found of a log.
-#[derive(Clone, Copy, Debug, PartialEq, Eq)]
+#[derive(Clone, Copy, PartialEq)]
 enum Told {
     New,
     // So many records, and the next id, multixact and member offset.
@@ -49,29 +49,26 @@ fn wanted(length: u64) -> Told {
 }
 
 // What is found of these bytes.
-fn found(alloc: Global, bytes: &[u8]) -> Result<Told, Fail> {
-    let mut copy = Vec::new(alloc);
-    copy.extend_from_slice(bytes)?;
-    match find_log(alloc, MemLog::of(alloc, copy)) {
-        Ok(FoundLog::New(_)) => Ok(Told::New),
+fn found(rt: &(impl Abort + AllocGlobal), bytes: &[u8]) -> Told {
+    let copy = Vec::from_slice(rt.alloc(), bytes).expect(rt, "memory");
+    match find_log(rt.alloc(), MemLog::of(rt.alloc(), copy)) {
+        Ok(FoundLog::New(_)) => Told::New,
         Ok(FoundLog::Old(found)) => {
             let base = found.base;
             let counters = (base.next.number(), base.multi.number(), base.offset);
-            Ok(Told::Old(found.recs.items().len() as u64, counters))
+            Told::Old(found.recs.items().len() as u64, counters)
         }
-        Err((_, RecoverRefusal::Damaged { at })) => Ok(Told::Damaged(at)),
-        Err(_) => Err("a fault".into()),
+        Err((_, RecoverRefusal::Damaged { at })) => Told::Damaged(at),
+        Err(_) => panic!(rt; "a fault"),
     }
 }
 
 #[test]
 fn a_log_that_is_cut_anywhere_is_new_or_has_its_whole_batches_or_is_damaged_at_the_cut_one(
     rt: HostRuntime,
-) -> Result<(), Fail> {
-    let alloc = rt.alloc();
+) {
     for length in 0..188 {
-        let told = found(alloc, &LOG[..length])?;
-        assert_eq!(rt; told, wanted(length as u64), "{length}");
+        let told = found(&rt, &LOG[..length]);
+        assert!(rt; told == wanted(length as u64), "{length}");
     }
-    Ok(())
 }

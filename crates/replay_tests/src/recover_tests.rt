@@ -1,5 +1,5 @@
 // What a second life begins with.
-ghost use Rattle.std.specs.Prelude.{IsTrue, OnOk};
+ghost use Rattle.std.specs.Prelude.{IsTrue};
 
 use crate::cluster::{
     Told, abort, commit, first_checkpoint, put_state, recover_mounted, states_of, write_log,
@@ -9,8 +9,8 @@ use disk_core::{Crash, Media, MemMedia, Volumes, Which};
 use disk_fuse::Fuse;
 use replay_core::RecoverRefusal;
 use slru_bank::State;
-use std::alloc::Global;
-use std::test::Fail;
+use std::alloc::AllocGlobal;
+use std::process::Abort;
 
 const HOWS: [Crash; 3] = [Crash::Lost, Crash::Kept, Crash::Torn];
 
@@ -41,32 +41,32 @@ const MEMBERS: [u32; 4] = [3, 5, 0, 0];
 // Records 0 to 3 are on disk, 4 and 5 aren't. On the pages stand two states that no record gives, the offset and a member of
 // the multixact whose record isn't on disk, and an offset and a member that no record gives. The multixact that is on disk
 // stands on no page.
-fn first_life<M: Media>(alloc: Global, media: &mut M) -> Result<(), Fail>
+fn first_life<M: Media>(rt: &(impl Abort + AllocGlobal), media: &mut M)
     requires { IsTrue (M.is_idle media.old) }
-    ensures { OnOk result (IsTrue (M.is_idle media.new)) }
+    ensures { IsTrue (M.is_idle media.new) }
 {
     let Volumes {
         log,
-        xact,
+        mut xact,
         subtrans,
-        offsets,
-        members,
-    } = media.mount(2)?;
+        mut offsets,
+        mut members,
+    } = media.mount(2).ok().expect(rt, "volumes");
     let recs = [
         first_checkpoint(),
-        commit(alloc, 3, Some(5))?,
-        abort(alloc, 4)?,
-        multi(alloc, 1, 1, 3, 5)?,
-        commit(alloc, 6, None)?,
-        multi(alloc, 2, 3, 6, 7)?,
+        commit(rt, 3, &[5]),
+        abort(rt, 4),
+        multi(rt, 1, 1, 3, 5),
+        commit(rt, 6, &[]),
+        multi(rt, 2, 3, 6, 7),
     ];
-    let log = write_log(alloc, log, &recs, 4)?;
-    let xact = put_state(alloc, xact, 7, State::Committed)?;
-    let xact = put_state(alloc, xact, 32768, State::SubCommitted)?;
-    let offsets = put_offset(alloc, offsets, 2, 3)?;
-    let offsets = put_offset(alloc, offsets, 2049, 1636)?;
-    let members = put_member(alloc, members, 3, 6)?;
-    let members = put_member(alloc, members, 1636, 9)?;
+    let log = write_log(rt, log, &recs, 4);
+    put_state(rt, &mut xact, 7, State::Committed);
+    put_state(rt, &mut xact, 32768, State::SubCommitted);
+    put_offset(rt, &mut offsets, 2, 3);
+    put_offset(rt, &mut offsets, 2049, 1636);
+    put_member(rt, &mut members, 3, 6);
+    put_member(rt, &mut members, 1636, 9);
     media.rest(Volumes {
         log,
         xact,
@@ -74,22 +74,24 @@ fn first_life<M: Media>(alloc: Global, media: &mut M) -> Result<(), Fail>
         offsets,
         members,
     });
-    Ok(())
 }
 
-// A recovery, and then a crash. What it answered.
+// What a recovery answers: the checkpoint's number and the next id.
+type Outcome = Result<(u64, u64), RecoverRefusal>;
+
+// A recovery, and then a crash.
 fn recover_and_crash<M: Media>(
-    alloc: Global,
+    rt: &(impl Abort + AllocGlobal),
     media: &mut M,
     how: Crash,
-) -> Result<Result<(u64, u64), RecoverRefusal>, Fail>
+) -> Outcome
     requires { IsTrue (M.is_idle media.old) }
-    ensures { OnOk result (IsTrue (M.is_idle media.new)) }
+    ensures { IsTrue (M.is_idle media.new) }
 {
-    let volumes = media.mount(2)?;
-    let Told { volumes, outcome } = recover_mounted(alloc, volumes)?;
-    media.crash(volumes, how)?;
-    Ok(outcome)
+    let volumes = media.mount(2).ok().expect(rt, "volumes");
+    let Told { volumes, outcome } = recover_mounted(rt, volumes);
+    assert!(rt; media.crash(volumes, how).is_ok());
+    outcome
 }
 
 // What stands behind a recovery.
@@ -101,14 +103,11 @@ struct Seen {
 }
 
 // A recovery, and what stands then.
-fn recover_and_look<M: Media>(
-    alloc: Global,
-    media: &mut M,
-) -> Result<(Result<(u64, u64), RecoverRefusal>, Seen), Fail>
+fn recover_and_look<M: Media>(rt: &(impl Abort + AllocGlobal), media: &mut M) -> (Outcome, Seen)
     requires { IsTrue (M.is_idle media.old) }
 {
-    let volumes = media.mount(2)?;
-    let Told { volumes, outcome } = recover_mounted(alloc, volumes)?;
+    let volumes = media.mount(2).ok().expect(rt, "volumes");
+    let Told { volumes, outcome } = recover_mounted(rt, volumes);
     let Volumes {
         xact,
         offsets,
@@ -116,11 +115,11 @@ fn recover_and_look<M: Media>(
         ..
     } = volumes;
     let seen = Seen {
-        states: states_of(alloc, xact, IDS)?,
-        offsets: offsets_of(alloc, offsets, MULTIS)?,
-        members: members_of(alloc, members, PLACES)?,
+        states: states_of(rt, xact, IDS),
+        offsets: offsets_of(rt, offsets, MULTIS),
+        members: members_of(rt, members, PLACES),
     };
-    Ok((outcome, seen))
+    (outcome, seen)
 }
 
 // Whether that is what was committed and recorded on disk.
@@ -129,91 +128,76 @@ fn is_right(seen: &Seen) -> bool {
 }
 
 #[test]
-fn a_second_life_has_what_is_committed_and_recorded_on_disk_and_nothing_else(
-    rt: HostRuntime,
-) -> Result<(), Fail> {
-    let alloc = rt.alloc();
-    let mut media = MemMedia::new(alloc);
-    first_life(alloc, &mut media)?;
-    let (outcome, seen) = recover_and_look(alloc, &mut media)?;
-    assert_eq!(rt; outcome, Ok((4, 6)));
-    assert!(rt; is_right(&seen));
-    Ok(())
+fn a_second_life_has_what_is_committed_and_recorded_on_disk_and_nothing_else(rt: HostRuntime) {
+    let mut media = MemMedia::new(rt.alloc());
+    first_life(&rt, &mut media);
+    let (outcome, seen) = recover_and_look(&rt, &mut media);
+    assert!(rt; matches!(outcome, Ok((4, 6))) && is_right(&seen));
 }
 
 // Each recovery writes a checkpoint of its own, and finds that of the one before.
 #[test]
-fn a_recovery_after_a_recovery_finds_the_same(rt: HostRuntime) -> Result<(), Fail> {
-    let alloc = rt.alloc();
+fn a_recovery_after_a_recovery_finds_the_same(rt: HostRuntime) {
     for how in HOWS {
-        let mut media = MemMedia::new(alloc);
-        first_life(alloc, &mut media)?;
-        assert_eq!(rt; recover_and_crash(alloc, &mut media, how)?, Ok((4, 6)));
-        assert_eq!(rt; recover_and_crash(alloc, &mut media, how)?, Ok((5, 6)));
-        let (outcome, seen) = recover_and_look(alloc, &mut media)?;
-        assert_eq!(rt; outcome, Ok((6, 6)));
-        assert!(rt; is_right(&seen), "{how:?}");
+        let mut media = MemMedia::new(rt.alloc());
+        first_life(&rt, &mut media);
+        let first = recover_and_crash(&rt, &mut media, how);
+        assert!(rt; matches!(first, Ok((4, 6))), "{how:?}");
+        let second = recover_and_crash(&rt, &mut media, how);
+        assert!(rt; matches!(second, Ok((5, 6))), "{how:?}");
+        let (outcome, seen) = recover_and_look(&rt, &mut media);
+        assert!(rt; matches!(outcome, Ok((6, 6))) && is_right(&seen), "{how:?}");
     }
-    Ok(())
 }
 
-// Over a media whose volume passes so many calls: whether the recovery failed, and whether, after a crash, one that goes
-// through gives the same.
-fn stopped_at(alloc: Global, at: Which, passes: u64, how: Crash) -> Result<(bool, bool), Fail> {
-    let mut media = Fuse::new(alloc, MemMedia::new(alloc), at, passes);
-    first_life(alloc, &mut media)?;
-    let stopped = recover_and_crash(alloc, &mut media, how)?;
-    let (outcome, seen) = recover_and_look(alloc, &mut media)?;
+// Over a media whose volume passes so many calls: whether the recovery failed. After a crash, one that goes through gives the
+// same.
+fn is_stopped_at(rt: &(impl Abort + AllocGlobal), at: Which, passes: u64, how: Crash) -> bool {
+    let mut media = Fuse::new(rt.alloc(), MemMedia::new(rt.alloc()), at, passes);
+    first_life(rt, &mut media);
+    let stopped = recover_and_crash(rt, &mut media, how);
+    let (outcome, seen) = recover_and_look(rt, &mut media);
     let same = matches!(outcome, Ok((4 | 5, 6))) && is_right(&seen);
-    Ok((stopped.is_err(), same))
+    assert!(rt;
+        same,
+        "{at:?} {passes} {how:?}: a later recovery found something else"
+    );
+    stopped.is_err()
 }
 
 // How many of the recoveries failed over media whose volume passes the calls of the first life, and up to 29 more.
-fn count_stops(alloc: Global, at: Which, first: u64, how: Crash) -> Result<u64, Fail> {
+fn count_stops(rt: &(impl Abort + AllocGlobal), at: Which, first: u64, how: Crash) -> u64 {
     let mut stops = 0u64;
     for more in 0..30 {
-        let passes = first.saturating_add(more);
-        let (stopped, same) = stopped_at(alloc, at, passes, how)?;
-        if !same {
-            return Err("a later recovery found something else".into());
-        }
-        if stopped {
+        if is_stopped_at(rt, at, first.saturating_add(more), how) {
             stops = stops.saturating_add(1);
         }
     }
-    Ok(stops)
+    stops
 }
 
 // The first life makes 20 calls. Then the log is synced, measured and read; the checkpoint takes four calls, and one
 // forgets what stood before it.
 #[test]
-fn a_recovery_that_stops_at_any_call_of_the_log_may_be_made_again(
-    rt: HostRuntime,
-) -> Result<(), Fail> {
-    let alloc = rt.alloc();
+fn a_recovery_that_stops_at_any_call_of_the_log_may_be_made_again(rt: HostRuntime) {
     for how in HOWS {
-        assert_eq!(rt; count_stops(alloc, Which::Log, 20, how)?, 8, "{how:?}");
+        assert!(rt; count_stops(&rt, Which::Log, 20, how) == 8, "{how:?}");
     }
-    Ok(())
 }
 
 // The first life makes three calls of each volume of pg_xact, of offsets and of members, and none of pg_subtrans.
 #[test]
-fn a_recovery_that_stops_at_any_call_of_a_page_volume_may_be_made_again(
-    rt: HostRuntime,
-) -> Result<(), Fail> {
-    let alloc = rt.alloc();
+fn a_recovery_that_stops_at_any_call_of_a_page_volume_may_be_made_again(rt: HostRuntime) {
     for how in HOWS {
         for bank in 0..2 {
-            let states = count_stops(alloc, Which::Xact(bank), 3, how)?;
-            let parents = count_stops(alloc, Which::Subtrans(bank), 0, how)?;
-            let offsets = count_stops(alloc, Which::Offsets(bank), 3, how)?;
-            let members = count_stops(alloc, Which::Members(bank), 3, how)?;
-            assert!(rt;
-                states > 0 && parents > 0 && offsets > 0 && members > 0,
-                "{bank} {how:?}"
-            );
+            for (at, first) in [
+                (Which::Xact(bank), 3),
+                (Which::Subtrans(bank), 0),
+                (Which::Offsets(bank), 3),
+                (Which::Members(bank), 3),
+            ] {
+                assert!(rt; count_stops(&rt, at, first, how) > 0, "{at:?} {how:?}");
+            }
         }
     }
-    Ok(())
 }

@@ -18,10 +18,8 @@ fn ids_warn_and_stop(rt: HostRuntime) {
     ] {
         assert!(rt; id_answer(&rt, number) == Ok(warns), "at {number}");
     }
-    let Err(Refusal::Stop { next, stop }) = id_answer(&rt, 2_144_483_650) else {
-        panic!(rt; "no id may be given at the limit")
-    };
-    assert!(rt; next.number() == 2_144_483_650 && stop.number() == 2_144_483_650);
+    let next = FullXid::new(2_144_483_650).expect(&rt, "an id");
+    assert!(rt; id_answer(&rt, next.number()) == Err(Refusal::Stop { next, stop: next }));
 }
 
 // The same of a multixact, while the oldest one is 1.
@@ -40,8 +38,6 @@ fn multixacts_warn_and_stop(rt: HostRuntime) {
     ] {
         assert!(rt; multi_answer(&rt, number) == Ok(warns), "at {number}");
     }
-    let Err(Refusal::MultiStop { next, stop }) = multi_answer(&rt, 2_144_483_648) else {
-        panic!(rt; "no multixact may be given at the limit")
-    };
-    assert!(rt; next.number() == 2_144_483_648 && stop.number() == 2_144_483_648);
+    let next = FullMulti::new(2_144_483_648).expect(&rt, "a multixact");
+    assert!(rt; multi_answer(&rt, next.number()) == Err(Refusal::MultiStop { next, stop: next }));
 }

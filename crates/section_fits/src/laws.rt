@@ -20,7 +20,7 @@ pub fn moments_follow<P: PageDisk>()
 
 /// At each moment since a bank of pg_xact, of offsets or of members was opened what a crash leaves of its volume follows a
 /// beginning of the bank's list: the list as it was behind some entry, or behind none. So in a life of fewer than 2,900,000
-/// ids, and for the other two of fewer than 2,900,000 multixacts.
+/// ids, and for the other two of fewer than 2,900,000 multixacts that began with counters from which a life may start.
 pub fn course_follows<P: PageDisk, O: PageRule>()
     ensures states { CourseFollows P.PageDisk O.PageRule }
     ensures offsets { OffsetsCourseFollows P.PageDisk O.PageRule }

@@ -4,6 +4,7 @@ mod Letting
 mod Returning
 mod Rounding
 mod Joining
+mod InTurn
 mod Telling
 mod Going
 mod RoundCounts

@@ -120,7 +120,7 @@ module _ {H K L P : Type 0} {l : logs.Ghosts L} {p : disks.Ghosts P} (keep : kee
     known_at i low = (let a = planned_at i low in omega (arith, a, places))
 
     -- each may go through the round
-    pub may_all : MayAdd (length round) start → All (MayGo keep hall first.cluster.banks round plan) sent
+    pub may_all : MayAdd (length round) start → All (MayGo hall first.cluster.banks round plan) sent
     may_all room = λ i m low.
         let n = get_or plan.sessions.items i 0 in
         let d : Session = there start n (known_at i low) in
@@ -138,9 +138,11 @@ module _ {H K L P : Type 0} {l : logs.Ghosts L} {p : disks.Ghosts P} (keep : kee
             may = s.may;
             room = subst (λ k. commands_of x.caller + length (get_or plan.places.items k []) < 2 ^ 48) (sym s.number) (omega (arith, few, count, more, run));
             lines = s.lines;
-            kept = s.kept;
           };
         }
+
+    pub none_kept : All (λ (m : Member K L P l p). m.kept ≡ keep.nothing) sent
+    none_kept = λ i m low. (are.each i (there start (get_or plan.sessions.items i 0) (known_at i low)) m low).kept
 
     -- they ran
     module _ (names : List (List ℕ)) (ran : List (Member K L P l p))
@@ -236,4 +238,7 @@ module _ {H K L P : Type 0} {l : logs.Ghosts L} {p : disks.Ghosts P} (keep : kee
           → kept' ≡ with_members keep kept ran
           → kept' ≡ keep.with_lines names kept (flat_map (λ (t : ℕ × List Line). t.1) (map told_of ran))
       round_kept laws kept kept' sufficed put =
-          put ∙ members_kept keep names laws kept ran (λ i m low. (all.each i m (low_too i low)).kept_is (sufficed i m low))
+          put
+          ∙ members_kept keep names laws kept ran (λ i m low.
+          (all.each i m (low_too i low)).kept_is (sufficed i m low)
+          ∙ ap (λ (z : K). keep.with_lines names z (get_or ran i m).lines) (none_kept i m (low_too i low)))

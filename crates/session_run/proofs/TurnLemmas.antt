@@ -55,18 +55,18 @@ module _ {H K L P : Type 0} {l : logs.Ghosts L} {p : disks.Ghosts P} (keep : kee
     pub may : MayRun hall banks new.caller
     pub number : new.caller.number ≡ old.caller.number
     pub all : map turn_of new.lines ≡ turns_at old.caller.number round (take count places)
-    pub kept_is : new.kept ≡ keep.with_lines names keep.nothing new.lines
+    pub kept_is : new.kept ≡ keep.with_lines names old.kept new.lines
     pub few : commands_of new.caller ≤ commands_of old.caller + count
 
   module _ (hall : Hall H (Part L P l p) Entry Start) (banks : ℕ) (names : List (List ℕ)) (round : List Item)
       (places : List ℕ) (old : Member K L P l p) where
-    pub at_first : (count : ℕ) → Keeps keep names → Begins keep hall banks count old → IsSoFar hall banks names round places 0 old old
+    pub at_first : (count : ℕ) → Keeps keep names → Begins hall banks count old → IsSoFar hall banks names round places 0 old old
     at_first count laws b = record {
       ran = subst (RanLines hall old.caller old.caller) (sym b.lines) refl;
       may = b.may;
       number = refl;
       all = ap (map turn_of) b.lines;
-      kept_is = b.kept ∙ sym (laws.none keep.nothing) ∙ ap (keep.with_lines names keep.nothing) (sym b.lines);
+      kept_is = sym (laws.none old.kept) ∙ ap (keep.with_lines names old.kept) (sym b.lines);
       few = omega arith;
     }
 
@@ -107,7 +107,7 @@ module _ {H K L P : Type 0} {l : logs.Ghosts L} {p : disks.Ghosts P} (keep : kee
               ∙ ap (λ t. front ++ t) (sym own) ∙ sym (turns_at_on n round places count low);
           kept_is =
               r.kept_is ∙ ap (λ t. keep.with_lines names t (r.line ∷ [])) i.kept_is
-              ∙ laws.then keep.nothing now.lines (r.line ∷ []) ∙ ap (keep.with_lines names keep.nothing) (sym r.lines);
+              ∙ laws.then old.kept now.lines (r.line ∷ []) ∙ ap (keep.with_lines names old.kept) (sym r.lines);
           few = (let c = r.ran.ran.count.0 in let f = i.few in omega (arith, c, f));
         }
 

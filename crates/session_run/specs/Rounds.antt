@@ -1,6 +1,6 @@
 -- The sessions of a life between two rounds, and what a round leaves.
 use Rattle.std.specs.Prelude.{◌≡◌, ◌==◌, ℕ, ◌+◌, ◌^◌, ◌<◌, Bool, false, List, [], ◌∷◌, get_or, length, map}
-use Rattle.std.specs.List.{flat_map, list_any}
+use Rattle.std.specs.List.{All, flat_map, list_any}
 use Rattle.disk_core.specs.declared.log_disk.LogDisk as logs
 use Rattle.disk_core.specs.declared.page_disk.PageDisk as disks
 use Rattle.hall.specs.declared.hall.Hall.{Hall}
@@ -140,6 +140,17 @@ module _ {K L P : Type 0} {l : logs.Ghosts L} {p : disks.Ghosts P} (k : keepers.
   abbrev pub with_members : K → List (Member K L P l p) → K
   with_members kept [] = kept
   with_members kept (m ∷ members) = with_members (k.joined kept m.kept) members
+
+module _ {H K L P : Type 0} {l : logs.Ghosts L} {p : disks.Ghosts P} (k : keepers.Ghosts K) where
+  -- The members ran the round, and call as these do. If memory sufficed for these, what they keep behind what is kept now is
+  -- what the members kept behind what was kept first: on one thread it stands there at once, and these keep nothing.
+  pub record HaveRun (hall : Hall H (Part L P l p) Entry Start) (banks : ℕ) (names : List (List ℕ)) (round : List Item)
+      (kept kept' : K) (old new : List (Member K L P l p)) : Type 0 where
+    pub ran : List (Member K L P l p)
+    pub all : AllRan k hall banks names round old ran
+    pub callers : callers_of new ≡ callers_of ran
+    pub sufficed : All (λ m. m.lost ≡ false) new → All (λ m. m.lost ≡ false) ran
+    pub kept_is : All (λ m. m.lost ≡ false) new → with_members k kept' new ≡ with_members k kept ran
 
 -- each session may run so many commands more
 abbrev pub MayAdd : ℕ → List Session → Type 0

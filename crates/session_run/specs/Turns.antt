@@ -71,6 +71,25 @@ module _ {H L P : Type 0} {l : logs.Ghosts L} {p : disks.Ghosts P} where
   RanLines hall old new [] = new ≡ old
   RanLines hall old new (line ∷ lines) = (next : Caller L P l p) × RanLine hall old next line × RanLines hall next new lines
 
+module _ {K L P : Type 0} {l : logs.Ghosts L} {p : disks.Ghosts P} where
+  -- the member, where this is kept of its lines
+  abbrev pub keeping : Member K L P l p → K → Member K L P l p
+  keeping m kept = record m { kept = kept }
+
+module _ {H K L P : Type 0} {l : logs.Ghosts L} {p : disks.Ghosts P} where
+  -- the member has run no command of the round yet, and may run so many
+  pub record Begins (hall : Hall H (Part L P l p) Entry Start) (banks count : ℕ) (m : Member K L P l p) : Type 0 where
+    pub may : MayRun hall banks m.caller
+    pub room : commands_of m.caller + count < 2 ^ 48
+    pub lines : m.lines ≡ []
+
+  -- the member may run its commands of the round, at the places that the plan has for it
+  pub record MayGo (hall : Hall H (Part L P l p) Entry Start) (banks : ℕ) (round : List Item) (plan : Plan)
+      (m : Member K L P l p) : Type 0 where
+    pub planned : m.caller.number < length plan.places.items
+    pub places : HasPlaces m.caller.number round round (get_or plan.places.items m.caller.number [])
+    pub begins : Begins hall banks (length (get_or plan.places.items m.caller.number [])) m
+
 module _ {H K L P : Type 0} {l : logs.Ghosts L} {p : disks.Ghosts P} (k : keepers.Ghosts K) where
   -- The member's next command ran, and it may go on. Its line was kept, if memory sufficed.
   pub record RunsNext {T E : Type 0} (hall : Hall H (Part L P l p) Entry Start) (banks : ℕ) (names : List (List ℕ))
@@ -82,13 +101,6 @@ module _ {H K L P : Type 0} {l : logs.Ghosts L} {p : disks.Ghosts P} (k : keeper
     pub lines : new.lines ≡ old.lines ++ line ∷ []
     pub kept_is : OnOk result (new.kept ≡ k.with_lines names old.kept (line ∷ []))
 
-  -- the member has run no command of the round yet, and may run so many
-  pub record Begins (hall : Hall H (Part L P l p) Entry Start) (banks count : ℕ) (m : Member K L P l p) : Type 0 where
-    pub may : MayRun hall banks m.caller
-    pub room : commands_of m.caller + count < 2 ^ 48
-    pub lines : m.lines ≡ []
-    pub kept : m.kept ≡ k.nothing
-
   -- The member ran commands of the round, and may go on. If this holds, these were all, and they were kept.
   pub record RunsRound (hall : Hall H (Part L P l p) Entry Start) (banks : ℕ) (names : List (List ℕ))
       (round : List Item) (Sufficed : Type 0) (old new : Member K L P l p) : Type 0 where
@@ -96,11 +108,4 @@ module _ {H K L P : Type 0} {l : logs.Ghosts L} {p : disks.Ghosts P} (k : keeper
     pub may : MayRun hall banks new.caller
     pub number : new.caller.number ≡ old.caller.number
     pub all : Sufficed → map turn_of new.lines ≡ turns_of old.caller.number (turns_in round)
-    pub kept_is : Sufficed → new.kept ≡ k.with_lines names k.nothing new.lines
-
-  -- the member may run its commands of the round, at the places that the plan has for it
-  pub record MayGo (hall : Hall H (Part L P l p) Entry Start) (banks : ℕ) (round : List Item) (plan : Plan)
-      (m : Member K L P l p) : Type 0 where
-    pub planned : m.caller.number < length plan.places.items
-    pub places : HasPlaces m.caller.number round round (get_or plan.places.items m.caller.number [])
-    pub begins : Begins hall banks (length (get_or plan.places.items m.caller.number [])) m
+    pub kept_is : Sufficed → new.kept ≡ k.with_lines names old.kept new.lines

@@ -62,7 +62,7 @@ fn run_places<R: Passing, K: LineKeeper, L: LogDisk, P: PageDisk>(
     places: &[usize],
     round: &Items,
 ) -> Result<(), Memory>
-    requires begins { Begins K.LineKeeper hall.now banks (length places.now) member.old }
+    requires begins { Begins hall.now banks (length places.now) member.old }
     requires items { All (runnable.MayRun (start_of hall.now).sessions) round.now }
     requires places { HasPlaces member.old.caller.number round.now round.now places.now }
     requires told { AreToldBy P.tells (start_of hall.now) }
@@ -90,7 +90,7 @@ pub fn run_member<R: Wait, K: LineKeeper, L: LogDisk, P: PageDisk, G: Gate>(
     gate: &G,
 )
     requires items { All (runnable.MayRun (start_of hall.now).sessions) round.now }
-    requires may { MayGo K.LineKeeper hall.now banks round.now plan.now member.old }
+    requires may { MayGo hall.now banks round.now plan.now member.old }
     requires told { AreToldBy P.tells (start_of hall.now) }
     ensures { RunsRound K.LineKeeper hall.now banks names.now round.now (member.new.lost ≡ false) member.old member.new }
 {

@@ -6,7 +6,7 @@ ghost use Rattle.engine_host.specs.Hosts.{HoldsAllBut, IsHost, IsParked};
 ghost use Rattle.run_law.specs.Turns as runnable;
 ghost use Rattle.run_law.specs.Turns.{turns_in};
 ghost use Rattle.script_rounds.specs.Plans.{IsPlanOf};
-ghost use Rattle.session_run.specs.Rounds.{AllRan, AreApart, AreBack, AreParked, AreSent, MayAdd, MayReturn, StayBehind, WentRound, callers_of, is_among, numbers_of, with_members};
+ghost use Rattle.session_run.specs.Rounds.{AllRan, AreApart, AreBack, AreParked, AreSent, HaveRun, MayAdd, MayReturn, StayBehind, WentRound, callers_of, is_among, numbers_of, with_members};
 ghost use Rattle.session_run.specs.Turns.{AreToldBy, MayGo};
 
 use crate::member::{Member, run_member};
@@ -98,7 +98,7 @@ fn run_beside<K: LineKeeper + Send, L: LogDisk + Send + Sync, P: PageDisk + Send
 )
     requires threads { 0 < threads }
     requires items { All (runnable.MayRun (start_of hall.now).sessions) round.now }
-    requires may { All (MayGo K.LineKeeper hall.now banks round.now plan.now) members.old }
+    requires may { All (MayGo hall.now banks round.now plan.now) members.old }
     requires told { AreToldBy P.tells (start_of hall.now) }
     ensures { AllRan K.LineKeeper hall.now banks names.now round.now members.old members.new }
 {
@@ -110,11 +110,38 @@ fn run_beside<K: LineKeeper + Send, L: LogDisk + Send + Sync, P: PageDisk + Send
     );
 }
 
-/// Runs the members of a round.
+/// Runs the members of a round one after another, and keeps their lines for the run at once.
+fn run_in_turn<R: Wait, K: LineKeeper, L: LogDisk, P: PageDisk, G: Gate>(
+    rt: &R,
+    hall: &Hall<EngineLaw<L, P>>,
+    members: &mut Vec<Member<K, L, P>>,
+    kept: &mut K,
+    banks: u32,
+    alloc: Global,
+    names: &NameList,
+    plan: &Plan,
+    round: &Items,
+    gate: &G,
+)
+    requires items { All (runnable.MayRun (start_of hall.now).sessions) round.now }
+    requires may { All (MayGo hall.now banks round.now plan.now) members.old.items }
+    requires none { All (λ m. m.kept ≡ K.nothing) members.old.items }
+    requires told { AreToldBy P.tells (start_of hall.now) }
+    ensures { HaveRun K.LineKeeper hall.now banks names.now round.now kept.old kept.new members.old.items members.new.items }
+{
+    for member in members.iter_mut() {
+        mem::swap(&mut member.kept, kept);
+        run_member(rt, hall, member, banks, alloc, names, plan, round, gate);
+        mem::swap(&mut member.kept, kept);
+    }
+}
+
+/// Runs the members of a round. On one thread their lines are kept for the run at once, else each keeps its own.
 fn run_members<K: LineKeeper + Send, L: LogDisk + Send + Sync, P: PageDisk + Send + Sync>(
     rt: &(impl Threads + Wait + Sync),
     hall: &Hall<EngineLaw<L, P>>,
     members: &mut Vec<Member<K, L, P>>,
+    kept: &mut K,
     banks: u32,
     alloc: Global,
     names: &NameList,
@@ -125,10 +152,17 @@ fn run_members<K: LineKeeper + Send, L: LogDisk + Send + Sync, P: PageDisk + Sen
 )
     requires threads { 0 < threads }
     requires items { All (runnable.MayRun (start_of hall.now).sessions) round.now }
-    requires may { All (MayGo K.LineKeeper hall.now banks round.now plan.now) members.old.items }
+    requires may { All (MayGo hall.now banks round.now plan.now) members.old.items }
+    requires none { All (λ m. m.kept ≡ K.nothing) members.old.items }
     requires told { AreToldBy P.tells (start_of hall.now) }
-    ensures { AllRan K.LineKeeper hall.now banks names.now round.now members.old.items members.new.items }
+    ensures { HaveRun K.LineKeeper hall.now banks names.now round.now kept.old kept.new members.old.items members.new.items }
 {
+    if threads == 1 {
+        run_in_turn(
+            rt, hall, members, kept, banks, alloc, names, plan, round, gate,
+        );
+        return;
+    }
     let all = members.as_mut_slice();
     run_beside(
         rt, hall, all, banks, alloc, names, plan, round, threads, gate,
@@ -248,7 +282,7 @@ pub fn run_round<K: LineKeeper + Send + Drop, L: LogDisk + Send + Sync, P: PageD
     let numbers = plan.sessions.as_slice();
     let_in(hall, alloc, host, numbers, sessions, &mut sent, spare);
     run_members(
-        rt, hall, &mut sent, banks, alloc, names, plan, round, threads, gate,
+        rt, hall, &mut sent, kept, banks, alloc, names, plan, round, threads, gate,
     );
     let much = round.len() >= MANY_COMMANDS;
     let joined = join_members(alloc, &mut sent, kept, much);

@@ -68,7 +68,7 @@ b snap t
     (report, gate.ran_out.load(Ordering::SeqCst))
 }
 
-/// The report behind its two snapshots or before, as they come.
+/// The report up to the place where the events of its two snapshots stand, in either order.
 const HEAD: &str = "txid report 1
 life 1 from 0 next 3 oldest 3 multi 1 offset 1 oldest-multi 1 oldest-offset 1
 round 1

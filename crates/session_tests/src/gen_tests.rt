@@ -94,8 +94,9 @@ fn run_beside_a_source(
 fn words_and_what_they_write(rt: HostRuntime) {
     for (words, status, line) in &ROWS {
         let (found, written) = run_beside_a_source(&rt, words);
-        let is_well = found == *status && written.as_str() == *line;
-        assert!(rt; is_well, "{found}: {written}");
+        let wanted = *line;
+        let is_well = found == *status && written.as_str() == wanted;
+        assert!(rt; is_well, "not {wanted} but {found}: {written}");
     }
 }
 

@@ -145,7 +145,7 @@ const ENDINGS: [Ending; 4] = [
     Ending {
         name: "bytes_that_are_no_script_are_refused",
         script: "a begin\na frob\n",
-        failing: &[0],
+        failing: &[],
         room: 100,
         status: 1,
         text: "script 2 command\n",
@@ -161,7 +161,7 @@ const ENDINGS: [Ending; 4] = [
     Ending {
         name: "a_sink_of_twenty_holds_the_front_of_the_report",
         script: "",
-        failing: &[0],
+        failing: &[],
         room: 20,
         status: 4,
         text: "txid report 1\nlife 1 from 0 next 3\n",
@@ -170,7 +170,7 @@ const ENDINGS: [Ending; 4] = [
     Ending {
         name: "a_life_is_written_before_its_crash",
         script: ".crash lost\n.crash kept\n",
-        failing: &[0],
+        failing: &[],
         room: 14,
         status: 4,
         text: "txid report 1\nlife 1 from 0 next 3\n",

@@ -24,7 +24,7 @@ pub fn status_of<S: Source, K: Sink, G: Gate + Sync>(
     run_tool(rt, alloc, words, source, sink, &mut media, threads, gate)
 }
 
-/// A source of these bytes, of which as many reads fail as the plan says.
+/// A source of these bytes, whose reads of these numbers fail. The first one is 1.
 pub fn source_of(rt: &(impl Abort + AllocGlobal), script: &str, failing: Vec<u64>) -> MemSource {
     let bytes = Vec::from_slice(rt.alloc(), script.as_bytes()).expect(rt, "memory");
     MemSource::new(bytes, failing)

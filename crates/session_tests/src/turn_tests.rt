@@ -14,7 +14,7 @@ const LOOKS: u32 = 1_000_000;
 /// No command of a row has as many critical sections.
 const MOST_SECTIONS: u64 = 1_000;
 
-/// A section of a command: before it a session comes to the gate.
+/// A section: the number of its command, and its own in the command. Before it a session comes to the gate.
 type Section = (u64, u64);
 
 /// The place of a command's section among all sections of its session, in their order.

@@ -43,21 +43,27 @@ fn check(
 }
 
 /// A check of the text ends with this status and this line.
-pub fn ends(rt: &(impl Abort + AllocGlobal), text: &str, status: u8, line: &str) {
+pub fn check_text(rt: &(impl Abort + AllocGlobal), text: &str, status: u8, line: &str) {
     let bytes = Vec::from_slice(rt.alloc(), text.as_bytes()).expect(rt, "memory");
     check(rt, bytes, Vec::new(rt.alloc()), 100, status, line);
 }
 
-/// Where the first words stand in the report, it has the second ones in their place; so changed it is refused with this line.
-pub fn is_refused(rt: &(impl Abort + AllocGlobal), report: &str, old: &str, new: &str, line: &str) {
+/// The report with the second words in place of the first ones is refused with this line.
+pub fn check_refused(
+    rt: &(impl Abort + AllocGlobal),
+    report: &str,
+    old: &str,
+    new: &str,
+    line: &str,
+) {
     let (front, behind) = report.split_once(old).expect(rt, "the words");
     let text = format!(in rt.alloc(); "{front}{new}{behind}").expect(rt, "memory");
-    ends(rt, text.as_str(), 8, line);
+    check_text(rt, text.as_str(), 8, line);
 }
 
 #[test]
 fn a_lawful_report_is_lawful(rt: HostRuntime) {
-    ends(&rt, COMMITTED, 0, "lawful\n");
+    check_text(&rt, COMMITTED, 0, "lawful\n");
 }
 
 #[test]
@@ -90,7 +96,7 @@ fn each_wrong_line_is_told_where_it_stands(rt: HostRuntime) {
             "unlawful 4\n",
         ),
     ] {
-        is_refused(&rt, COMMITTED, old, new, line);
+        check_refused(&rt, COMMITTED, old, new, line);
     }
 }
 
@@ -100,12 +106,12 @@ fn first_lines_of_a_report_lack_the_next_one(rt: HostRuntime) {
     let mut next: u32 = 1;
     for line in COMMITTED.split_inclusive("\n") {
         let told = format!(in rt.alloc(); "unlawful {next}\n").expect(&rt, "memory");
-        ends(&rt, front.as_str(), 8, told.as_str());
+        check_text(&rt, front.as_str(), 8, told.as_str());
         front.push_str(line).expect(&rt, "memory");
         next = next.saturating_add(1);
     }
     assert!(rt; next == 18);
-    ends(&rt, front.as_str(), 0, "lawful\n");
+    check_text(&rt, front.as_str(), 0, "lawful\n");
 }
 
 #[test]

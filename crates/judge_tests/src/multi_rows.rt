@@ -1,5 +1,5 @@
 // A report of two lives with multixacts, judged through the tool, and what is wrong in each wrong one.
-use crate::judge_tests::{ends, is_refused};
+use crate::judge_tests::{check_refused, check_text};
 
 /// A multixact is given, recorded and seen; behind a crash it is seen by its record, and given up.
 const GIVEN: &str = "txid report 1
@@ -56,7 +56,7 @@ end
 
 #[test]
 fn a_lawful_report_with_multixacts_is_lawful(rt: HostRuntime) {
-    ends(&rt, GIVEN, 0, "lawful\n");
+    check_text(&rt, GIVEN, 0, "lawful\n");
 }
 
 #[test]
@@ -99,6 +99,6 @@ fn each_wrong_line_on_multixacts_is_told(rt: HostRuntime) {
         // A record of an offset that wasn't announced.
         ("truncate 3 2 3", "truncate 3 2 4", "unlawful 49\n"),
     ] {
-        is_refused(&rt, GIVEN, old, new, line);
+        check_refused(&rt, GIVEN, old, new, line);
     }
 }

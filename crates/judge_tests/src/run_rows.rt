@@ -326,6 +326,6 @@ fn reports_of_runs_are_lawful(rt: HostRuntime) {
     for text in [
         RUN_1, RUN_2, RUN_3, RUN_4, RUN_5, RUN_6, RUN_7, RUN_8, RUN_9, RUN_11, RUN_12, RUN_10,
     ] {
-        ends(&rt, text, 0, "lawful\n");
+        check_text(&rt, text, 0, "lawful\n");
     }
 }

@@ -1,5 +1,5 @@
 // Reports of runs, as the tests of runs have them (`session_tests`, `media_tests`): each is lawful.
-use crate::judge_tests::ends;
+use crate::judge_tests::check_text;
 
 /// A commit that a fault of the log met.
 const RUN_1: &str = "txid report 1

@@ -143,10 +143,7 @@ fn check_volume(rt: &(impl Abort + AllocGlobal + Threads + Wait + Sync), row: Ro
         let (status, written) = run_once(rt, row.script, at, call);
         let written = written.as_str();
         if !is_so(rt, row, status, written, way) {
-            let Some(next) = ways.next() else {
-                panic!(rt; "{name}: {front} call {call}: {written}")
-            };
-            way = next;
+            way = ways.next().unwrap_or("no way is left");
             let is_well = is_so(rt, row, status, written, way);
             assert!(rt; is_well, "{name}: {front} call {call}: {written}");
         }

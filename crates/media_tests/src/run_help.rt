@@ -91,7 +91,7 @@ pub fn run_fused(
     (status, written_to(rt, &sink))
 }
 
-/// Runs a script over a media that fails no call: a fuse that passes more than there are.
+/// Runs a script over a media that fails no call.
 pub fn run_new(
     rt: &(impl Abort + AllocGlobal + Threads + Wait + Sync),
     script: &str,
@@ -118,11 +118,11 @@ pub fn run_in(
 
 /// Takes away a folder that an earlier run of a test left.
 pub fn clear(rt: &impl Abort, files: &HostRuntime, path: &str) {
-    let is_gone = match fs::remove_dir_all(files, path) {
+    let is_left = match fs::remove_dir_all(files, path) {
         Err(error) => error.kind() == io::ErrorKind::NotFound,
         Ok(()) => true,
     };
-    assert!(rt; is_gone, "{path} stands");
+    assert!(rt; is_left, "{path} stands");
 }
 
 /// Writes a file of a folder.

@@ -5,6 +5,7 @@ use disk_fuse::FailOnce;
 use engine_parts::OpenGate;
 use report_check::check_tool;
 use script_rounds::RoundThreads;
+use session_lives::SessionThreads;
 use session_run::run_tool;
 use std::alloc::{AllocGlobal, Global};
 use std::process::Abort;
@@ -28,8 +29,9 @@ fn status_once(
     let inner = MemMedia::new(alloc);
     let mut media = FailOnce::new(alloc, inner, at, call);
     let threads = RoundThreads::AtMost(1);
+    let lives = SessionThreads { rt };
     run_tool(
-        rt, alloc, words, source, sink, &mut media, threads, &OpenGate,
+        &lives, alloc, words, source, sink, &mut media, threads, &OpenGate,
     )
 }
 

@@ -4,6 +4,7 @@ use disk_folder::FolderMedia;
 use disk_fuse::Fuse;
 use engine_parts::OpenGate;
 use script_rounds::RoundThreads;
+use session_lives::SessionThreads;
 use session_run::run_tool;
 use std::alloc::{AllocGlobal, Global};
 use std::process::Abort;
@@ -24,8 +25,9 @@ fn status_new(
 ) -> u8 {
     let alloc = rt.alloc();
     let mut media = MemMedia::new(alloc);
+    let lives = SessionThreads { rt };
     run_tool(
-        rt, alloc, words, source, sink, &mut media, threads, &OpenGate,
+        &lives, alloc, words, source, sink, &mut media, threads, &OpenGate,
     )
 }
 
@@ -42,8 +44,9 @@ fn status_fused(
     let alloc = rt.alloc();
     let inner = MemMedia::new(alloc);
     let mut media = Fuse::new(alloc, inner, at, passes);
+    let lives = SessionThreads { rt };
     run_tool(
-        rt, alloc, words, source, sink, &mut media, threads, &OpenGate,
+        &lives, alloc, words, source, sink, &mut media, threads, &OpenGate,
     )
 }
 
@@ -59,8 +62,9 @@ fn status_in(
 ) -> u8 {
     let alloc = rt.alloc();
     let mut media = FolderMedia::new(files, alloc, folder);
+    let lives = SessionThreads { rt };
     run_tool(
-        rt, alloc, words, source, sink, &mut media, threads, &OpenGate,
+        &lives, alloc, words, source, sink, &mut media, threads, &OpenGate,
     )
 }
 

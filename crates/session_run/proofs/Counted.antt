@@ -26,12 +26,12 @@ use Rattle.engine_host.specs.Opening.{Beginning}
 use Rattle.engine_life.specs.declared.closed.ClosedLife.{ClosedLife}
 use Rattle.engine_life.specs.declared.life.OpenLife.{OpenLife}
 use Rattle.engine_life.specs.Lives.{volumes_left}
-use Rattle.session_run.specs.OneLife.{HasLeft, IsOpened, life_of}
-use Rattle.session_run.specs.Parts.{HasLived, IsTakenPart, report_of}
-use Rattle.session_run.specs.Records.{BankHolds}
-use Rattle.session_run.specs.Leaves.{LeavesVolumes}
-use Rattle.session_run.specs.Runs.{IsTakenAlone}
-use Rattle.session_run.specs.Starts.{OpensFor}
+use Rattle.session_parts.specs.OneLife.{HasLeft, IsOpened, life_of}
+use Rattle.session_parts.specs.Parts.{HasLived, IsTakenPart, report_of}
+use Rattle.session_parts.specs.Records.{BankHolds}
+use Rattle.session_parts.specs.Leaves.{LeavesVolumes}
+use Rattle.session_parts.specs.Runs.{IsTakenAlone}
+use Rattle.session_parts.specs.Starts.{OpensFor}
 
 -- its items are one part
 pub part_alone : (s : Script) → IsTakenAlone s → IsTakenPart (length s.names) s.items

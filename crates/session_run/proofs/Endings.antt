@@ -25,14 +25,14 @@ use Rattle.session_run.specs.declared.ending.Ending.{Ending}
 use Rattle.session_run.specs.declared.ending.Ending.TheVariants as endings
 use Rattle.script_gen.specs.declared.task.Task.{Task}
 use Rattle.script_gen.specs.declared.task.Task.TheVariants as tasks
-use Rattle.session_run.specs.Leaves.{LeavesVolumes}
-use Rattle.session_run.specs.Runs.{IsTakenAlone}
+use Rattle.session_parts.specs.Leaves.{LeavesVolumes}
+use Rattle.session_parts.specs.Runs.{IsTakenAlone}
 use Rattle.session_run.specs.Tool.{Ends, HasWritten, IsScriptOf, IsSized, IsTask, IsUnread, IsUnrun, TellsRefusal, TellsStop, WritesLast, unread_by}
 use Rattle.run_law.specs.Lives.{RunStart, new_start, text_so_far}
-use Rattle.session_run.specs.declared.stop.Stopped.{Stopped}
-use Rattle.session_run.specs.declared.stop.Stopped.TheVariants as stops
-use Rattle.session_run.specs.Starts.{BeginsOver}
-use Rattle.session_run.specs.Stops.{IsStopped, IsUnopenedFirst}
+use Rattle.session_parts.specs.declared.stop.Stopped.{Stopped}
+use Rattle.session_parts.specs.declared.stop.Stopped.TheVariants as stops
+use Rattle.session_parts.specs.Starts.{BeginsOver}
+use Rattle.session_parts.specs.Stops.{IsStopped, IsUnopenedFirst}
 use Rattle.session_run.proofs.LivesRun.{none_before, then_memory}
 
 -- ---- what is asked for

@@ -18,7 +18,7 @@ use Rattle.wal_core.specs.Log.{history_on}
 use Rattle.wal_core.specs.Opening.{opened}
 use Rattle.recoverable.specs.Fit.{KeptLog}
 use Rattle.engine_life.specs.FirstLives.{MayBeginOver, MayMount}
-pub use Rattle.session_run.specs.Unknown.{no_log}
+pub use Rattle.session_parts.specs.Unknown.{no_log}
 
 -- nothing was written on the log
 pub none_on_empty : (v : Volume) → v ≡ record { start = 0; bytes = [] } → history_on v ≡ None

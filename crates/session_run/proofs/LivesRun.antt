@@ -25,18 +25,18 @@ use Rattle.recoverable.specs.Fit.{KeptLog}
 use Rattle.engine_life.specs.declared.life.OpenLife.{OpenLife}
 use Rattle.engine_life.specs.declared.refusal.NoLife.{NoLife}
 use Rattle.engine_life.specs.declared.refusal.NoLife.TheVariants as no_lives
-use Rattle.session_run.specs.declared.stop.Stopped.{Stopped}
-use Rattle.session_run.specs.declared.stop.Stopped.TheVariants as stops
-use Rattle.session_run.specs.Going.{IsCrashed, IsPartTold, IsRunning, PartWent, part_of}
-use Rattle.session_run.specs.Leaves.{HasLeftLast, HaveLeft, LeavesVolumes}
-use Rattle.session_run.specs.Lives.{ComesTo, HasFallen}
-use Rattle.session_run.specs.Parts.{IsTakenPart}
-use Rattle.session_run.specs.Runs.{IsTaken, cluster_of}
-use Rattle.session_run.specs.Starts.{BeginsOver}
-use Rattle.session_run.specs.Stops.{IsStopped, IsTextOfRun, IsUndamaged, IsUnopenedFirst, KeepsLog, Stops, StopsBehind}
-use Rattle.session_run.proofs.GoingOn.{since, stay_wider}
-use Rattle.session_run.proofs.Opening.{IsFirst, start_so}
-use Rattle.session_run.proofs.Running.{comes_push, run_told, so_whole}
+use Rattle.session_parts.specs.declared.stop.Stopped.{Stopped}
+use Rattle.session_parts.specs.declared.stop.Stopped.TheVariants as stops
+use Rattle.session_parts.specs.Going.{IsCrashed, IsPartTold, IsRunning, PartWent, part_of}
+use Rattle.session_parts.specs.Leaves.{HasLeftLast, HaveLeft, LeavesVolumes}
+use Rattle.session_parts.specs.Lives.{ComesTo, HasFallen}
+use Rattle.session_parts.specs.Parts.{IsTakenPart}
+use Rattle.session_parts.specs.Runs.{IsTaken, cluster_of}
+use Rattle.session_parts.specs.Starts.{BeginsOver}
+use Rattle.session_parts.specs.Stops.{IsStopped, IsTextOfRun, IsUndamaged, IsUnopenedFirst, KeepsLog, Stops, StopsBehind}
+use Rattle.session_parts.proofs.GoingOn.{since, stay_wider}
+use Rattle.session_parts.proofs.Opening.{IsFirst, start_so}
+use Rattle.session_parts.proofs.Running.{comes_push, run_told, so_whole}
 
 rose_from : (a b c : ℕ) → a ≤ b → Rose b c → Rose a c
 rose_from a b c low rose = grind arith

@@ -20,12 +20,12 @@ use Rattle.tx_io.specs.Causes.{Rose}
 use Rattle.session_run.specs.declared.ending.Ending.{Ending}
 use Rattle.session_run.specs.declared.ending.Ending.TheVariants as endings
 use Rattle.script_gen.specs.declared.task.Task.{Task}
-use Rattle.session_run.specs.Leaves.{LeavesVolumes}
+use Rattle.session_parts.specs.Leaves.{LeavesVolumes}
 use Rattle.session_run.specs.Tool.{Ends, HasMounted, HasWritten, IsMemoryLast, IsTask, IsUnread, IsUnrun, IsUnrunBy, IsWholeSummary, TellsRefusal, TellsStop, damage_text, status_of, text_of, unread_by}
-use Rattle.session_run.specs.declared.stop.Stopped.{Stopped}
-use Rattle.session_run.specs.declared.stop.Stopped.TheVariants as stops
-use Rattle.session_run.specs.Starts.{BeginsOver}
-use Rattle.session_run.specs.Stops.{MountsFirst}
+use Rattle.session_parts.specs.declared.stop.Stopped.{Stopped}
+use Rattle.session_parts.specs.declared.stop.Stopped.TheVariants as stops
+use Rattle.session_parts.specs.Starts.{BeginsOver}
+use Rattle.session_parts.specs.Stops.{MountsFirst}
 use Rattle.session_run.proofs.Endings.{gen_by, run_asked, run_not_gen}
 
 -- ---- what is written, and then the last text

@@ -12,8 +12,8 @@ use Rattle.run_law.specs.Lives.{BeginsRun, RunStart}
 use Rattle.run_law.specs.Tool.{IsReportOf}
 use Rattle.recoverable.specs.Fit.{KeptLog}
 use Rattle.engine_life.specs.FirstLives.{MayBeginOver}
-use Rattle.session_run.specs.Leaves.{LeavesVolumes}
-use Rattle.session_run.specs.Starts.{BeginsOver, StartsBehind}
+use Rattle.session_parts.specs.Leaves.{LeavesVolumes}
+use Rattle.session_parts.specs.Starts.{BeginsOver, StartsBehind}
 
 module _ {L P : Type 0} (l : logs.Ghosts L) (p : disks.Ghosts P) where
   -- There is a log with which the next run may begin over what this one left. Where pages tell what they hold, the lives of a

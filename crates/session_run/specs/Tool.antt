@@ -25,11 +25,11 @@ use Rattle.engine_life.specs.declared.refusal.NoLife.{NoLife}
 use Rattle.engine_life.specs.declared.refusal.NoLife.TheVariants as no_lives
 use Rattle.session_run.specs.declared.ending.Ending.{Ending}
 use Rattle.session_run.specs.declared.ending.Ending.TheVariants as endings
-use Rattle.session_run.specs.declared.stop.Stopped.{Stopped}
-use Rattle.session_run.specs.declared.stop.Stopped.TheVariants as stops
-use Rattle.session_run.specs.Leaves.{LeavesVolumes}
-use Rattle.session_run.specs.Starts.{BeginsOver}
-use Rattle.session_run.specs.Stops.{IsUnwritten, Stops}
+use Rattle.session_parts.specs.declared.stop.Stopped.{Stopped}
+use Rattle.session_parts.specs.declared.stop.Stopped.TheVariants as stops
+use Rattle.session_parts.specs.Leaves.{LeavesVolumes}
+use Rattle.session_parts.specs.Starts.{BeginsOver}
+use Rattle.session_parts.specs.Stops.{IsUnwritten, Stops}
 
 -- ---- what is asked for
 

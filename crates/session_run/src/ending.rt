@@ -2,10 +2,10 @@
 ghost use Rattle.std.specs.Prelude.{◌≡◌, IfOk};
 ghost use Rattle.session_run.specs.Tool.{TellsRefusal, TellsStop, damage_text, status_of, text_of, unread_by};
 
-use crate::stop::Stopped;
 use engine_life::NoLife;
 use report_text::Text;
 use script_source::NoScript;
+use session_parts::Stopped;
 use std::alloc::Global;
 use tx_model::Memory;
 

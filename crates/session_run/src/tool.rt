@@ -8,7 +8,7 @@ ghost use Rattle.engine_life.specs.FirstLives.{MayMount};
 ghost use Rattle.script_gen.specs.Laws.{most_transactions};
 ghost use Rattle.script_gen.specs.declared.task.Task.TheVariants as tasks;
 ghost use Rattle.session_run.specs.Guarantee.{MayRunOver, RunsTool};
-ghost use Rattle.session_run.specs.Unknown.{no_log};
+ghost use Rattle.session_parts.specs.Unknown.{no_log};
 ghost use Rattle.session_run.specs.Tool.{Ends, HasMounted, HasWritten, IsSized, IsUnread, WritesLast, status_of, text_of};
 
 use crate::ending::{Ending, stopped, unopened, unread};
@@ -19,15 +19,14 @@ use script_gen::laws::generated_scripts_run;
 use script_gen::{Task, generate, task_of};
 use script_rounds::RoundThreads;
 use script_source::take_script;
+use session_parts::LifeRunner;
 use std::alloc::Global;
-use std::sync::Wait;
-use std::thread::Threads;
 use tx_io::{Failed, Sink, Source, write_all};
 use tx_model::Memory;
 
 /// Reads the source, runs its script over the media, and makes the report.
-fn run_source<R: Threads + Wait + Sync, S: Source, K: Sink, M: Media, G: Gate + Sync>(
-    rt: &R,
+fn run_source<R: LifeRunner + Sync, S: Source, K: Sink, M: Media, G: Gate + Sync>(
+    lives: &R,
     alloc: Global,
     source: &mut S,
     sink: &mut K,
@@ -58,15 +57,15 @@ where
         Ok(script) => script,
         Err(refusal) => return unread(refusal),
     };
-    match run_script(rt, alloc, &script, sink, media, threads, gate) {
+    match run_script(lives, alloc, &script, sink, media, threads, gate) {
         Ok(()) => Ending::Report,
         Err(stop) => stopped(alloc, stop),
     }
 }
 
 /// Runs the script of a seed and a size over the media, and makes its summary. Reads no source.
-fn run_generated<R: Threads + Wait + Sync, M: Media, G: Gate + Sync>(
-    rt: &R,
+fn run_generated<R: LifeRunner + Sync, M: Media, G: Gate + Sync>(
+    lives: &R,
     alloc: Global,
     seed: u32,
     size: u32,
@@ -94,15 +93,15 @@ where
         Ok(script) => script,
         Err(Memory) => return Ending::Memory,
     };
-    match count_script(rt, alloc, &script, media, threads, gate) {
+    match count_script(lives, alloc, &script, media, threads, gate) {
         Ok(text) => Ending::Summary(text),
         Err(refusal) => unopened(alloc, refusal),
     }
 }
 
 /// Does what is asked for.
-fn work<R: Threads + Wait + Sync, S: Source, K: Sink, M: Media, G: Gate + Sync>(
-    rt: &R,
+fn work<R: LifeRunner + Sync, S: Source, K: Sink, M: Media, G: Gate + Sync>(
+    lives: &R,
     alloc: Global,
     task: Task,
     source: &mut S,
@@ -133,8 +132,8 @@ where
     ensures used { HasMounted result → M.is_new media.new ≡ false }
 {
     match task {
-        Task::Run => run_source(rt, alloc, source, sink, media, threads, gate),
-        Task::Gen { seed, size } => run_generated(rt, alloc, seed, size, media, threads, gate),
+        Task::Run => run_source(lives, alloc, source, sink, media, threads, gate),
+        Task::Gen { seed, size } => run_generated(lives, alloc, seed, size, media, threads, gate),
     }
 }
 
@@ -174,8 +173,8 @@ pub fn say_out_of_memory<K: Sink>(sink: &mut K) -> u8
 
 /// As `run_tool`, over a media whose volumes fit a log that is known (`kept`, which contracts alone see), as those do that
 /// a run left: a log that has records is recovered, and the first life begins behind the last of them.
-pub fn run_tool_behind<R: Threads + Wait + Sync, S: Source, K: Sink, M: Media, G: Gate + Sync>(
-    rt: &R,
+pub fn run_tool_behind<R: LifeRunner + Sync, S: Source, K: Sink, M: Media, G: Gate + Sync>(
+    lives: &R,
     alloc: Global,
     words: &[String],
     source: &mut S,
@@ -197,7 +196,7 @@ where
 {
     match task_of(words) {
         Some(task) => {
-            let ending = work(rt, alloc, task, source, sink, media, threads, gate);
+            let ending = work(lives, alloc, task, source, sink, media, threads, gate);
             put_ending(sink, ending)
         }
         None => finish(sink, b"words\n", 2),
@@ -218,8 +217,8 @@ where
 ///
 /// Each session of a round passes the gate before each critical section of a command, and may be held there. Where a gate
 /// waits for another session of the round, each needs a thread of its own. What is promised holds for every gate.
-pub fn run_tool<R: Threads + Wait + Sync, S: Source, K: Sink, M: Media, G: Gate + Sync>(
-    rt: &R,
+pub fn run_tool<R: LifeRunner + Sync, S: Source, K: Sink, M: Media, G: Gate + Sync>(
+    lives: &R,
     alloc: Global,
     words: &[String],
     source: &mut S,
@@ -238,5 +237,5 @@ where
     ensures runs { RunsTool S.Source K.Sink M.Media M.Log.LogDisk M.Pages.PageDisk no_log
         (map string_bytes words.now) source.old source.new sink.old sink.new media.old media.new result }
 {
-    run_tool_behind(rt, alloc, words, source, sink, media, threads, gate)
+    run_tool_behind(lives, alloc, words, source, sink, media, threads, gate)
 }

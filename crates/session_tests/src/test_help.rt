@@ -3,6 +3,7 @@ use disk_core::MemMedia;
 use engine_parts::{Gate, OpenGate};
 use report_check::check_tool;
 use script_rounds::RoundThreads;
+use session_lives::SessionThreads;
 use session_run::run_tool;
 use std::alloc::{AllocGlobal, Global};
 use std::process::Abort;
@@ -22,7 +23,10 @@ pub fn status_of<S: Source, K: Sink, G: Gate + Sync>(
 ) -> u8 {
     let alloc = rt.alloc();
     let mut media = MemMedia::new(alloc);
-    run_tool(rt, alloc, words, source, sink, &mut media, threads, gate)
+    let lives = SessionThreads { rt };
+    run_tool(
+        &lives, alloc, words, source, sink, &mut media, threads, gate,
+    )
 }
 
 /// The same over a source and a sink in memory, the sessions of a round on at most four threads. Answers the status and

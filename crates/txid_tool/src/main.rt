@@ -8,6 +8,7 @@ use disk_folder::FolderMedia;
 use engine_parts::OpenGate;
 use report_check::check_tool;
 use script_rounds::RoundThreads;
+use session_lives::SessionThreads;
 use session_run::{run_tool, say_out_of_memory};
 use std::alloc::AllocGlobal;
 use std::process::ExitCode;
@@ -60,8 +61,9 @@ fn run_in_memory<S: Source, K: Sink>(
     let alloc = rt.alloc();
     let mut media = MemMedia::new(alloc);
     let threads = threads(rt);
+    let lives = SessionThreads { rt };
     run_tool(
-        rt, alloc, words, source, sink, &mut media, threads, &OpenGate,
+        &lives, alloc, words, source, sink, &mut media, threads, &OpenGate,
     )
 }
 
@@ -77,8 +79,9 @@ fn run_in_folder<S: Source, K: Sink>(
     let alloc = rt.alloc();
     let mut media = FolderMedia::new(files, alloc, folder);
     let threads = threads(rt);
+    let lives = SessionThreads { rt };
     run_tool(
-        rt, alloc, words, source, sink, &mut media, threads, &OpenGate,
+        &lives, alloc, words, source, sink, &mut media, threads, &OpenGate,
     )
 }
 

@@ -1,6 +1,6 @@
 use Rattle.std.proofs.Common.{refl, subst}
 use Rattle.disk_folder.specs.FolderViews.{given_by}
-use Rattle.session_run.specs.Unknown.{no_log}
+use Rattle.session_parts.specs.Unknown.{no_log}
 use Rattle.session_run.proofs.Handed.{silent_may_begin}
 use Rattle.txid_tool.proofs.run_in_folder.Goals as goal
 

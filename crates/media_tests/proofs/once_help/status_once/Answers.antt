@@ -3,7 +3,7 @@ use Rattle.std.specs.Prelude.{Bool, IsTrue, not}
 use Rattle.disk_core.specs.declared.mem_media.MemMedia.{MemMedia}
 use Rattle.disk_core.specs.MemMediaViews.{first_log, is_new}
 use Rattle.disk_fuse.specs.FuseMedia.{fuse_is_new}
-use Rattle.session_run.specs.Unknown.{no_log}
+use Rattle.session_parts.specs.Unknown.{no_log}
 use Rattle.session_run.proofs.Handed.{new_may_begin}
 use Rattle.media_tests.proofs.FusedRuns.{none_within}
 use Rattle.media_tests.proofs.once_help.status_once.Goals as goal

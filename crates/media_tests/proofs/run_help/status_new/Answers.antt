@@ -1,4 +1,4 @@
-use Rattle.session_run.specs.Unknown.{no_log}
+use Rattle.session_parts.specs.Unknown.{no_log}
 use Rattle.session_run.proofs.Handed.{mem_may_begin}
 use Rattle.media_tests.proofs.run_help.status_new.Goals as goal
 

@@ -5,7 +5,7 @@ use Rattle.session_lang.specs.declared.script.Item.{Item}
 use Rattle.run_law.proofs.Lives.{rest_shorter}
 use Rattle.engine_life.specs.FirstLives.{MayMount}
 use Rattle.session_run.proofs.LivesRun.{HasCome, come_first, come_on, part_stops, part_taken, run_ends, unopened_stops}
-use Rattle.session_run.proofs.Opening.{is_first, may_over, unopened_first}
+use Rattle.session_parts.proofs.Opening.{is_first, may_over, unopened_first}
 use Rattle.session_run.proofs.run.run_script.Goals as goal
 
 -- With a ghost value the clauses of `requires` have no names: they stand in their order behind what is asked of lifetimes.

@@ -2,7 +2,7 @@ use mir.Syntax.{of_param}
 use Rattle.std.proofs.Common.{refl, subst, sym, false, ◌≡◌, rules}
 use Rattle.engine_life.specs.FirstLives.{MayMount}
 use Rattle.script_gen.specs.declared.task.Task.TheVariants as tasks
-use Rattle.session_run.specs.Runs.{IsTakenAlone}
+use Rattle.session_parts.specs.Runs.{IsTakenAlone}
 use Rattle.session_run.proofs.Endings.{alone_ends, is_taken, refusal_last, summed}
 use Rattle.session_run.proofs.ToolEnds.{refused_mounted}
 use Rattle.session_run.proofs.tool.run_generated.Goals as goal

@@ -1,4 +1,4 @@
-use Rattle.session_run.specs.Unknown.{no_log}
+use Rattle.session_parts.specs.Unknown.{no_log}
 use Rattle.session_run.proofs.tool.run_tool.Given as goal
 
 abbrev pub ghost-run_tool_behind : goal.ghost-run_tool_behind

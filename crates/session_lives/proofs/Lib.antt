@@ -1,0 +1,10 @@
+mod Going
+mod RoundCounts
+mod RoundSteps
+mod CheckpointFaults
+mod RoundsRun
+mod LogHeld
+mod StatesHeld
+mod CausesTold
+mod LifeFits
+mod LifeLived

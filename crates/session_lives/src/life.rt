@@ -1,0 +1,79 @@
+//! Runs a part of a script in a life that is open, and closes the life.
+ghost use Rattle.std.specs.Prelude.{◌≡◌, ◌^◌, ◌<◌, ℕ, IsTrue, List, OnOk, length};
+ghost use Rattle.disk_core.specs.declared.media.Volumes.{Volumes};
+ghost use Rattle.engine_host.specs.declared.cluster.Cluster.{Cluster};
+ghost use Rattle.engine_host.specs.Opening.{Beginning};
+ghost use Rattle.wal_core.specs.LogViews.{log_disk};
+ghost use Rattle.session_parts.specs.OneLife.{HasRunLife, IsOpened, MayRunIn};
+ghost use Rattle.session_parts.specs.Parts.{IsTakenPart};
+
+use crate::laws::life_ends;
+use crate::rounds::run_rounds;
+use disk_core::{LogDisk, PageDisk};
+use engine_life::{ClosedLife, OpenLife, close_life};
+use engine_parts::Gate;
+use script_rounds::{LineKeeper, RoundThreads};
+use session_lang::Items;
+use std::alloc::Global;
+use std::sync::Wait;
+use std::thread::Threads;
+use tx_model::{Memory, NameList};
+use wal_core::WalLog;
+
+// A place in a log is below 2^64.
+fn has_64_bits(_place: u64)
+    ensures { _place < 2 ^ 64 }
+{}
+
+// A log's volume as it reads is one of its images.
+fn reads_an_image<L: LogDisk>(_log: &WalLog<L>)
+    ensures { IsTrue L.tells → L.images (log_disk _log.now) (L.reads (log_disk _log.now)) }
+{}
+
+// So a page volume.
+fn pages_read_an_image<P: PageDisk>()
+    ensures { IsTrue P.tells → (v : P) → P.images v (P.pages v) }
+{}
+
+/// Runs a part of a script in a life that is open, closes the life, and keeps its lines: its rounds one after another, the
+/// sessions of a round on such threads, and the dumps and checkpoints between them.
+pub fn run_life<
+    K: LineKeeper + Send + Drop,
+    L: LogDisk + Send + Sync + Drop,
+    P: PageDisk + Send + Sync + Drop,
+>(
+    rt: &(impl Threads + Wait + Sync),
+    alloc: Global,
+    life: OpenLife<L, P>,
+    names: &NameList,
+    part: Items,
+    kept: &mut K,
+    threads: RoundThreads,
+    gate: &(impl Gate + Sync),
+) -> (ClosedLife<L, P>, Result<(), Memory>)
+    requires taken { IsTakenPart (length names.now) part }
+    requires may { MayRunIn (length names.now) life }
+    ensures ran { (c : Cluster) (b : Beginning) (faults : List ℕ) (mounted : Volumes L P)
+        → IsOpened c b faults mounted life
+        → OnOk result.1 (HasRunLife L.LogDisk P.PageDisk K.LineKeeper c b mounted names.now part.entry kept.old kept.new result.0) }
+{
+    let mut life = life;
+    life_ends(&life.hall);
+    let ran = run_rounds(
+        rt,
+        alloc,
+        &life.hall,
+        &mut life.host,
+        names,
+        part,
+        kept,
+        threads,
+        gate,
+    );
+    let closed = close_life(life);
+    has_64_bits(closed.log.next());
+    has_64_bits(closed.log.end());
+    reads_an_image(&closed.log);
+    pages_read_an_image::<P>();
+    (closed, ran)
+}

@@ -1,0 +1,4 @@
+pub mod KeptSteps
+pub mod Opening
+pub mod Running
+pub mod GoingOn

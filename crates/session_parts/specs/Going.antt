@@ -1,0 +1,128 @@
+-- A run as it goes on from life to life.
+use Rattle.std.specs.Prelude.{◌≡◌, ℕ, ◌⊎◌, IsTrue, List, [], ◌∷◌, ◌++◌, Option, None, Some, Result, Ok, Err, length, take}
+use Rattle.std.specs.Io.KnownBytes.{Appends}
+use Rattle.disk_core.specs.declared.log_disk.LogDisk as logs
+use Rattle.disk_core.specs.declared.page_disk.PageDisk as disks
+use Rattle.disk_core.specs.declared.media.Crash.{Crash}
+use Rattle.disk_core.specs.declared.media.Volumes.{Volumes}
+use Rattle.disk_core.specs.Images.{Only}
+use Rattle.disk_core.specs.Media.{HasBanks}
+use Rattle.tx_events.specs.Ids.{IsFullMulti}
+use Rattle.tx_model.specs.declared.report.How.{How}
+use Rattle.tx_model.specs.declared.report.Life.{Life}
+use Rattle.tx_model.specs.declared.report.LifeReport.{LifeReport}
+use Rattle.tx_model.specs.declared.report.Step.{Step}
+use Rattle.life_law.specs.LawfulLife.{IsLawfulLife}
+use Rattle.lives_law.specs.Lives.{GoesBehind, base_of}
+use Rattle.session_lang.specs.declared.script.Item.{Item}
+use Rattle.session_lang.specs.declared.script.Script.{Script}
+use Rattle.session_lang.specs.Rounds.{asked_of}
+use Rattle.run_law.specs.Lives.{AreRunLives, IsFrontOf, LifePart, RunStart, last_text, life_rest, text_so_far}
+use Rattle.recoverable.specs.Fit.{KeptLog}
+use Rattle.engine_host.specs.declared.cluster.Cluster.{Cluster}
+use Rattle.engine_host.specs.Opening.{Beginning}
+use Rattle.engine_life.specs.declared.closed.ClosedLife.{ClosedLife}
+use Rattle.engine_life.specs.declared.life.OpenLife.{OpenLife}
+use Rattle.engine_life.specs.declared.refusal.NoLife.{NoLife}
+use Rattle.engine_life.specs.declared.refusal.NoLife.TheVariants as no_lives
+use Rattle.engine_life.specs.FirstLives.{IsFirstLife, with_banks}
+use Rattle.engine_life.specs.Lives.{FitsLog}
+use Rattle.engine_life.specs.Refusals.{IsUnopened}
+use Rattle.session_parts.specs.OneLife.{HasLeft, IsOpened, life_of}
+use Rattle.session_parts.specs.Parts.{HasLived, report_of}
+use Rattle.tx_io.specs.Causes.{Rose}
+use Rattle.session_parts.specs.declared.part.PartEnd.{PartEnd}
+use Rattle.session_parts.specs.declared.part.PartEnd.TheVariants as ends
+use Rattle.session_parts.specs.declared.stop.Stopped.{Stopped}
+use Rattle.session_parts.specs.declared.stop.Stopped.TheVariants as stops
+use Rattle.script_source.specs.declared.life_text.LifeText.{LifeText}
+use Rattle.session_parts.specs.Leaves.{HasLeftLast}
+use Rattle.session_parts.specs.Lives.{ComesTo, HasFallen}
+use Rattle.session_parts.specs.Starts.{OpensFor}
+use Rattle.session_parts.specs.Runs.{cluster_of}
+use Rattle.session_parts.specs.Stops.{IsUndamaged, KeepsLog}
+
+module _ {L P : Type 0} (l : logs.Ghosts L) (p : disks.Ghosts P) where
+  -- A life that began so ran its part of the script, and this is its text.
+  pub record IsToldLife (names : List (List ℕ)) (its : List Item) (number : ℕ) (crash : Option How) (c : Cluster) (b : Beginning) (mounted : Volumes L P) (closed : ClosedLife L P l) (text : LifeText) : Type 0 where
+    pub steps : List Step
+    pub lived : HasLived p.tells c.banks its (life_of c b closed) steps
+    pub left : HasLeft l p c b mounted steps closed
+    pub front : IsFrontOf number b.number c.base text.front
+    pub rest : text.rest ≡ life_rest names (report_of (life_of c b closed) steps crash)
+    pub multis : IsFullMulti c.base.multi × IsFullMulti c.base.oldest_multi
+
+  -- The crash fell, and a life is open over what it left, in so many banks. If the pages tell what they hold, the log does, and
+  -- the volumes fit the log that they fitted before.
+  pub record HasGoneOn (falls : Crash → Volumes L P → Volumes L P → Type 0) (how : How) (kept : KeptLog) (c : Cluster) (banks : ℕ) (left : Volumes L P) (life : OpenLife L P l p) : Type 0 where
+    pub tells : IsTrue p.tells → IsTrue l.tells
+    pub mounted : Volumes L P
+    pub fallen : HasFallen l p falls how left mounted
+    pub banks_are : HasBanks banks mounted
+    pub fits : IsTrue p.tells → FitsLog l p kept mounted
+    pub goes : IsFirstLife kept (with_banks c banks) mounted life
+
+  -- why none goes on
+  abbrev pub IsCrashed : Cluster → (Crash → Volumes L P → Volumes L P → Type 0) → How → ℕ → ℕ → Volumes L P → (Volumes L P → Type 0) → NoLife → Type 0
+  IsCrashed c falls how before now left gives refusal =
+      IsUnopened l p c (λ banks volumes. HasFallen l p falls how left volumes) before now gives refusal × IsUndamaged l p refusal
+
+module _ {L P : Type 0} {l : logs.Ghosts L} {p : disks.Ghosts P} where
+  -- The script was run as far as these parts, and their lives were these. The next life is open, over the volumes to which
+  -- they came from those that were mounted first, so many banks. The first one begins as the run does; a later one goes on from
+  -- where the log of the one before it can be read: each behind the last record to which the log opens.
+  pub record IsRunning (s : Script) (banks : ℕ) (start : RunStart) (begun : Volumes L P) (falls : Crash → Volumes L P → Volumes L P → Type 0) (done : List LifePart) (lives : List LifeReport) (life : OpenLife L P l p) : Type 0 where
+    pub are : AreRunLives p.tells banks start done lives
+    pub cluster : Cluster
+    pub begins : Beginning
+    pub faults : List ℕ
+    pub mounted : Volumes L P
+    pub banks_are : cluster.banks ≡ banks
+    pub sessions : cluster.sessions ≡ length s.names
+    pub opened : IsOpened cluster begins faults mounted life
+    pub comes : ComesTo l p falls lives begun mounted
+    pub opens : IsTrue l.tells → OpensFor begins.number cluster.base (l.reads mounted.log)
+    pub first : lives ≡ [] → (begins.number ≡ start.number)
+        × (record { counters = cluster.base; committed = begins.committed; recorded = begins.recorded } ≡ start.base)
+    pub behind : IsTrue p.tells → (life : Life) → life.from ≡ begins.number
+        → base_of life ≡ record { counters = cluster.base; committed = begins.committed; recorded = begins.recorded } → GoesBehind lives life
+
+abbrev pub part_of : List Item → Option How → LifePart
+part_of its crash = record { items = its; crash = crash }
+
+-- but where the next life is open nothing is mounted
+abbrev pub EndsIdle : {L P : Type 0} {l : logs.Ghosts L} {p : disks.Ghosts P} → Result (PartEnd L P l p) Stopped → Type 0
+EndsIdle (Ok (ends.Next life)) = ⊥
+EndsIdle result = Unit {0}
+
+module _ {L P : Type 0} (l : logs.Ghosts L) (p : disks.Ghosts P) where
+  -- A part of the script was run behind these, with this text, and left these volumes.
+  pub record IsPartTold (s : Script) (banks : ℕ) (start : RunStart) (begun : Volumes L P) (falls : Crash → Volumes L P → Volumes L P → Type 0) (done : List LifePart) (lives : List LifeReport) (part : LifePart) (r : LifeReport) (left : Volumes L P) : Type 0 where
+    pub are : AreRunLives p.tells banks start (done ++ part ∷ []) (lives ++ r ∷ [])
+    pub lawful : IsLawfulLife p.tells banks (asked_of part.items) r
+    pub crash_is : r.crash ≡ part.crash
+    pub text : List ℕ
+    pub exact : text_so_far s.names lives ++ text ≡ text_so_far s.names (lives ++ r ∷ []) ++ last_text part.crash
+    pub last : HasLeftLast l p begun falls lives r left
+
+  -- How it ended: it was the last one, it crashed and the next life is open, or the run stopped. Where the sink failed it
+  -- holds a front of the part's text, and the media has what the life left; where memory was wanting for that text nothing of
+  -- it was written.
+  abbrev pub PartWent : Script → ℕ → RunStart → Volumes L P → (Crash → Volumes L P → Volumes L P → Type 0) → List LifePart → List LifeReport → LifePart → Option (List ℕ) → Option (List ℕ) → ℕ → ℕ
+      → ℕ → ℕ → (Volumes L P → Type 0) → Result (PartEnd L P l p) Stopped → Type 0
+  PartWent s banks start begun falls done lives part held held' faults faults' before now gives (Ok ends.Last) =
+      (part.crash ≡ None) × (r : LifeReport) × (left : Volumes L P)
+      × (told : IsPartTold s banks start begun falls done lives part r left) × Appends held held' told.text × Only left gives
+  PartWent s banks start begun falls done lives part held held' faults faults' before now gives (Ok (ends.Next life)) =
+      (how : How) × (part.crash ≡ Some how) × (r : LifeReport) × (left : Volumes L P)
+      × (told : IsPartTold s banks start begun falls done lives part r left) × Appends held held' told.text
+      × IsRunning s banks start begun falls (done ++ part ∷ []) (lives ++ r ∷ []) life
+  PartWent s banks start begun falls done lives part held held' faults faults' before now gives (Err stops.Sink) =
+      Rose faults faults' × (r : LifeReport) × (left : Volumes L P)
+      × (told : IsPartTold s banks start begun falls done lives part r left) × (n : ℕ) × Appends held held' (take n told.text) × Only left gives
+  PartWent s banks start begun falls done lives part held held' faults faults' before now gives (Err (stops.NoLife refusal)) =
+      ((refusal ≡ no_lives.Memory) × Appends held held' [])
+      ⊎ ((how : How) × (part.crash ≡ Some how) × (r : LifeReport) × (left : Volumes L P)
+      × (told : IsPartTold s banks start begun falls done lives part r left) × Appends held held' told.text
+      × IsCrashed l p (cluster_of s) falls how before now left gives refusal
+      × KeepsLog l p r.life left (HasFallen l p falls how left) before now gives refusal)

@@ -1,0 +1,12 @@
+pub mod Causes
+pub mod Parts
+pub mod Records
+pub mod Fits
+pub mod OneLife
+pub mod Starts
+pub mod Lives
+pub mod Leaves
+pub mod Runs
+pub mod Stops
+pub mod Going
+pub mod Unknown

@@ -1,0 +1,6 @@
+mod TurnLemmas
+mod Among
+mod Letting
+pub mod Returning
+mod Rounding
+mod Joining

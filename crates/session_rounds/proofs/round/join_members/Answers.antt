@@ -1,0 +1,29 @@
+use Rattle.std.proofs.Common.{◌≡◌, ◌+◌, ◌++◌, ◌∷◌, [], ap, subst, sym, ◌∙◌, get_or, take, false}
+use Rattle.std.proofs.lemmas.List.{take_more}
+use Rattle.std.proofs.lemmas.List.Elements.{All-push}
+use Rattle.std.specs.List.{All}
+use Rattle.session_rounds.specs.declared.member.Member.{Member}
+use Rattle.session_rounds.specs.Rounds.{with_members}
+use Rattle.session_rounds.proofs.Joining.{callers_set, here_same, rest_same}
+use Rattle.session_rounds.proofs.Rounding.{members_push}
+use Rattle.session_rounds.proofs.round.join_members.Goals as goal
+
+pub loop-member-preserved : goal.loop-member-preserved
+loop-member-preserved g c =
+    let keep = g.K.LineKeeper in
+    let i = c.loop-member.invariant in
+    let k = c.loop-member.member-index in
+    let d = c.member-item.result in
+    let xs = c.deref_mut-member-items.result.now in
+    let ys = c.loop-member.member-items in
+    let m = get_or ys k d in
+    let here = here_same xs ys k d i.rest in
+    let more : take (k + 1) xs ≡ take k xs ++ m ∷ [] = take_more xs k d c.loop-member-test.true ∙ ap (λ (x : Member _ _ _ _ _). take k xs ++ x ∷ []) (sym here) in
+    record {
+      sufficed = subst (All (λ (x : Member _ _ _ _ _). x.lost ≡ false)) (sym more) (All-push (λ (x : Member _ _ _ _ _). x.lost ≡ false) (take k xs) m i.sufficed c.if-member.false);
+      kept =
+          c.in_ok-join.ensures ∙ ap (λ z. keep.joined z m.kept) i.kept
+          ∙ sym (members_push keep c.args.kept.now (take k xs) m) ∙ ap (with_members keep c.args.kept.now) (sym more);
+      callers = callers_set xs ys k d c.let_lines_go.new.member c.let_lines_go.ensures i.callers;
+      rest = rest_same xs ys k c.let_lines_go.new.member i.rest;
+    }

@@ -1,0 +1,13 @@
+use Rattle.std.proofs.Common.{subst, sym, rules}
+use Rattle.session_rounds.specs.Rounds.{AllRan}
+use Rattle.session_rounds.proofs.Rounding.{written_back}
+use Rattle.session_rounds.proofs.round.run_members.Goals as goal
+
+pub returns : goal.returns
+returns g c =
+    let h = c.args.hall.now in
+    let xs = c.args.members.now.items in
+    let ys = c.run_beside.new.members in
+    let same = c.as_mut_slice-all.ensures.value in
+    let ran : AllRan g.K.LineKeeper h c.args.banks c.args.names.now c.args.round.now xs ys = subst (λ zs. AllRan g.K.LineKeeper h c.args.banks c.args.names.now c.args.round.now zs ys) same c.run_beside.ensures in
+    subst (AllRan g.K.LineKeeper h c.args.banks c.args.names.now c.args.round.now xs) (sym (written_back c.args.members.now.len xs ys ran.count (search rules))) ran

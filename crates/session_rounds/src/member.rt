@@ -1,0 +1,98 @@
+//! A session in a round: it runs its commands, and keeps their lines as they are done.
+ghost use Rattle.std.specs.Prelude.{◌≡◌, ◌+◌, ◌^◌, ◌<◌, IsOk, false, length};
+ghost use Rattle.std.specs.List.{All};
+ghost use Rattle.hall.specs.Calls.{start_of};
+ghost use Rattle.engine_parts.specs.Calls.{MayRun};
+ghost use Rattle.script_rounds.specs.Plans.{HasPlaces};
+ghost use Rattle.run_law.specs.Turns as runnable;
+ghost use Rattle.run_law.specs.Turns.{MayAsk};
+ghost use Rattle.session_turns.specs.Turns.{AreToldBy, commands_of};
+ghost use Rattle.session_rounds.specs.Members.{Begins, MayGo, RunsNext, RunsRound};
+
+use disk_core::{LogDisk, PageDisk};
+use engine_parts::{Caller, EngineLaw, command_of};
+use hall::Hall;
+use script_rounds::{LineKeeper, Plan, ToldLines, command_at};
+use session_lang::Items;
+use session_turns::CommandRunner;
+use std::alloc::Global;
+use tx_model::{Command, Memory, NameList};
+
+/// A session in a round.
+pub struct Member<K, L: LogDisk, P: PageDisk> {
+    pub caller: Caller<L, P>,
+    /// What is kept of its lines.
+    pub kept: K,
+    /// Its lines, for contracts alone.
+    pub lines: ToldLines,
+    /// Whether memory was wanting for a line. It stopped there.
+    pub lost: bool,
+}
+
+/// Runs the session's next command and keeps its line. The command ran also where memory was wanting for the line.
+fn run_turn<C: CommandRunner, K: LineKeeper, L: LogDisk, P: PageDisk>(
+    commands: &C,
+    hall: &Hall<EngineLaw<L, P>>,
+    member: &mut Member<K, L, P>,
+    banks: u32,
+    alloc: Global,
+    names: &NameList,
+    command: &Command,
+) -> Result<(), Memory>
+    requires ask { MayAsk command.now }
+    requires may { MayRun hall.now banks member.old.caller }
+    requires few { commands_of member.old.caller + 1 < 2 ^ 48 }
+    requires told { AreToldBy P.tells (start_of hall.now) }
+    ensures { RunsNext K.LineKeeper hall.now banks names.now command.now result member.old member.new }
+{
+    let reply = commands.run_command(hall, &mut member.caller, banks, alloc, command);
+    let by = command_of(&member.caller);
+    member.lines.add(by, command, &reply);
+    member.kept.add_line(names, by, command, &reply)
+}
+
+/// Runs the session's commands of a round, in their order: those at these places. Where memory is wanting it stops.
+fn run_places<C: CommandRunner, K: LineKeeper, L: LogDisk, P: PageDisk>(
+    commands: &C,
+    hall: &Hall<EngineLaw<L, P>>,
+    member: &mut Member<K, L, P>,
+    banks: u32,
+    alloc: Global,
+    names: &NameList,
+    places: &[usize],
+    round: &Items,
+) -> Result<(), Memory>
+    requires begins { Begins K.LineKeeper hall.now banks (length places.now) member.old }
+    requires items { All (runnable.MayRun (start_of hall.now).sessions) round.now }
+    requires places { HasPlaces member.old.caller.number round.now round.now places.now }
+    requires told { AreToldBy P.tells (start_of hall.now) }
+    ensures { RunsRound K.LineKeeper hall.now banks names.now round.now (IsOk result) member.old member.new }
+{
+    for place in places {
+        if let Some(command) = command_at(member.caller.number, round, *place)? {
+            run_turn(commands, hall, member, banks, alloc, names, &command)?;
+        }
+    }
+    Ok(())
+}
+
+/// Runs the session's commands of a round, at the places that the plan has for it.
+pub fn run_member<C: CommandRunner, K: LineKeeper, L: LogDisk, P: PageDisk>(
+    commands: &C,
+    hall: &Hall<EngineLaw<L, P>>,
+    member: &mut Member<K, L, P>,
+    banks: u32,
+    alloc: Global,
+    names: &NameList,
+    plan: &Plan,
+    round: &Items,
+)
+    requires items { All (runnable.MayRun (start_of hall.now).sessions) round.now }
+    requires may { MayGo K.LineKeeper hall.now banks round.now plan.now member.old }
+    requires told { AreToldBy P.tells (start_of hall.now) }
+    ensures { RunsRound K.LineKeeper hall.now banks names.now round.now (member.new.lost ≡ false) member.old member.new }
+{
+    let places = plan.places[member.caller.number as usize].items();
+    let ran = run_places(commands, hall, member, banks, alloc, names, places, round);
+    member.lost = ran.is_err();
+}

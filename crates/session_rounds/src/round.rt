@@ -1,0 +1,260 @@
+//! A round: its sessions are let in at the lock table, run on threads, and are taken back.
+ghost use Rattle.std.specs.Prelude.{◌≡◌, ℕ, List, ◌<◌, ◌≤◌, [], ◌++◌, All, OnOk, false, get_or, length, vec_capacity};
+ghost use Rattle.hall.specs.Calls.{start_of, view};
+ghost use Rattle.tx_model.specs.declared.report.Line.{Line};
+ghost use Rattle.engine_host.specs.Hosts.{HoldsAllBut, IsHost, IsParked};
+ghost use Rattle.run_law.specs.Turns as runnable;
+ghost use Rattle.run_law.specs.Turns.{turns_in};
+ghost use Rattle.script_rounds.specs.Plans.{IsPlanOf};
+ghost use Rattle.session_rounds.specs.Rounds.{AllRan, AreApart, AreBack, AreParked, AreSent, MayAdd, MayReturn, StayBehind, WentRound, callers_of, is_among, numbers_of, with_members};
+ghost use Rattle.session_turns.specs.Turns.{AreToldBy};
+ghost use Rattle.session_rounds.specs.Members.{MayGo};
+
+use crate::member::{Member, run_member};
+use disk_core::{LogDisk, PageDisk};
+use engine_host::{Host, admit, dismiss, new_session};
+use engine_parts::{EngineLaw, Session};
+use hall::Hall;
+use script_rounds::{LineKeeper, Plan, ToldLines};
+use session_lang::Items;
+use session_turns::CommandRunner;
+use std::alloc::Global;
+use std::sync::Wait;
+use std::thread::Threads;
+use std::{mem, thread};
+use tx_model::{Memory, NameList};
+
+// The laws of a keeper, where threads run too.
+fn keeper_laws<K: LineKeeper>(_names: &NameList)
+    ensures none { (kept : K) → K.with_lines _names.now kept [] ≡ kept }
+    ensures then { (kept : K) (lines more : List Line)
+        → K.with_lines _names.now (K.with_lines _names.now kept lines) more ≡ K.with_lines _names.now kept (lines ++ more) }
+    ensures join { (kept : K) (lines : List Line)
+        → K.joined kept (K.with_lines _names.now K.nothing lines) ≡ K.with_lines _names.now kept lines }
+{}
+
+// The lines of a round of so many commands are worth no room of their own beyond it.
+const MANY_COMMANDS: usize = 4_096;
+
+/// A keeper of nothing, in the room of one that is not used any more, if there is one.
+fn fresh<K: LineKeeper>(alloc: Global, spare: &mut Vec<K>) -> K
+    ensures { result ≡ K.nothing }
+{
+    match spare.pop() {
+        Some(used) => {
+            let mut kept = used;
+            kept.forget();
+            kept
+        }
+        None => K::none(alloc),
+    }
+}
+
+/// Lets the sessions of a round in.
+fn let_in<K: LineKeeper, L: LogDisk, P: PageDisk>(
+    hall: &Hall<EngineLaw<L, P>>,
+    alloc: Global,
+    host: &mut Host<L, P>,
+    numbers: &[u32],
+    sessions: &mut [Session],
+    members: &mut Vec<Member<K, L, P>>,
+    spare: &mut Vec<K>,
+)
+    requires host { IsHost hall.now host.old }
+    requires names { HoldsAllBut host.old [] }
+    requires parked { AreParked hall.now host.old sessions.old }
+    requires apart { AreApart numbers.now }
+    requires known { All (λ n. n < length sessions.old) numbers.now }
+    requires none { members.old.items ≡ [] }
+    requires room { length numbers.now ≤ vec_capacity members.old }
+    ensures host { IsHost hall.now host.new }
+    ensures cluster { host.new.cluster ≡ host.old.cluster }
+    ensures seen { (view host.new.pass).seen ≡ (view host.old.pass).seen }
+    ensures names { HoldsAllBut host.new numbers.now }
+    ensures sent { AreSent K.LineKeeper hall.now host.old sessions.old numbers.now members.new.items }
+    ensures stay { StayBehind hall.now host.new numbers.now sessions.old sessions.new }
+{
+    for number in numbers {
+        let session = mem::replace(&mut sessions[*number as usize], new_session(alloc));
+        members.push_reserved(Member {
+            caller: admit(hall, host, *number, session),
+            kept: fresh(alloc, spare),
+            lines: ToldLines::none(),
+            lost: false,
+        });
+    }
+}
+
+/// Runs the members of a round beside one another, in at most so many threads.
+fn run_beside<K: LineKeeper + Send, L: LogDisk + Send + Sync, P: PageDisk + Send + Sync>(
+    rt: &(impl Threads + Wait + Sync),
+    hall: &Hall<EngineLaw<L, P>>,
+    members: &mut [Member<K, L, P>],
+    banks: u32,
+    alloc: Global,
+    names: &NameList,
+    plan: &Plan,
+    round: &Items,
+    threads: usize,
+    commands: &(impl CommandRunner + Sync),
+)
+    requires threads { 0 < threads }
+    requires items { All (runnable.MayRun (start_of hall.now).sessions) round.now }
+    requires may { All (MayGo K.LineKeeper hall.now banks round.now plan.now) members.old }
+    requires told { AreToldBy P.tells (start_of hall.now) }
+    ensures { AllRan K.LineKeeper hall.now banks names.now round.now members.old members.new }
+{
+    thread::for_each_mut(
+        rt,
+        members,
+        threads,
+        &|_, member| run_member(commands, hall, member, banks, alloc, names, plan, round),
+    );
+}
+
+/// Runs the members of a round.
+fn run_members<K: LineKeeper + Send, L: LogDisk + Send + Sync, P: PageDisk + Send + Sync>(
+    rt: &(impl Threads + Wait + Sync),
+    hall: &Hall<EngineLaw<L, P>>,
+    members: &mut Vec<Member<K, L, P>>,
+    banks: u32,
+    alloc: Global,
+    names: &NameList,
+    plan: &Plan,
+    round: &Items,
+    threads: usize,
+    commands: &(impl CommandRunner + Sync),
+)
+    requires threads { 0 < threads }
+    requires items { All (runnable.MayRun (start_of hall.now).sessions) round.now }
+    requires may { All (MayGo K.LineKeeper hall.now banks round.now plan.now) members.old.items }
+    requires told { AreToldBy P.tells (start_of hall.now) }
+    ensures { AllRan K.LineKeeper hall.now banks names.now round.now members.old.items members.new.items }
+{
+    let all = members.as_mut_slice();
+    run_beside(
+        rt, hall, all, banks, alloc, names, plan, round, threads, commands,
+    );
+}
+
+/// Lets what a member keeps go, where it may be much.
+fn let_lines_go<K: LineKeeper + Drop, L: LogDisk, P: PageDisk>(
+    alloc: Global,
+    member: &mut Member<K, L, P>,
+    much: bool,
+)
+    ensures { member.new.caller ≡ member.old.caller }
+{
+    if much {
+        member.kept = K::none(alloc);
+    }
+}
+
+/// Keeps what the members kept, one member behind another. Where they keep much, each lets it go as soon as it is kept
+/// here, so that no more than one member's lines are held twice.
+fn join_members<K: LineKeeper + Drop, L: LogDisk, P: PageDisk>(
+    alloc: Global,
+    members: &mut Vec<Member<K, L, P>>,
+    kept: &mut K,
+    much: bool,
+) -> Result<(), Memory>
+    ensures sufficed { OnOk result (All (λ m. m.lost ≡ false) members.old.items) }
+    ensures kept { OnOk result (kept.new ≡ with_members K.LineKeeper kept.old members.old.items) }
+    ensures callers { callers_of members.new.items ≡ callers_of members.old.items }
+{
+    for member in members.iter_mut() {
+        if member.lost {
+            return Err(Memory);
+        }
+        kept.join(&member.kept)?;
+        let_lines_go(alloc, member, much);
+    }
+    Ok(())
+}
+
+/// Takes the sessions of a round back, and their keepers for the next round.
+fn take_back<K: LineKeeper + Drop, L: LogDisk, P: PageDisk>(
+    hall: &Hall<EngineLaw<L, P>>,
+    host: &mut Host<L, P>,
+    members: &mut Vec<Member<K, L, P>>,
+    sessions: &mut [Session],
+    spare: &mut Vec<K>,
+)
+    requires host { IsHost hall.now host.old }
+    requires names { HoldsAllBut host.old (numbers_of members.old.items) }
+    requires may { All (MayReturn hall.now host.old.cluster.banks (length sessions.old)) members.old.items }
+    requires apart { AreApart (numbers_of members.old.items) }
+    requires others { (n : ℕ) (d : Session) → n < length sessions.old → is_among (numbers_of members.old.items) n ≡ false
+        → IsParked hall.now host.old n (get_or sessions.old n d) }
+    ensures none { members.new.items ≡ [] }
+    ensures host { IsHost hall.now host.new }
+    ensures cluster { host.new.cluster ≡ host.old.cluster }
+    ensures names { HoldsAllBut host.new [] }
+    ensures parked { AreParked hall.now host.new sessions.new }
+    ensures back { AreBack host.old host.new members.old.items sessions.old sessions.new }
+{
+    while let Some(member) = members.pop() {
+        let Member {
+            caller,
+            kept,
+            lines: _,
+            lost: _,
+        } = member;
+        let number = caller.number;
+        let session = dismiss(hall, host, caller);
+        sessions[number as usize] = session;
+        // Without memory for its place it goes.
+        let _ = spare.push(kept);
+    }
+}
+
+/// Runs a round of sessions over the lock table, in at most so many threads: each session with its commands, in their
+/// order. Keeps their lines, session by session in the order in which they first appear in the round.
+///
+/// Where memory is wanting for the lines, the run is lost. The sessions are taken back then too.
+pub fn run_round<K: LineKeeper + Send + Drop, L: LogDisk + Send + Sync, P: PageDisk + Send + Sync>(
+    rt: &(impl Threads + Wait + Sync),
+    alloc: Global,
+    hall: &Hall<EngineLaw<L, P>>,
+    host: &mut Host<L, P>,
+    sessions: &mut [Session],
+    plan: &Plan,
+    round: &Items,
+    names: &NameList,
+    kept: &mut K,
+    spare: &mut Vec<K>,
+    threads: usize,
+    commands: &(impl CommandRunner + Sync),
+) -> Result<(), Memory>
+    requires threads { 0 < threads }
+    requires host { IsHost hall.now host.old }
+    requires all { HoldsAllBut host.old [] }
+    requires parked { AreParked hall.now host.old sessions.old }
+    requires count { length sessions.old ≡ host.old.cluster.sessions }
+    requires room { MayAdd (length round.now) sessions.old }
+    requires items { All (runnable.MayRun (length sessions.old)) round.now }
+    requires plan { IsPlanOf round.now round.now plan.now × (length plan.now.places.items ≡ length sessions.old) }
+    requires told { AreToldBy P.tells (start_of hall.now) }
+    ensures host { IsHost hall.now host.new }
+    ensures cluster { host.new.cluster ≡ host.old.cluster }
+    ensures all { HoldsAllBut host.new [] }
+    ensures parked { AreParked hall.now host.new sessions.new }
+    ensures count { length sessions.new ≡ length sessions.old }
+    ensures went { OnOk result ((lines : List Line)
+        × WentRound hall.now (turns_in round.now) host.old host.new sessions.old sessions.new lines
+        × (kept.new ≡ K.with_lines names.now kept.old lines)) }
+{
+    keeper_laws::<K>(names);
+    let mut sent = Vec::with_capacity(alloc, plan.sessions.len())?;
+    let banks = host.cluster.banks;
+    let numbers = plan.sessions.as_slice();
+    let_in(hall, alloc, host, numbers, sessions, &mut sent, spare);
+    run_members(
+        rt, hall, &mut sent, banks, alloc, names, plan, round, threads, commands,
+    );
+    let much = round.len() >= MANY_COMMANDS;
+    let joined = join_members(alloc, &mut sent, kept, much);
+    take_back(hall, host, &mut sent, sessions, spare);
+    sent.destroy_empty();
+    joined
+}

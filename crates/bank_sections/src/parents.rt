@@ -26,7 +26,7 @@ use engine_parts::{
 use hall::{Hall, Note};
 use slru_bank::BankRefusal;
 use store_pages::subtrans_page;
-use subtrans_log::{parent as stored_parent, set_parent};
+use bank_stores::{parent as stored_parent, set_parent};
 use tx_core::Entry;
 use tx_events::{By, FullXid, Xid, near, subtrans_page_in_full};
 

@@ -28,7 +28,7 @@ use engine_parts::{
     leave_quiet,
 };
 use hall::{Hall, Note};
-use multi_offsets::{offset as stored_offset, set_offset};
+use bank_stores::{offset as stored_offset, set_offset};
 use slru_bank::BankRefusal;
 use store_pages::{offset_page, offset_page_in_full};
 use tx_core::Entry;

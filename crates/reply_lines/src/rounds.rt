@@ -11,8 +11,8 @@ ghost use Rattle.reply_lines.specs.Known.{IsKnown};
 use crate::both::{all_three, both};
 use crate::known::Known;
 use event_rules::{are_multis_theirs, are_theirs, count_of_events, count_of_multis};
-use legal_fronts::{are_legal_to, is_legal_to};
-use multi_told::{Reach, reach_of};
+use event_rules::{are_legal_to, is_legal_to};
+use command_events::{Reach, reach_of};
 
 /// Where a round stands: behind the first `from` events and among the first `to`, and so among the multixact events; which
 /// ids a member may mean that is written in it; and whether what goes by the histories is judged in it.

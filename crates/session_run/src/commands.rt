@@ -13,7 +13,7 @@ ghost use Rattle.session_run.specs.Turns.{AreToldBy, IsMade, IsRaised, IsTrimmed
 use disk_core::{LogDisk, PageDisk};
 use engine_parts::{Caller, EngineLaw, Passing};
 use hall::Hall;
-use multi_freezes::{multi_freeze, trim};
+use xact_freezes::{multi_freeze, trim};
 use multi_makes::multi;
 use multi_store::MultiGiven;
 use std::alloc::Global;

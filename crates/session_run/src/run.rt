@@ -37,7 +37,7 @@ use notes::Note;
 use report_text::Text;
 use script_gen::Summary;
 use script_rounds::{LineKeeper, RoundThreads, Tally, next_part};
-use script_source::{LifeText, front_of, have_full_multis, put_life};
+use script_rounds::{LifeText, front_of, have_full_multis, put_life};
 use session_lang::{Items, Script};
 use std::alloc::Global;
 use std::sync::Wait;

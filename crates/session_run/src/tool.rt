@@ -18,7 +18,7 @@ use engine_parts::Gate;
 use script_gen::laws::generated_scripts_run;
 use script_gen::{Task, generate, task_of};
 use script_rounds::RoundThreads;
-use script_source::take_script;
+use script_rounds::take_script;
 use std::alloc::Global;
 use std::sync::Wait;
 use std::thread::Threads;

@@ -15,7 +15,7 @@ use disk_core::{LogDisk, PageDisk};
 use engine_parts::{Caller, EngineLaw, Passing};
 use hall::Hall;
 use multi_banks::read_members;
-use multi_members::Slot;
+use bank_stores::Slot;
 use multi_store::Held;
 use slru_bank::BankRefusal;
 use store_pages::{bank_of, member_page};

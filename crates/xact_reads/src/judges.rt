@@ -19,7 +19,7 @@ use crate::shows::show;
 use disk_core::{LogDisk, PageDisk};
 use engine_parts::{Caller, EngineLaw, Passing};
 use hall::Hall;
-use multi_members::Slot;
+use bank_stores::Slot;
 use proc_sections::read_oldest;
 use session_levels::registered_as;
 use tx_events::{FullXid, Mode, Name, Refusal, Xid};

@@ -14,7 +14,7 @@ use crate::judges::judge_all;
 use disk_core::{LogDisk, PageDisk};
 use engine_parts::{Caller, EngineLaw, Passing, count};
 use hall::Hall;
-use multi_members::Slot;
+use bank_stores::Slot;
 use multi_sections::{pin_multi, unpin_multi};
 use session_levels::registered_as;
 use std::alloc::Global;

@@ -19,9 +19,7 @@ use crate::cut::{is_member_cut, is_offset_cut, is_subtrans_cut, is_xact_cut};
 use crate::cuts::Cuts;
 use crate::gens::GenMark;
 use crate::shown::shows_all;
-use history_places::HistoryPlaces;
-use history_places::IdMark;
-use history_places::MultiPlaces;
+use history_places::{HistoryPlaces, IdMark, MultiPlaces};
 use tx_events::{Lock, Refusal};
 use tx_model::{DumpOf, Reply};
 

@@ -11,8 +11,7 @@ ghost use Rattle.report_law.specs.Dumps.{HasBits, HasWord, parent_or_none, state
 ghost use Rattle.dump_rules.specs.Shown.{ShowsParent, ShowsState};
 
 use crate::bytes::{has_bits, has_word};
-use history_places::HistoryPlaces;
-use history_places::{IdMark, was_running};
+use history_places::{HistoryPlaces, IdMark, was_running};
 use store_pages::{subtrans_page, subtrans_place, xact_page};
 use tx_events::FullXid;
 

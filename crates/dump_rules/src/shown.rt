@@ -11,9 +11,7 @@ ghost use Rattle.dump_rules.specs.Shown.{AreEpochs, Behind, ShowsLow, ShowsNumbe
 use crate::gens::GenMark;
 use crate::ids::{legal, shows_parent, shows_state};
 use crate::multis::{shows_member, shows_offset};
-use history_places::HistoryPlaces;
-use history_places::IdMark;
-use history_places::MultiPlaces;
+use history_places::{HistoryPlaces, IdMark, MultiPlaces};
 use place_columns::Span;
 use tx_model::DumpOf;
 

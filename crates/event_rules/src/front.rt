@@ -12,8 +12,7 @@ ghost use Rattle.tx_events.specs.History.{ComesInTurn, IsLegal, MayCome};
 ghost use Rattle.history_places.specs.SnapMarks.{AreSnapMarks, IsSnapMark};
 ghost use Rattle.event_rules.specs.Fronts.{AreTold, IsFront, list_at};
 
-use history_places::HistoryPlaces;
-use history_places::{SnapMark, snap_mark};
+use history_places::{HistoryPlaces, SnapMark, snap_mark};
 use place_columns::OwnEvents;
 use std::alloc::Global;
 use tx_events::{Counters, Event, Memory, SnapData};

@@ -30,16 +30,13 @@ ghost use Rattle.event_rules.specs.SnapsTold.{told_by, told_lists};
 ghost use Rattle.life_tables.specs.Lives.{LifeAt, RisesFrom, judged_life};
 
 use crate::committed::add_all_committed;
-use place_columns::{GivenCounts, given_counts};
-use history_places::HistoryPlaces;
 use event_rules::{HistoryFront, history_front, multi_front};
-use history_places::SnapMark;
-use multi_rules::late_multis;
-use history_places::{MultiPlaces, Start};
-use multi_rules::{Taken, taken_by_lines};
+use history_places::{HistoryPlaces, MultiPlaces, SnapMark, Start};
+use multi_rules::{Taken, late_multis, taken_by_lines};
+use place_columns::{
+    GivenCounts, LineTable, Own, OwnEvents, Owned, bys_of, given_counts, own_places,
+};
 use place_rules::open_counts;
-use place_columns::{LineTable, OwnEvents, Owned, bys_of};
-use place_columns::{Own, own_places};
 use reply_rules::{
     LogEnd, Logs, are_log_faults, commit_tops, is_any_stray, recorded_multis, room_of, truncations,
 };

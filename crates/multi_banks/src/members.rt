@@ -23,13 +23,13 @@ ghost use Rattle.multi_banks.specs.Sections.{BankSection, IsMemberCut};
 use crate::entries::zeroed_note;
 use crate::refused::leave_refused;
 use crate::stored::low_offset;
+use bank_stores::{Slot, read_members as stored_members, write_members};
 use disk_core::{LogDisk, PageDisk};
 use engine_parts::{
     Caller, EngineLaw, Part, Passing, command_of, enter_members, fault_note, leave_looked,
     leave_quiet,
 };
 use hall::{Hall, Note};
-use bank_stores::{Slot, read_members as stored_members, write_members};
 use slru_bank::BankRefusal;
 use store_pages::{member_page, member_page_in_full};
 use tx_core::Entry;

@@ -14,8 +14,8 @@ ghost use Rattle.place_columns.specs.OwnPlaces.{AnyPlace, ArePlacesOf};
 ghost use Rattle.multi_rules.specs.Gens.{AreStartsOf, IsAboveAt, IsRecordedIn, Waiting, WaitsIn, is_ok_gen};
 
 use crate::made::gen_place;
-use place_columns::GivenCounts;
 use history_places::{MultiPlaces, Start};
+use place_columns::GivenCounts;
 use std::collections::BTreeSet;
 use tx_events::{By, FullMulti, MultiEvent};
 

@@ -9,8 +9,7 @@ ghost use Rattle.multi_rules.specs.Snapped.{AreFirst, AreInHistory};
 ghost use Rattle.multi_rules.specs.Telling.{IsUnseen};
 
 use crate::taken::Taken;
-use history_places::HistoryPlaces;
-use history_places::was_visible;
+use history_places::{HistoryPlaces, was_visible};
 use std::collections::BTreeSet;
 use tx_events::FullXid;
 

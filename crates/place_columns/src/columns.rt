@@ -6,8 +6,8 @@ ghost use Rattle.place_columns.specs.declared.lines.LineAt.{LineAt};
 ghost use Rattle.place_columns.specs.Lined.{most_of, number_of, step_at};
 ghost use Rattle.place_columns.specs.Tables.{AreCounts, AreListed, AreRanks};
 
-use crate::lines::{LineAt, LineTable};
 use crate::column_of;
+use crate::lines::{LineAt, LineTable};
 use std::alloc::Global;
 use tx_events::{By, Memory};
 

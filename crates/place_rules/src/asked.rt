@@ -16,8 +16,7 @@ ghost use Rattle.report_law.specs.Steps.{IsFutureAt, IsStatusAt};
 ghost use Rattle.place_rules.specs.Runs.{AreItsPlaces, Asking, IsAsk, IsFutureHere, IsStatusHere, IsWarnedHere};
 
 use crate::visible::legal;
-use history_places::HistoryPlaces;
-use history_places::{IdMark, was_running, was_visible};
+use history_places::{HistoryPlaces, IdMark, was_running, was_visible};
 use std::collections::BTreeSet;
 use tx_events::{Event, FullXid, Limits};
 use tx_model::Status;

@@ -12,8 +12,7 @@ ghost use Rattle.place_rules.specs.Runs.{AreReadPlaces, Asked, Did, IsDidHere, I
 
 use crate::nearest::is_older;
 use crate::visible::legal;
-use history_places::HistoryPlaces;
-use history_places::was_visible;
+use history_places::{HistoryPlaces, was_visible};
 use std::collections::BTreeSet;
 use tx_events::{FullXid, Xid, near};
 

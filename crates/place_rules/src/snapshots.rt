@@ -16,8 +16,7 @@ ghost use Rattle.place_rules.specs.Runs.{AreItsPlaces, Carrying, IsOlderAt, IsRi
 
 use crate::nearest::{is_older, seen_id};
 use crate::visible::legal;
-use history_places::HistoryPlaces;
-use history_places::{SnapMark, was_visible};
+use history_places::{HistoryPlaces, SnapMark, was_visible};
 use std::collections::BTreeSet;
 use tx_events::{FullXid, Xid};
 

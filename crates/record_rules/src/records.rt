@@ -16,13 +16,12 @@ ghost use Rattle.record_rules.specs.Counts.{AreCounted};
 ghost use Rattle.record_rules.specs.Firsts.{AreSeen};
 ghost use Rattle.record_rules.specs.Judging.{IsBrokenAt, IsFirstUnlawful, IsJudging, IsKnownWhole};
 
-use crate::first_no_base;
-use history_places::MultiPlaces;
 use crate::{
-    Announced, CounterCounts, Seen, Transactions, announced_of, is_abort_recorded, is_announced,
-    is_announced_multi, is_asked, is_commit_recorded, is_first, none_seen, note_record,
-    transactions_of,
+    Announced, CounterCounts, Seen, Transactions, announced_of, first_no_base, is_abort_recorded,
+    is_announced, is_announced_multi, is_asked, is_commit_recorded, is_first, none_seen,
+    note_record, transactions_of,
 };
+use history_places::MultiPlaces;
 use std::alloc::Global;
 use tx_events::{Counters, FullMulti, Member, Memory, MultiEvent, Rec};
 use tx_model::LifeReport;

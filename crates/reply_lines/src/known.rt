@@ -1,12 +1,7 @@
 //! What is known of a life before its lines are judged.
-use place_columns::GivenCounts;
-use multi_rules::LimitAt;
-use history_places::HistoryPlaces;
-use history_places::{IdMark, SnapMark};
-use history_places::{MultiPlaces, Start};
-use multi_rules::{Home, Taken};
-use place_columns::{LineTable, OwnEvents};
-use place_columns::Own;
+use history_places::{HistoryPlaces, IdMark, MultiPlaces, SnapMark, Start};
+use multi_rules::{Home, LimitAt, Taken};
+use place_columns::{GivenCounts, LineTable, Own, OwnEvents};
 use reply_rules::{LogEnd, Logs};
 use std::collections::BTreeSet;
 

@@ -9,10 +9,10 @@ ghost use Rattle.report_law.specs.ReportLines.{IsLawfulAt, lives_lines};
 ghost use Rattle.reply_rules.specs.Logs.{AreRecordedMultis};
 ghost use Rattle.report_check.specs.Keeping.{HasGrown, IsLeft, IsLeftBefore, IsNothingKept, kept_home, kept_homes, kept_start};
 
-use record_rules::{begins_behind, begins_log, starts_go_by_the_last};
-use life_tables::add_all_committed;
 use history_places::Start;
+use life_tables::add_all_committed;
 use multi_rules::Home;
+use record_rules::{begins_behind, begins_log, starts_go_by_the_last};
 use reply_lines::Kept;
 use reply_rules::recorded_multis;
 use std::alloc::Global;

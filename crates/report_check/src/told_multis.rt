@@ -17,8 +17,8 @@ ghost use Rattle.report_law.specs.Steps.{HasFirstMultis, Judged};
 ghost use Rattle.reply_lines.specs.At.{IsReportOf};
 ghost use Rattle.reply_lines.specs.Known.{IsKnown};
 
-use event_rules::count_of_events;
 use command_events::{is_told_multi, reach_of};
+use event_rules::count_of_events;
 use place_columns::LineTable;
 use reply_lines::{Known, multis_at};
 use std::alloc::Global;

@@ -1,6 +1,6 @@
-use Rattle.section_fits.proofs.MultisThrough.{members_course, offsets_course}
-use Rattle.section_fits.proofs.Through.{course_follows}
-use Rattle.section_fits.proofs.laws.course_follows.Goals as goal
+use Rattle.engine_life.proofs.MultisThrough.{members_course, offsets_course}
+use Rattle.engine_life.proofs.Through.{course_follows}
+use Rattle.engine_life.proofs.fits.course_follows.Goals as goal
 
 pub returns-clause-states : goal.returns-clause-states
 returns-clause-states g c start bank lists store told kept few course = course_follows g.P.PageDisk start bank told (λ d x now. g.met.P.PageDisk.only_now d x told now) lists store kept few course

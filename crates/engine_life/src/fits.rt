@@ -1,5 +1,5 @@
-ghost use Rattle.section_fits.specs.Courses.{CourseFollows, MembersCourseFollows, OffsetsCourseFollows};
-ghost use Rattle.section_fits.specs.Sections.{MembersMoments, OffsetsMoments, SectionsFit, StatesMoments};
+ghost use Rattle.engine_life.specs.Courses.{CourseFollows, MembersCourseFollows, OffsetsCourseFollows};
+ghost use Rattle.engine_life.specs.Sections.{MembersMoments, OffsetsMoments, SectionsFit, StatesMoments};
 
 use disk_core::PageDisk;
 use store_pages::PageRule;

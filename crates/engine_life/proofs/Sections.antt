@@ -18,7 +18,7 @@ use Rattle.recoverable.specs.Whole.{IsShort}
 use Rattle.recoverable.proofs.LogSteps.{log_goes_on}
 use Rattle.recoverable.proofs.Whole.{image_fits}
 use Rattle.bank_follows.proofs.Stores.{images_follow}
-use Rattle.section_fits.specs.Sections.{AsksVolume, IsBankLock, IsForget, MembersMoments, OffsetsMoments, SectionsFit, StatesMoments}
+use Rattle.engine_life.specs.Sections.{AsksVolume, IsBankLock, IsForget, MembersMoments, OffsetsMoments, SectionsFit, StatesMoments}
 
 -- a bank's lock is none of the others
 past_others : (lock : ℕ) → IsBankLock lock → 2 < lock

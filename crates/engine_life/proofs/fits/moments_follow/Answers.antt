@@ -1,5 +1,5 @@
-use Rattle.section_fits.proofs.Sections.{members_moments, offsets_moments, states_moments}
-use Rattle.section_fits.proofs.laws.moments_follow.Goals as goal
+use Rattle.engine_life.proofs.Sections.{members_moments, offsets_moments, states_moments}
+use Rattle.engine_life.proofs.fits.moments_follow.Goals as goal
 
 pub returns-clause-states : goal.returns-clause-states
 returns-clause-states g c = states_moments g.P.PageDisk.images g.P.PageDisk.moment g.P.PageDisk.left_at

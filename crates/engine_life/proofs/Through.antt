@@ -40,7 +40,7 @@ use Rattle.bank_follows.proofs.StateSetting.{states_set}
 use Rattle.bank_follows.proofs.Stores.{images_follow}
 use Rattle.engine_parts.specs.Course.{HasCourse, IsOpened, Looked, Marked, Noted, PageMade, Removed, Step, Synced, Went}
 use Rattle.engine_parts.specs.Stand.{number_of_state}
-use Rattle.section_fits.specs.Courses.{FollowsBeginning, FollowsThroughout}
+use Rattle.engine_life.specs.Courses.{FollowsBeginning, FollowsThroughout}
 
 -- the bits of a state
 same_code : (o : Option State) → number_of_state o ≡ code_of o

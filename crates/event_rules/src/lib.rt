@@ -7,13 +7,13 @@ mod both;
 mod events;
 mod front;
 mod judged;
-mod multi_front;
+mod multi_fronts;
 mod multis;
 mod same;
 
 pub use events::is_its_event;
 pub use front::{HistoryFront, history_front, is_legal_to, may_come_at};
 pub use judged::{are_multis_theirs, are_theirs, count_of_events, count_of_multis};
-pub use multi_front::{are_legal_to, multi_front, multi_may_come_at};
+pub use multi_fronts::{are_legal_to, multi_front, multi_may_come_at};
 pub use multis::is_its_multi;
 pub use same::Same;

@@ -6,7 +6,7 @@ pub mod SnapsRead
 pub mod Bounds
 pub mod Snaps
 pub mod Refusing
-pub mod Rules
+pub mod SeenRules
 pub mod Apart
 pub mod Earlier
 pub mod Counting

@@ -1,6 +1,6 @@
 use Rattle.std.proofs.Common.{arith}
 use Rattle.std.proofs.lemmas.Bool.{false≢true}
-use Rattle.place_rules.proofs.Rules.{no_future}
+use Rattle.place_rules.proofs.SeenRules.{no_future}
 use Rattle.place_rules.proofs.asked.is_future_at.Goals as goal
 
 pub returns : goal.returns

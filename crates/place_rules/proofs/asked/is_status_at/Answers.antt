@@ -2,7 +2,7 @@ use Rattle.std.proofs.Common.{get_or, refl, sym, ◌∙◌, arith}
 use Rattle.std.proofs.lemmas.Bool.{false≢true}
 use Rattle.place_rules.proofs.Looking.{none_more}
 use Rattle.place_rules.specs.Runs.{IsStatusHere}
-use Rattle.place_rules.proofs.Rules.{no_status, status_here}
+use Rattle.place_rules.proofs.SeenRules.{no_status, status_here}
 use Rattle.place_rules.proofs.asked.is_status_at.Goals as goal
 
 pub returns-then-stood_so : goal.returns-then-stood_so

@@ -2,7 +2,7 @@ use Rattle.std.proofs.Common.{get_or, refl, sym, ◌∙◌, arith}
 use Rattle.std.proofs.lemmas.Bool.{false≢true}
 use Rattle.place_rules.proofs.Looking.{none_more}
 use Rattle.place_rules.specs.Runs.{IsWarnedHere}
-use Rattle.place_rules.proofs.Rules.{no_warning, warned_here}
+use Rattle.place_rules.proofs.SeenRules.{no_warning, warned_here}
 use Rattle.place_rules.proofs.asked.is_warned.Goals as goal
 
 pub returns-then-warns : goal.returns-then-warns

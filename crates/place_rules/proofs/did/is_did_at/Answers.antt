@@ -2,7 +2,7 @@ use Rattle.std.proofs.Common.{refl, sym, ◌∙◌, arith}
 use Rattle.std.proofs.lemmas.Bool.{false≢true}
 use Rattle.place_rules.specs.Runs.{IsDidHere}
 use Rattle.place_rules.proofs.SnapsRead.{none_up_to, up_to}
-use Rattle.place_rules.proofs.Rules.{did_here, not_did}
+use Rattle.place_rules.proofs.SeenRules.{did_here, not_did}
 use Rattle.place_rules.proofs.did.is_did_at.Goals as goal
 
 pub returns-then-is_right_answer : goal.returns-then-is_right_answer

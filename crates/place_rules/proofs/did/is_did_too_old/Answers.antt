@@ -1,5 +1,5 @@
 use Rattle.std.proofs.Common.{refl, arith}
-use Rattle.place_rules.proofs.Rules.{too_old_here}
+use Rattle.place_rules.proofs.SeenRules.{too_old_here}
 use Rattle.place_rules.proofs.did.is_did_too_old.Goals as goal
 
 pub returns-then-is_older_there : goal.returns-then-is_older_there

@@ -3,7 +3,7 @@ use Rattle.std.proofs.lemmas.Bool.{false≢true}
 use Rattle.history_places.specs.Told.{next_in}
 use Rattle.place_rules.specs.Members.{HasUngiven}
 use Rattle.place_rules.proofs.SnapsRead.{up_to}
-use Rattle.place_rules.proofs.Rules.{all_given, ungiven_here}
+use Rattle.place_rules.proofs.SeenRules.{all_given, ungiven_here}
 use Rattle.place_rules.proofs.members.is_not_given.Goals as goal
 
 pub returns-then-is_ungiven_at : goal.returns-then-is_ungiven_at

@@ -3,7 +3,7 @@ use Rattle.std.proofs.lemmas.Bool.{false≢true}
 use Rattle.history_places.specs.Told.{next_in}
 use Rattle.place_rules.specs.Members.{HasOld}
 use Rattle.place_rules.proofs.SnapsRead.{up_to}
-use Rattle.place_rules.proofs.Rules.{none_too_old, old_member_here}
+use Rattle.place_rules.proofs.SeenRules.{none_too_old, old_member_here}
 use Rattle.place_rules.proofs.members.is_old_member.Goals as goal
 
 pub returns-then-has_old_at : goal.returns-then-has_old_at

@@ -1,6 +1,6 @@
 use Rattle.std.proofs.Common.{◌≡◌, length, sym, ◌∙◌, eqb-true, arith}
 use Rattle.std.proofs.lemmas.Bool.{false≢true}
-use Rattle.place_rules.proofs.Rules.{not_seen}
+use Rattle.place_rules.proofs.SeenRules.{not_seen}
 use Rattle.place_rules.proofs.snapshots.is_seen.Goals as goal
 
 pub returns-then-is_empty : goal.returns-then-is_empty

@@ -1,6 +1,6 @@
 use Rattle.std.proofs.Common.{arith}
 use Rattle.std.proofs.lemmas.Bool.{false≢true}
-use Rattle.place_rules.proofs.Rules.{not_too_old}
+use Rattle.place_rules.proofs.SeenRules.{not_too_old}
 use Rattle.place_rules.proofs.snapshots.is_too_old_for.Goals as goal
 
 pub returns : goal.returns

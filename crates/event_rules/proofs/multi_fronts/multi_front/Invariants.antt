@@ -1,5 +1,5 @@
 use Rattle.std.proofs.Common.{◌≡◌, take}
-use Rattle.event_rules.proofs.multi_front.multi_front.Given as goal
+use Rattle.event_rules.proofs.multi_fronts.multi_front.Given as goal
 
 abbrev pub invariant-loop-event : goal.invariant-loop-event
 invariant-loop-event l = record {

@@ -1,7 +1,7 @@
 use Rattle.std.proofs.Common.{length}
 use Rattle.event_rules.proofs.Fronting.{both_ways, test_lt}
 use Rattle.event_rules.proofs.MultiFronting.{multi_comes_at}
-use Rattle.event_rules.proofs.multi_front.multi_may_come_at.Goals as goal
+use Rattle.event_rules.proofs.multi_fronts.multi_may_come_at.Goals as goal
 
 pub returns : goal.returns
 returns c = λ base starts h e f before at.

@@ -4,7 +4,7 @@ use Rattle.history_places.specs.MultiTold.{MultiReplayed}
 use Rattle.history_places.specs.Starts.{BeginsAs}
 use Rattle.event_rules.specs.Fronts.{IsMultiFront}
 use Rattle.event_rules.proofs.MultiFronting.{multi_front_here, multi_front_whole}
-use Rattle.event_rules.proofs.multi_front.multi_front.Goals as goal
+use Rattle.event_rules.proofs.multi_fronts.multi_front.Goals as goal
 
 pub returns-then-not-branch : goal.returns-then-not-branch
 returns-then-not-branch c =

@@ -1,7 +1,7 @@
 use Rattle.std.proofs.Common.{length}
 use Rattle.event_rules.proofs.Fronting.{both_ways, test_le}
 use Rattle.event_rules.proofs.MultiFronting.{multis_legal_to}
-use Rattle.event_rules.proofs.multi_front.are_legal_to.Goals as goal
+use Rattle.event_rules.proofs.multi_fronts.are_legal_to.Goals as goal
 
 pub returns : goal.returns
 returns c = λ base starts h f l.

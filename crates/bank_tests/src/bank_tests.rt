@@ -1,138 +1,181 @@
 // The bank over volumes in memory, and over one that counts its calls; and the bytes of the stores.
-use crate::lines::check_rows;
-use std::test::Fail;
+use crate::banks::Answer::{self, Done, Holds, Refused};
+use crate::banks::Call::{self, *};
+use crate::banks::{check, memory_bank};
+use crate::counted::{IdPages, counted_bank, counts};
+use crate::stores;
+use disk_core::{MemPages, PageDisk};
+use slru_bank::BankRefusal::{Cut, DiskFault};
+use slru_bank::SlruBank;
 
-const ROWS: &str = "=== seventeen_pages_read_back
-memory
-set 0 5 1
-set 1 5 2
-set 2 5 3
-set 3 5 4
-set 4 5 5
-set 5 5 6
-set 6 5 7
-set 7 5 8
-set 8 5 9
-set 9 5 10
-set 10 5 11
-set 11 5 12
-set 12 5 13
-set 13 5 14
-set 14 5 15
-set 15 5 16
-set 16 5 17
-byte 0 5 -> 1
-byte 1 5 -> 2
-byte 2 5 -> 3
-byte 3 5 -> 4
-byte 4 5 -> 5
-byte 5 5 -> 6
-byte 6 5 -> 7
-byte 7 5 -> 8
-byte 8 5 -> 9
-byte 9 5 -> 10
-byte 10 5 -> 11
-byte 11 5 -> 12
-byte 12 5 -> 13
-byte 13 5 -> 14
-byte 14 5 -> 15
-byte 15 5 -> 16
-byte 16 5 -> 17
-=== truncated_pages_are_cut
-memory
-put 31 0 31
-put 32 0 32
-flush
-truncate 32
-number 31 0 -> Err(Cut { cutoff: 32 })
-number 32 0 -> Ok(32)
-zero 31 -> Err(Cut { cutoff: 32 })
-volume -> Ok(Some(32))
-=== zero_keeps_a_page_that_was_made
-memory
-put 2 0 7
-zero 2
-number 2 0 -> Ok(0)
-put 2 0 8
-zero 2
-zero 1
-number 2 0 -> Ok(8)
-=== pages_after_one_are_cleared, and all
-memory
-1 3 | put # 0 #
-1 3 | put # 4 #
-flush
-clear-after 2 4
-number 1 4 -> Ok(1)
-number 2 0 -> Ok(2)
-number 2 4 -> Ok(0)
-number 3 0 -> Ok(0)
-clear-all
-number 1 0 -> Ok(0)
-volume -> Ok(None)
-=== least_recently_used_page_is_replaced: one page past sixteen takes the place of page 1
-counted 100
-0 15 | byte # 0 -> 0
-byte 0 0 -> 0
-byte 16 0 -> 0
-byte 0 0 -> 0
-byte 2 0 -> 0
-byte 15 0 -> 0
-volume -> (17, 0)
-=== failed_read_is_a_disk_fault
-counted 1
-number 0 0 -> Ok(0)
-number 1 0 -> Err(DiskFault)
-number 0 0 -> Ok(0)
-volume -> (1, 1)
-=== status_bits_on_page
-xacts
-set-three
-front 0 -> [64, 6, 0, 0, 0, 0, 0, 0, 0, 0, 0, 0, 0, 0, 0, 0]
-state 4 -> Ok(Aborted)
-state 5 -> Ok(Committed)
-state 6 -> Ok(InProgress)
-trim-states 5
-state 4 -> Ok(Aborted)
-state 5 -> Ok(InProgress)
-=== commit_over_two_pages: 32768 is the first id of the next page
-step 32767 32768 0 -> Some(PlanStep { page: 1, state: SubCommitted, with_top: false, first: 0, past: 1 })
-step 32767 32768 1 -> Some(PlanStep { page: 0, state: Committed, with_top: true, first: 0, past: 0 })
-step 32767 32768 2 -> Some(PlanStep { page: 1, state: Committed, with_top: false, first: 0, past: 1 })
-step 32767 32768 3 -> None
-=== parent_bytes_on_page
-parents
-set-parent 32768 32767
-front 16 -> [255, 127, 0, 0, 0, 0, 0, 0, 0, 0, 0, 0, 0, 0, 0, 0]
-parent 32768 -> Ok(Some(Xid { number: 32767 }))
-parent 32767 -> Ok(None)
-=== parent_bytes_on_page: a climb ends above no parent, and above one that precedes the xmin
-ends 0 32767 -> true
-ends 32767 32767 -> false
-ends 32767 32768 -> true
-=== offset_bytes_on_page
-offsets
-set-offset 1 1
-front 0 -> [0, 0, 0, 0, 1, 0, 0, 0, 0, 0, 0, 0, 0, 0, 0, 0]
-offset 1 -> Ok(Some(1))
-offset 2 -> Ok(None)
-trim-offsets 1
-offset 1 -> Ok(None)
-=== member_bytes_on_page
-members
-set-member 1 3 KeySh
-set-member 2 4 Upd
-front 0 -> [0, 0, 5, 0, 0, 0, 0, 0, 3, 0, 0, 0, 4, 0, 0, 0]
-member 0 -> Ok(Unused)
-member 2 -> Ok(Is { x: Xid { number: 4 }, mode: Upd })
-set 0 2 6
-member 2 -> Ok(Odd { byte: 6 })
-trim-members 2
-member 1 -> Ok(Is { x: Xid { number: 3 }, mode: KeySh })
-member 2 -> Ok(Unused)
-";
+/// Calls of a bank over a volume in memory.
+#[derive(Clone, Copy)]
+struct Memory<'a> {
+    name: &'a str,
+    calls: &'a [(Call, Answer)],
+    /// The first page of the volume behind them, if a row says it.
+    volume: Option<Option<u32>>,
+}
+
+/// Calls of a bank over a volume that fails each read past so many.
+#[derive(Clone, Copy)]
+struct Reads<'a> {
+    name: &'a str,
+    passes: u32,
+    calls: &'a [(Call, Answer)],
+    /// How often it was read and failed.
+    volume: (u32, u64),
+}
+
+const IN_MEMORY: [Memory<'static>; 4] = [
+    Memory {
+        name: "seventeen_pages_read_back",
+        calls: &[
+            (Set(0, 5, 1), Done),
+            (Set(1, 5, 2), Done),
+            (Set(2, 5, 3), Done),
+            (Set(3, 5, 4), Done),
+            (Set(4, 5, 5), Done),
+            (Set(5, 5, 6), Done),
+            (Set(6, 5, 7), Done),
+            (Set(7, 5, 8), Done),
+            (Set(8, 5, 9), Done),
+            (Set(9, 5, 10), Done),
+            (Set(10, 5, 11), Done),
+            (Set(11, 5, 12), Done),
+            (Set(12, 5, 13), Done),
+            (Set(13, 5, 14), Done),
+            (Set(14, 5, 15), Done),
+            (Set(15, 5, 16), Done),
+            (Set(16, 5, 17), Done),
+            (Byte(0, 5), Holds(1)),
+            (Byte(1, 5), Holds(2)),
+            (Byte(2, 5), Holds(3)),
+            (Byte(3, 5), Holds(4)),
+            (Byte(4, 5), Holds(5)),
+            (Byte(5, 5), Holds(6)),
+            (Byte(6, 5), Holds(7)),
+            (Byte(7, 5), Holds(8)),
+            (Byte(8, 5), Holds(9)),
+            (Byte(9, 5), Holds(10)),
+            (Byte(10, 5), Holds(11)),
+            (Byte(11, 5), Holds(12)),
+            (Byte(12, 5), Holds(13)),
+            (Byte(13, 5), Holds(14)),
+            (Byte(14, 5), Holds(15)),
+            (Byte(15, 5), Holds(16)),
+            (Byte(16, 5), Holds(17)),
+        ],
+        volume: None,
+    },
+    Memory {
+        name: "truncated_pages_are_cut",
+        calls: &[
+            (Put(31, 0, 31), Done),
+            (Put(32, 0, 32), Done),
+            (Flush, Done),
+            (Truncate(32), Done),
+            (Number(31, 0), Refused(Cut { cutoff: 32 })),
+            (Number(32, 0), Holds(32)),
+            (Zero(31), Refused(Cut { cutoff: 32 })),
+        ],
+        volume: Some(Some(32)),
+    },
+    Memory {
+        name: "zero_keeps_a_page_that_was_made",
+        calls: &[
+            (Put(2, 0, 7), Done),
+            (Zero(2), Done),
+            (Number(2, 0), Holds(0)),
+            (Put(2, 0, 8), Done),
+            (Zero(2), Done),
+            (Zero(1), Done),
+            (Number(2, 0), Holds(8)),
+        ],
+        volume: None,
+    },
+    Memory {
+        name: "pages_after_one_are_cleared, and all",
+        calls: &[
+            (Put(1, 0, 1), Done),
+            (Put(2, 0, 2), Done),
+            (Put(3, 0, 3), Done),
+            (Put(1, 4, 1), Done),
+            (Put(2, 4, 2), Done),
+            (Put(3, 4, 3), Done),
+            (Flush, Done),
+            (ClearAfter(2, 4), Done),
+            (Number(1, 4), Holds(1)),
+            (Number(2, 0), Holds(2)),
+            (Number(2, 4), Holds(0)),
+            (Number(3, 0), Holds(0)),
+            (ClearAll, Done),
+            (Number(1, 0), Holds(0)),
+        ],
+        volume: Some(None),
+    },
+];
+
+const COUNTED: [Reads<'static>; 2] = [
+    Reads {
+        name: "least_recently_used_page_is_replaced: one page past sixteen takes the place of page 1",
+        passes: 100,
+        calls: &[
+            (Byte(0, 0), Holds(0)),
+            (Byte(1, 0), Holds(0)),
+            (Byte(2, 0), Holds(0)),
+            (Byte(3, 0), Holds(0)),
+            (Byte(4, 0), Holds(0)),
+            (Byte(5, 0), Holds(0)),
+            (Byte(6, 0), Holds(0)),
+            (Byte(7, 0), Holds(0)),
+            (Byte(8, 0), Holds(0)),
+            (Byte(9, 0), Holds(0)),
+            (Byte(10, 0), Holds(0)),
+            (Byte(11, 0), Holds(0)),
+            (Byte(12, 0), Holds(0)),
+            (Byte(13, 0), Holds(0)),
+            (Byte(14, 0), Holds(0)),
+            (Byte(15, 0), Holds(0)),
+            (Byte(0, 0), Holds(0)),
+            (Byte(16, 0), Holds(0)),
+            (Byte(0, 0), Holds(0)),
+            (Byte(2, 0), Holds(0)),
+            (Byte(15, 0), Holds(0)),
+        ],
+        volume: (17, 0),
+    },
+    Reads {
+        name: "failed_read_is_a_disk_fault",
+        passes: 1,
+        calls: &[
+            (Number(0, 0), Holds(0)),
+            (Number(1, 0), Refused(DiskFault)),
+            (Number(0, 0), Holds(0)),
+        ],
+        volume: (1, 1),
+    },
+];
 
 #[test]
-fn banks_and_the_bytes_of_their_stores(rt: HostRuntime) -> Result<(), Fail> {
-    check_rows(&rt, ROWS)
+fn banks_and_the_bytes_of_their_stores(rt: HostRuntime) {
+    for row in &IN_MEMORY {
+        let mut bank: SlruBank<MemPages, IdPages> = memory_bank(&rt);
+        check(&rt, &mut bank, row.name, row.calls);
+        if let Some(wanted) = row.volume {
+            let came = bank.into_disk().after(None);
+            assert!(rt; came == Ok(wanted), "{}: {came:?} came", row.name);
+        }
+    }
+    for row in &COUNTED {
+        let mut bank = counted_bank(&rt, row.passes);
+        check(&rt, &mut bank, row.name, row.calls);
+        let came = counts(bank);
+        assert!(rt; came == row.volume, "{}: {came:?} came", row.name);
+    }
+    stores::status_bits_on_page(&rt);
+    stores::commit_over_two_pages(&rt);
+    stores::parent_bytes_on_page(&rt);
+    stores::offset_bytes_on_page(&rt);
+    stores::member_bytes_on_page(&rt);
 }

@@ -4,8 +4,7 @@ ghost use Rattle.tx_events.specs.PageOrder.{Ids};
 
 use disk_core::{Failed, PageDisk};
 use slru_bank::{PageSpan, SlruBank};
-use std::alloc::Global;
-use std::test::Fail;
+use std::process::Abort;
 use store_pages::PageRule;
 use tx_events::{Xid, precedes};
 
@@ -94,16 +93,17 @@ impl PageDisk for Counted {
 }
 
 /// An empty bank over such a volume.
-pub fn counted_bank(alloc: Global, fails_after: u32) -> Result<SlruBank<Counted, IdPages>, Fail> {
+pub fn counted_bank(
+    rt: &(impl Abort + AllocGlobal),
+    fails_after: u32,
+) -> SlruBank<Counted, IdPages> {
     let disk = Counted {
         reads: 0,
         fails_after,
         faults: 0,
     };
-    match SlruBank::new(alloc, disk, 0, 0) {
-        Ok(bank) => Ok(bank),
-        Err(_) => Err("no memory".into()),
-    }
+    let bank = SlruBank::new(rt.alloc(), disk, 0, 0);
+    bank.ok().expect(rt, "memory")
 }
 
 /// How often it was read, and how often it failed.

@@ -9,6 +9,4 @@ mod banks;
 #[cfg(test)]
 mod counted;
 #[cfg(test)]
-mod lines;
-#[cfg(test)]
 mod stores;

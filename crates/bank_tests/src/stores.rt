@@ -1,145 +1,165 @@
-//! The calls of the four stores.
-use crate::lines::{next_named, next_number, told};
+//! The rows of the four stores, on the very bytes of their pages.
+use crate::banks::memory_bank;
 use bank_stores::{
-    climb_ends, offset, parent, read_member, set_offset, set_parent, trim_members, trim_offsets,
-    write_member,
+    Slot, climb_ends, offset, parent, read_member, set_offset, set_parent, trim_members,
+    trim_offsets, write_member,
 };
 use disk_core::MemPages;
-use slru_bank::{SlruBank, State, plan_step, set_states, state, trim_after};
-use std::alloc::Global;
-use std::str::SplitWhitespace;
-use std::test::Fail;
-use store_pages::{MemberPages, OffsetPages, SubtransPages, XactPages};
+use slru_bank::{PlanStep, SlruBank, State, plan_step, set_states, state, trim_after};
+use std::process::Abort;
+use store_pages::{MemberPages, PageRule, XactPages};
 use tx_events::{FullMulti, FullXid, Mode, MultiId, Xid};
 
-#[derive(Clone, Copy)]
-pub enum OfXacts {
-    SetThree,
-    State,
-    Trim,
-}
-
-#[derive(Clone, Copy)]
-pub enum OfParents {
-    Set,
-    Parent,
-}
-
-#[derive(Clone, Copy)]
-pub enum OfOffsets {
-    Set,
-    Offset,
-    Trim,
-}
-
-#[derive(Clone, Copy)]
-pub enum OfMembers {
-    Set,
-    Member,
-    Trim,
-}
-
-const MODES: [(&str, Mode); 2] = [("KeySh", Mode::KeySh), ("Upd", Mode::Upd)];
-
-fn next_id(words: &mut SplitWhitespace<'_>) -> Result<FullXid, Fail> {
-    Ok(FullXid::new(u64::from(next_number(words)?)).ok_or("no id")?)
-}
-
-fn next_xid(words: &mut SplitWhitespace<'_>) -> Result<Xid, Fail> {
-    let number = next_number(words)?;
-    Ok(Xid { number })
+/// The first sixteen bytes of a page.
+fn front<O: PageRule>(rt: &impl Abort, bank: &mut SlruBank<MemPages, O>, page: u32) -> [u8; 16] {
+    let mut bytes = [0; 16];
+    assert!(rt; bank.read(page, 0, &mut bytes).is_ok());
+    bytes
 }
 
 /// Ids 3 and 5 committed, and 4 aborted.
-fn set_three(bank: &mut SlruBank<MemPages, XactPages>) -> Result<(), Fail> {
-    let three = FullXid::new(3).ok_or("no id")?;
-    let four = FullXid::new(4).ok_or("no id")?;
-    let five = FullXid::new(5).ok_or("no id")?;
-    set_states(bank, &[three, five], State::Committed)?;
-    set_states(bank, &[four], State::Aborted)?;
-    Ok(())
+fn set_three(rt: &impl Abort, bank: &mut SlruBank<MemPages, XactPages>) {
+    let three = FullXid::new(3).expect(rt, "an id");
+    let four = FullXid::new(4).expect(rt, "an id");
+    let five = FullXid::new(5).expect(rt, "an id");
+    assert!(rt; set_states(bank, &[three, five], State::Committed).is_ok());
+    assert!(rt; set_states(bank, &[four], State::Aborted).is_ok());
 }
 
-pub fn of_xacts(
-    alloc: Global,
+fn check_states(
+    rt: &impl Abort,
     bank: &mut SlruBank<MemPages, XactPages>,
-    verb: OfXacts,
-    words: &mut SplitWhitespace<'_>,
-) -> Result<String, Fail> {
-    match verb {
-        OfXacts::SetThree => {
-            set_three(bank)?;
-            told(alloc, &Ok::<(), ()>(()))
-        }
-        OfXacts::State => told(alloc, &state(bank, next_xid(words)?)),
-        OfXacts::Trim => told(alloc, &trim_after(bank, next_id(words)?)),
+    wanted: &[(u32, State)],
+) {
+    for (number, wanted) in wanted {
+        let came = state(bank, Xid { number: *number });
+        assert!(rt; came == Ok(*wanted), "of {number}");
     }
 }
 
-/// The step of this number of a commit with one subtransaction.
-pub fn step(alloc: Global, words: &mut SplitWhitespace<'_>) -> Result<String, Fail> {
-    let top = next_id(words)?;
-    let subs = [next_id(words)?];
-    told(
-        alloc,
-        &plan_step(top, &subs, u64::from(next_number(words)?)),
-    )
+pub fn status_bits_on_page(rt: &(impl Abort + AllocGlobal)) {
+    let mut bank = memory_bank(rt);
+    set_three(rt, &mut bank);
+    assert!(rt; front(rt, &mut bank, 0) == [64, 6, 0, 0, 0, 0, 0, 0, 0, 0, 0, 0, 0, 0, 0, 0]);
+    check_states(
+        rt,
+        &mut bank,
+        &[
+            (4, State::Aborted),
+            (5, State::Committed),
+            (6, State::InProgress),
+        ],
+    );
+    let five = FullXid::new(5).expect(rt, "an id");
+    assert!(rt; trim_after(&mut bank, five).is_ok());
+    check_states(
+        rt,
+        &mut bank,
+        &[(4, State::Aborted), (5, State::InProgress)],
+    );
 }
 
-pub fn of_parents(
-    alloc: Global,
-    bank: &mut SlruBank<MemPages, SubtransPages>,
-    verb: OfParents,
-    words: &mut SplitWhitespace<'_>,
-) -> Result<String, Fail> {
-    let id = next_xid(words)?;
-    match verb {
-        OfParents::Set => told(alloc, &set_parent(bank, id, next_xid(words)?)),
-        OfParents::Parent => told(alloc, &parent(bank, id)),
+const STEPS: [Option<PlanStep>; 4] = [
+    Some(PlanStep {
+        page: 1,
+        state: State::SubCommitted,
+        with_top: false,
+        first: 0,
+        past: 1,
+    }),
+    Some(PlanStep {
+        page: 0,
+        state: State::Committed,
+        with_top: true,
+        first: 0,
+        past: 0,
+    }),
+    Some(PlanStep {
+        page: 1,
+        state: State::Committed,
+        with_top: false,
+        first: 0,
+        past: 1,
+    }),
+    None,
+];
+
+/// 32768 is the first id of the next page.
+pub fn commit_over_two_pages(rt: &impl Abort) {
+    let top = FullXid::new(32767).expect(rt, "an id");
+    let subs = [FullXid::new(32768).expect(rt, "an id")];
+    for (place, wanted) in STEPS.iter().enumerate() {
+        assert!(rt;
+            plan_step(top, &subs, place as u64) == *wanted,
+            "step {place}"
+        );
     }
 }
 
-/// Whether a climb ends above an id with this parent, 0 for none.
-pub fn ends(alloc: Global, words: &mut SplitWhitespace<'_>) -> Result<String, Fail> {
-    let parent = match next_xid(words)? {
-        Xid { number: 0 } => None,
-        parent => Some(parent),
-    };
-    told(alloc, &climb_ends(parent, next_xid(words)?))
+pub fn parent_bytes_on_page(rt: &(impl Abort + AllocGlobal)) {
+    let mut bank = memory_bank(rt);
+    let below = Xid { number: 32767 };
+    let above = Xid { number: 32768 };
+    assert!(rt; set_parent(&mut bank, above, below).is_ok());
+    assert!(rt; front(rt, &mut bank, 16) == [255, 127, 0, 0, 0, 0, 0, 0, 0, 0, 0, 0, 0, 0, 0, 0]);
+    assert!(rt; parent(&mut bank, above) == Ok(Some(below)));
+    assert!(rt; parent(&mut bank, below) == Ok(None));
+    // a climb ends above no parent, and above one that precedes the xmin
+    assert!(rt; climb_ends(None, below));
+    assert!(rt; !climb_ends(Some(below), below));
+    assert!(rt; climb_ends(Some(below), above));
 }
 
-pub fn of_offsets(
-    alloc: Global,
-    bank: &mut SlruBank<MemPages, OffsetPages>,
-    verb: OfOffsets,
-    words: &mut SplitWhitespace<'_>,
-) -> Result<String, Fail> {
-    let number = next_number(words)?;
-    let multi = MultiId { number };
-    match verb {
-        OfOffsets::Set => told(alloc, &set_offset(bank, multi, next_number(words)?)),
-        OfOffsets::Offset => told(alloc, &offset(bank, multi)),
-        OfOffsets::Trim => {
-            let next = FullMulti::new(u64::from(number)).ok_or("no multixact")?;
-            told(alloc, &trim_offsets(bank, next))
-        }
-    }
+pub fn offset_bytes_on_page(rt: &(impl Abort + AllocGlobal)) {
+    let mut bank = memory_bank(rt);
+    let one = MultiId { number: 1 };
+    assert!(rt; set_offset(&mut bank, one, 1).is_ok());
+    assert!(rt; front(rt, &mut bank, 0) == [0, 0, 0, 0, 1, 0, 0, 0, 0, 0, 0, 0, 0, 0, 0, 0]);
+    assert!(rt; offset(&mut bank, one) == Ok(Some(1)));
+    assert!(rt; offset(&mut bank, MultiId { number: 2 }) == Ok(None));
+    let next = FullMulti::new(1).expect(rt, "a multixact");
+    assert!(rt; trim_offsets(&mut bank, next).is_ok());
+    assert!(rt; offset(&mut bank, one) == Ok(None));
 }
 
-pub fn of_members(
-    alloc: Global,
+fn check_slot(
+    rt: &impl Abort,
     bank: &mut SlruBank<MemPages, MemberPages>,
-    verb: OfMembers,
-    words: &mut SplitWhitespace<'_>,
-) -> Result<String, Fail> {
-    let place = next_number(words)?;
-    match verb {
-        OfMembers::Set => {
-            let id = next_xid(words)?;
-            let mode = next_named(words, &MODES)?;
-            told(alloc, &write_member(bank, place, id, mode))
-        }
-        OfMembers::Member => told(alloc, &read_member(bank, place)),
-        OfMembers::Trim => told(alloc, &trim_members(bank, u64::from(place))),
-    }
+    place: u32,
+    wanted: Slot,
+) {
+    let came = read_member(bank, place);
+    assert!(rt; came == Ok(wanted), "the member at {place}");
+}
+
+pub fn member_bytes_on_page(rt: &(impl Abort + AllocGlobal)) {
+    let mut bank = memory_bank(rt);
+    let three = Xid { number: 3 };
+    let four = Xid { number: 4 };
+    assert!(rt; write_member(&mut bank, 1, three, Mode::KeySh).is_ok());
+    assert!(rt; write_member(&mut bank, 2, four, Mode::Upd).is_ok());
+    assert!(rt; front(rt, &mut bank, 0) == [0, 0, 5, 0, 0, 0, 0, 0, 3, 0, 0, 0, 4, 0, 0, 0]);
+    check_slot(rt, &mut bank, 0, Slot::Unused);
+    check_slot(
+        rt,
+        &mut bank,
+        2,
+        Slot::Is {
+            x: four,
+            mode: Mode::Upd,
+        },
+    );
+    assert!(rt; bank.set(0, 2, 255, 6).is_ok());
+    check_slot(rt, &mut bank, 2, Slot::Odd { byte: 6 });
+    assert!(rt; trim_members(&mut bank, 2).is_ok());
+    check_slot(
+        rt,
+        &mut bank,
+        1,
+        Slot::Is {
+            x: three,
+            mode: Mode::KeySh,
+        },
+    );
+    check_slot(rt, &mut bank, 2, Slot::Unused);
 }

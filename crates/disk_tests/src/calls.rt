@@ -1,123 +1,196 @@
-//! The words of the rows on one volume, and on files: the calls without their contracts, so that a test proves no more than
-//! that they are safe.
-use crate::lines::{bytes_left, next_number, next_page, told};
-use disk_core::{Failed, LogDisk, PageDisk};
-use std::alloc::Global;
-use std::os::unix::fs as unix_fs;
-use std::str::SplitWhitespace;
-use std::test::Fail;
-use std::{fs, io};
+//! Calls of the volumes of one media, and their answers: without the calls' contracts, so that a test proves no more than that
+//! they are safe.
+ghost use Rattle.std.specs.Prelude.{◌≡◌, IsTrue};
 
-/// What a log answers.
-pub fn log_call<D: LogDisk>(
-    alloc: Global,
-    log: &mut D,
-    words: &mut SplitWhitespace<'_>,
-) -> Result<String, Fail> {
-    match words.next().unwrap_or("") {
-        // `write AT BYTES..`
-        "write" => {
-            let at = next_number(words)?;
-            let bytes = bytes_left(alloc, words)?;
-            told(alloc, &log.write_at(at, bytes.as_slice()))
-        }
-        "sync" => told(alloc, &log.sync()),
-        // `forget UPTO`
-        "forget" => told(alloc, &log.forget(next_number(words)?)),
-        "extent" => told(alloc, &log.extent()),
-        // `read AT`: how many bytes a read of eight gives, and these, before zeros.
-        "read" => {
+use disk_core::{Crash, Failed, LogDisk, Media, MountRefusal, PageDisk, Volumes, Which};
+use std::process::Abort;
+
+/// What is asked of the volumes, or of their media.
+#[derive(Clone, Copy)]
+pub enum Call<'a> {
+    Log(LogCall<'a>),
+    /// Of this bank.
+    Of(Which, PageCall),
+    /// How many banks each store has.
+    Counts,
+    /// A crash of this kind, and a mount that asks for so many banks.
+    Crash(Crash, u32),
+    /// The same without a crash.
+    Rest(u32),
+}
+
+#[derive(Clone, Copy)]
+pub enum LogCall<'a> {
+    /// These bytes from a place on.
+    Write(u64, &'a [u8]),
+    Sync,
+    Forget(u64),
+    Extent,
+    /// Eight bytes from a place on.
+    Read(u64),
+}
+
+#[derive(Clone, Copy)]
+pub enum PageCall {
+    /// A page of this one byte.
+    Fill(u32, u8),
+    Remove(u32),
+    Sync,
+    First,
+    After(u32),
+    Look(u32),
+}
+
+#[derive(Clone, Copy, Debug, PartialEq, Eq)]
+pub enum Answer {
+    Done,
+    Fails,
+    /// The log's start and length.
+    Spans(u64, u64),
+    /// So many bytes were read, and these, before zeros.
+    Bytes(usize, [u8; 8]),
+    /// A page's first four bytes and its last one.
+    Page([u8; 4], u8),
+    NoPage,
+    Next(Option<u32>),
+    Counted([usize; 4]),
+}
+
+fn done(came: Result<(), Failed>) -> Answer {
+    match came {
+        Ok(()) => Answer::Done,
+        Err(Failed) => Answer::Fails,
+    }
+}
+
+fn log_answer<D: LogDisk>(log: &mut D, call: LogCall<'_>) -> Answer {
+    match call {
+        LogCall::Write(at, bytes) => done(log.write_at(at, bytes)),
+        LogCall::Sync => done(log.sync()),
+        LogCall::Forget(upto) => done(log.forget(upto)),
+        LogCall::Extent => match log.extent() {
+            Ok(extent) => Answer::Spans(extent.start, extent.length),
+            Err(Failed) => Answer::Fails,
+        },
+        LogCall::Read(at) => {
             let mut into = [0; 8];
-            let count = log.read(next_number(words)?, &mut into)?;
-            told(alloc, &(count, into))
+            match log.read(at, &mut into) {
+                Ok(count) => Answer::Bytes(count, into),
+                Err(Failed) => Answer::Fails,
+            }
         }
-        _ => Err("another word".into()),
     }
 }
 
-/// What the pages of a bank answer, which the first word tells by its place.
-pub fn page_call<P: PageDisk>(
-    alloc: Global,
-    banks: &mut [P],
-    words: &mut SplitWhitespace<'_>,
-) -> Result<String, Fail> {
-    let pages = banks
-        .get_mut(next_page(words)? as usize)
-        .ok_or("no such bank")?;
-    match words.next().unwrap_or("") {
-        // `fill PAGE BYTE`: writes a page of one byte.
-        "fill" => {
-            let page = next_page(words)?;
-            let byte = u8::try_from(next_number(words)?).ok().ok_or("no byte")?;
-            told(alloc, &pages.write_page(page, &[byte; 8192]))
-        }
-        // `remove PAGE`
-        "remove" => told(alloc, &pages.remove(next_page(words)?)),
-        "sync" => told(alloc, &pages.sync()),
-        // The first page, and `after PAGE`, the next one.
-        "first" => told(alloc, &pages.after(None)),
-        "after" => told(alloc, &pages.after(Some(next_page(words)?))),
-        // `read PAGE`: its first four bytes and its last one, if it is present.
-        "read" => {
+fn next_answer(came: Result<Option<u32>, Failed>) -> Answer {
+    match came {
+        Ok(next) => Answer::Next(next),
+        Err(Failed) => Answer::Fails,
+    }
+}
+
+fn page_answer<P: PageDisk>(rt: &impl Abort, banks: &mut [P], bank: u32, call: PageCall) -> Answer {
+    let pages = banks.get_mut(bank as usize).expect(rt, "such a bank");
+    match call {
+        PageCall::Fill(page, byte) => done(pages.write_page(page, &[byte; 8192])),
+        PageCall::Remove(page) => done(pages.remove(page)),
+        PageCall::Sync => done(pages.sync()),
+        PageCall::First => next_answer(pages.after(None)),
+        PageCall::After(page) => next_answer(pages.after(Some(page))),
+        PageCall::Look(page) => {
             let mut bytes = [7; 8192];
-            match pages.read_page(next_page(words)?, &mut bytes) {
-                Ok(true) => told(
-                    alloc,
-                    &([bytes[0], bytes[1], bytes[2], bytes[3]], bytes[8191]),
-                ),
-                Ok(false) => Ok(String::from_str(alloc, "no page")?),
-                Err(failed) => told(alloc, &Err::<(), Failed>(failed)),
+            match pages.read_page(page, &mut bytes) {
+                Ok(true) => { Answer::Page([bytes[0], bytes[1], bytes[2], bytes[3]], bytes[8191]) }
+                Ok(false) => Answer::NoPage,
+                Err(Failed) => Answer::Fails,
             }
         }
-        _ => Err("another word".into()),
     }
 }
 
-/// Takes away what an earlier run of the test left.
-fn clear(rt: &HostRuntime, path: &str) -> io::Result<()> {
-    match fs::remove_dir_all(rt, path) {
-        Err(error) if error.kind() != io::ErrorKind::NotFound => Err(error),
-        _ => Ok(()),
+fn bank_answer<L, P: PageDisk>(
+    rt: &impl Abort,
+    volumes: &mut Volumes<L, P>,
+    at: Which,
+    call: PageCall,
+) -> Answer {
+    match at {
+        Which::Xact(bank) => page_answer(rt, &mut volumes.xact, bank, call),
+        Which::Subtrans(bank) => page_answer(rt, &mut volumes.subtrans, bank, call),
+        Which::Offsets(bank) => page_answer(rt, &mut volumes.offsets, bank, call),
+        Which::Members(bank) => page_answer(rt, &mut volumes.members, bank, call),
+        Which::Log => panic!(rt; "the log has no pages"),
     }
 }
 
-/// Does something with a file, or tells of it.
-pub fn file_call(rt: HostRuntime, words: &mut SplitWhitespace<'_>) -> Result<String, Fail> {
-    let alloc = rt.alloc();
-    let word = words.next().unwrap_or("");
-    let path = words.next().unwrap_or("");
-    match word {
-        // `put FILE COUNT BYTES..`: so many bytes, of which the last one that is told goes on.
-        "put" => {
-            let count = next_page(words)? as usize;
-            let mut bytes = bytes_left(alloc, words)?;
-            let last = match bytes.last() {
-                Some(byte) => *byte,
-                None => 0,
-            };
-            bytes.resize(count, last)?;
-            fs::write(&rt, path, bytes.as_slice())?;
-        }
-        // `link FILE TO`
-        "link" => unix_fs::symlink(&rt, words.next().unwrap_or(""), path)?,
-        "remove" => fs::remove_file(&rt, path)?,
-        // A folder, and one away with all its files.
-        "make" => fs::create_dir(&rt, path)?,
-        "clear" => clear(&rt, path)?,
-        "exists" => return told(alloc, &fs::exists(&rt, path)?),
-        // Its bytes, or the one byte of which a page is made.
-        "bytes" => {
-            let bytes = fs::read(&rt, path)?;
-            let first = match bytes.first() {
-                Some(byte) => *byte,
-                None => 0,
-            };
-            if bytes.as_slice() == [first; 8192].as_slice() {
-                return Ok(format!(in alloc; "a page of {first}")?);
-            }
-            return told(alloc, &bytes.as_slice());
-        }
-        _ => return Err("another word".into()),
+/// A media, and its volumes.
+#[derive(Drop)]
+pub struct Mounted<M: Media> {
+    media: M,
+    volumes: Option<Volumes<M::Log, M::Pages>>,
+}
+
+/// Crashes, or gives the volumes back.
+fn leave<M: Media>(
+    rt: &impl Abort,
+    media: &mut M,
+    volumes: Volumes<M::Log, M::Pages>,
+    how: Option<Crash>,
+)
+    ensures idle { IsTrue (M.is_idle media.new) }
+{
+    match how {
+        Some(how) => assert!(rt; media.crash(volumes, how).is_ok()),
+        None => media.rest(volumes),
     }
-    Ok(String::from_str(alloc, "Ok(())")?)
+}
+
+impl<M: Media + Drop> Mounted<M> {
+    /// Asks for so many banks.
+    pub fn new(rt: &impl Abort, media: M, banks: u32) -> Result<Mounted<M>, MountRefusal>
+        requires { IsTrue (M.is_idle media) }
+    {
+        assert!(rt; 1 <= banks && banks <= 16);
+        let mut media = media;
+        let volumes = Some(media.mount(banks)?);
+        Ok(Mounted { media, volumes })
+    }
+
+    /// Crashes, or gives the volumes back, and mounts the media again.
+    fn again(&mut self, rt: &impl Abort, how: Option<Crash>, banks: u32) -> Answer {
+        assert!(rt; 1 <= banks && banks <= 16);
+        let volumes = self.volumes.take().expect(rt, "volumes");
+        leave(rt, &mut self.media, volumes, how);
+        self.volumes = Some(self.media.mount(banks).ok().expect(rt, "a mount"));
+        Answer::Done
+    }
+
+    fn answer(&mut self, rt: &impl Abort, call: Call<'_>) -> Answer {
+        match call {
+            Call::Crash(how, banks) => return self.again(rt, Some(how), banks),
+            Call::Rest(banks) => return self.again(rt, None, banks),
+            _ => {}
+        }
+        let Some(volumes) = &mut self.volumes else {
+            panic!(rt; "nothing is mounted")
+        };
+        match call {
+            Call::Log(call) => log_answer(&mut volumes.log, call),
+            Call::Of(at, call) => bank_answer(rt, volumes, at, call),
+            _ => Answer::Counted([
+                volumes.xact.len(),
+                volumes.subtrans.len(),
+                volumes.offsets.len(),
+                volumes.members.len(),
+            ]),
+        }
+    }
+
+    /// Each call of a row has this answer.
+    pub fn check(&mut self, rt: &impl Abort, row: &str, calls: &[(Call<'_>, Answer)]) {
+        for (place, (call, wanted)) in calls.iter().enumerate() {
+            let came = self.answer(rt, *call);
+            assert!(rt; came == *wanted, "{row}: call {place}: {came:?} came");
+        }
+    }
 }

@@ -8,8 +8,6 @@ mod calls;
 #[cfg(test)]
 mod folder_tests;
 #[cfg(test)]
-mod lines;
-#[cfg(test)]
-mod medias;
+mod folders;
 #[cfg(test)]
 mod memory_tests;

@@ -3,12 +3,10 @@
 #![tactic(auto)]
 
 #[cfg(test)]
-mod lines;
-#[cfg(test)]
 mod multi_tests;
+#[cfg(test)]
+mod numbers;
 #[cfg(test)]
 mod proc_driver;
 #[cfg(test)]
 mod proc_tests;
-#[cfg(test)]
-mod tables;

@@ -4,11 +4,10 @@ ghost use Rattle.std.specs.List.{All};
 ghost use Rattle.tx_events.specs.Events.{by_of};
 ghost use Rattle.proc_table.specs.Table.{InTurn};
 
-use crate::lines::told;
+use crate::numbers::{id, multi};
 use proc_table::{Asked, Given, ProcTable};
-use std::alloc::Global;
-use std::test::Fail;
-use tx_events::{By, Counters, FullMulti, FullXid, IdList, Name, Refusal, XactEnd, is_base};
+use std::process::Abort;
+use tx_events::{By, Counters, FullXid, Name, Refusal, SnapData, XactEnd, is_base};
 
 /// From here on commands have one number.
 const MOST_COMMANDS: u64 = 1_000_000;
@@ -23,15 +22,6 @@ fn next_command(command: u64) -> u64
     }
 }
 
-/// The ids as numbers.
-fn numbers(alloc: Global, ids: &IdList) -> Result<Vec<u64>, Fail> {
-    let mut numbers = Vec::new(alloc);
-    for id in ids.items() {
-        numbers.push(id.number())?;
-    }
-    Ok(numbers)
-}
-
 /// A table for three sessions, called with ever higher command numbers and only where the conditions hold.
 #[derive(Drop)]
 pub struct Driver {
@@ -43,21 +33,19 @@ pub struct Driver {
 
 impl Driver {
     /// A table of a life that starts with these ids.
-    pub fn new(alloc: Global, next: FullXid, oldest: FullXid) -> Result<Driver, Fail> {
-        let multi = FullMulti::new(1).ok_or("no multixact")?;
+    pub fn new(rt: &(impl Abort + AllocGlobal), next: u64, oldest: u64) -> Driver {
+        let multi = multi(rt, 1);
         let base = Counters {
-            next,
-            oldest,
+            next: id(rt, next),
+            oldest: id(rt, oldest),
             multi,
             offset: 1,
             oldest_multi: multi,
             oldest_offset: 1,
         };
-        if !is_base(&base) {
-            return Err("no base".into());
-        }
-        let table = ProcTable::new(alloc, base, 3)?;
-        Ok(Driver { table, command: 0 })
+        assert!(rt; is_base(&base));
+        let table = ProcTable::new(rt.alloc(), base, 3).expect(rt, "memory");
+        Driver { table, command: 0 }
     }
 
     /// The session's next command.
@@ -99,34 +87,25 @@ impl Driver {
         }
     }
 
-    /// A snapshot under a name that isn't in use: its xmin and xmax, tops and subids, and whether it overflowed.
-    pub fn snap(&mut self, alloc: Global, session: u32, name: &Name) -> Result<String, Fail>
+    /// A snapshot under a name that isn't in use.
+    pub fn snap(&mut self, rt: &impl Abort, session: u32, name: &Name) -> SnapData
         requires { session < 3 }
     {
         let by = self.by(session);
-        if self.table.is_live(session, name) {
-            return Err("the name is in use".into());
-        }
-        let snap = self.table.snapshot(by, name)?;
-        let tops = numbers(alloc, &snap.xip)?;
-        let subs = numbers(alloc, &snap.subxip)?;
-        let limits = (snap.xmin.number(), snap.xmax.number());
-        told(
-            alloc,
-            &(limits, tops.as_slice(), subs.as_slice(), snap.overflowed),
-        )
+        assert!(rt; !self.table.is_live(session, name), "the name is in use");
+        self.table.snapshot(by, name).expect(rt, "memory")
     }
 
     /// The drop of a live snapshot.
-    pub fn drop_snap(&mut self, session: u32, name: &Name) -> Result<(), Fail>
+    pub fn drop_snap(&mut self, rt: &impl Abort, session: u32, name: &Name)
         requires { session < 3 }
     {
         let by = self.by(session);
-        if !self.table.is_live(session, name) {
-            return Err("there is no such snapshot".into());
-        }
+        assert!(rt;
+            self.table.is_live(session, name),
+            "there is no such snapshot"
+        );
         self.table.drop_snapshot(by, name);
-        Ok(())
     }
 
     pub fn raise(&mut self, session: u32, oldest: FullXid) -> Result<(), Refusal>
@@ -137,13 +116,11 @@ impl Driver {
     }
 
     /// How a full id stands.
-    pub fn ask(&mut self, session: u32, x: FullXid) -> Result<Asked, Fail>
+    pub fn ask(&mut self, rt: &impl Abort, session: u32, x: FullXid) -> Asked
         requires { session < 3 }
     {
-        if x.number() < 3 {
-            return Err("no full id".into());
-        }
+        assert!(rt; x.number() >= 3);
         let by = self.by(session);
-        Ok(self.table.ask(by, x)?)
+        self.table.ask(by, x).expect(rt, "memory")
     }
 }

@@ -7,8 +7,6 @@ mod crash_tests;
 #[cfg(test)]
 mod format_tests;
 #[cfg(test)]
-mod lines;
-#[cfg(test)]
 mod record_tests;
 #[cfg(test)]
 mod test_disk;

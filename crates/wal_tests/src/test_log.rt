@@ -1,16 +1,10 @@
-//! The words of the rows: the log's calls without their contracts, so that a test proves no more than that they are safe.
-use crate::lines::{next_named, next_number, told};
+//! A log over the volume of these tests: its calls without their contracts, so that a test proves no more than that they are safe.
 use crate::test_disk::TestDisk;
-use crate::test_rec::{is_read, next_byte, rec_of, spelled};
+use crate::test_rec::{Record, rec_of};
 use disk_core::Crash;
-use std::alloc::Global;
-use std::str::SplitWhitespace;
-use std::test::Fail;
-use tx_events::Rec;
-use wal_core::{LogRefusal, Started, WalLog, read_log};
-
-/// A log, and what was read of it when it was opened.
-pub type OpenLog = Started<TestDisk>;
+use std::process::Abort;
+use tx_events::{Counters, Rec};
+use wal_core::{LogContents, LogRefusal, Started, WalLog, read_log};
 
 // A batch with a checkpoint of the first counters, a batch with a commit of 3, and a closed gate.
 #[rattlefmt::skip]
@@ -21,233 +15,216 @@ const LOG: [u8; 81] = [
 ];
 
 #[derive(Clone, Copy)]
-enum Opens {
+pub enum Call<'a> {
+    /// Opens a log over an empty volume that passes as many calls as the case's number says.
     New,
-    Open,
+    /// Over a volume with as many bytes of LOG as the case's number says, the first of them at this place.
+    Open(u64),
+    /// Over the volume of the log.
     Reopen,
+    /// Over what the case's crash leaves of it, which passes each call.
     Crash,
-}
-
-#[derive(Clone, Copy)]
-enum Asks {
-    Append,
-    MayAppend,
+    Append(Record<'a>),
+    /// Whether it may come next.
+    MayAppend(Record<'a>),
     Flush,
+    /// Forgets what stands before the checkpoint that the log ends with, and whether that may be.
     Forget,
     MayForget,
+    /// What was found when the log was opened, and a checkpoint that is all of it.
     Found,
     FoundCheckpoint,
     Ends,
-    Bytes,
+    /// Whether its volume has the bytes of LOG.
+    IsLog,
 }
 
+#[derive(Clone, Copy, Debug, PartialEq, Eq)]
+pub enum Answer {
+    /// As a wanted one.
+    Any,
+    Done,
+    Refused(LogRefusal),
+    /// There is no log, or it may not be called so.
+    MayNot,
+    /// The record's number.
+    Given(u64),
+    Is(bool),
+    /// How many records, and the number of the first.
+    Found(usize, u64),
+    /// A checkpoint's number and counters.
+    Checkpoint(u64, [u64; 6]),
+    /// The number of the next record, that of the first which isn't known to be flushed, and the place of the next gate.
+    Ends(u64, u64, u64),
+}
+
+/// From one number to another, with this crash, the last call of a row has this answer.
+pub type Case = (u64, u64, Option<Crash>, Answer);
+
+/// Calls with their answers, and a last one, whose answer each case tells.
 #[derive(Clone, Copy)]
-enum Reads {
-    Count,
-    Changed,
-    Contents,
-    Record,
-    IsRecord,
+pub struct Row<'a> {
+    pub name: &'a str,
+    pub calls: &'a [(Call<'a>, Answer)],
+    pub last: Call<'a>,
+    pub cases: &'a [Case],
 }
 
-#[derive(Clone, Copy)]
-enum Verb {
-    Opens(Opens),
-    Asks(Asks),
-    Reads(Reads),
+/// The next id and the oldest one, the next multixact and offset, and the oldest ones.
+pub fn numbers(counters: &Counters) -> [u64; 6] {
+    [
+        counters.next.number(),
+        counters.oldest.number(),
+        counters.multi.number(),
+        counters.offset,
+        counters.oldest_multi.number(),
+        counters.oldest_offset,
+    ]
 }
-
-const VERBS: [(&str, Verb); 18] = [
-    // `new PASSES`: a log over an empty volume that passes so many calls.
-    ("new", Verb::Opens(Opens::New)),
-    // `open COUNT FROM`: over a volume with so many bytes of LOG, the first of them at the place FROM.
-    ("open", Verb::Opens(Opens::Open)),
-    // Over the volume of the log.
-    ("reopen", Verb::Opens(Opens::Reopen)),
-    // `crash KIND`: over what such a crash leaves of it, which passes each call.
-    ("crash", Verb::Opens(Opens::Crash)),
-    // `append RECORD`, and whether it may come next.
-    ("append", Verb::Asks(Asks::Append)),
-    ("may-append", Verb::Asks(Asks::MayAppend)),
-    ("flush", Verb::Asks(Asks::Flush)),
-    // Forgets what stands before the checkpoint that the log ends with, and whether that may be.
-    ("forget", Verb::Asks(Asks::Forget)),
-    ("may-forget", Verb::Asks(Asks::MayForget)),
-    // How many records were found when the log was opened, and the number of the first.
-    ("found", Verb::Asks(Asks::Found)),
-    // The number and the counters of a checkpoint that is all that was found.
-    ("found-checkpoint", Verb::Asks(Asks::FoundCheckpoint)),
-    // The number of the next record, that of the first which isn't known to be flushed, and the place of the next gate.
-    ("ends", Verb::Asks(Asks::Ends)),
-    // The bytes of its volume, or that they are those of LOG.
-    ("bytes", Verb::Asks(Asks::Bytes)),
-    // `count BYTES`: how many records so many bytes of LOG have.
-    ("count", Verb::Reads(Reads::Count)),
-    // `changed AT BYTE`: the same of all of them, with the byte at this place changed.
-    ("changed", Verb::Reads(Reads::Changed)),
-    // The number of the first record that LOG has, the place of its gate, and the counters after it.
-    ("contents", Verb::Reads(Reads::Contents)),
-    // `record RECORD`: its bytes. `is-record AT BYTE BYTES..`: whether a record is read from them, with one changed.
-    ("record", Verb::Reads(Reads::Record)),
-    ("is-record", Verb::Reads(Reads::IsRecord)),
-];
-
-const CRASHES: [(&str, Crash); 3] = [
-    ("lost", Crash::Lost),
-    ("kept", Crash::Kept),
-    ("torn", Crash::Torn),
-];
 
 /// The first bytes of LOG.
-fn log_bytes(alloc: Global, count: u64) -> Result<Vec<u8>, Fail> {
-    let mut bytes = LOG.to_vec(alloc)?;
+pub fn log_bytes(rt: &(impl Abort + AllocGlobal), count: u64) -> Vec<u8> {
+    let mut bytes = LOG.to_vec(rt.alloc()).expect(rt, "memory");
     bytes.truncate(count as usize);
-    Ok(bytes)
+    bytes
 }
 
-/// The volume over which the words open a log. None where that is the volume of a log, and there is none.
-fn disk_of(
-    alloc: Global,
-    log: &mut Option<OpenLog>,
-    opens: Opens,
-    words: &mut SplitWhitespace<'_>,
-) -> Result<Option<TestDisk>, Fail> {
-    match opens {
-        Opens::New => {
-            let passes = next_number(words)?;
-            Ok(Some(TestDisk::of(alloc, 0, Vec::new(alloc), passes)))
-        }
-        Opens::Open => {
-            let bytes = log_bytes(alloc, next_number(words)?)?;
-            let from = next_number(words)?;
-            Ok(Some(TestDisk::of(alloc, from, bytes, u64::MAX)))
-        }
-        Opens::Reopen => match log.take() {
-            Some(open) => Ok(Some(open.log.into_disk())),
-            None => Ok(None),
-        },
-        Opens::Crash => {
-            let how = next_named(words, &CRASHES)?;
-            match log.take() {
-                Some(open) => Ok(Some(open.log.into_disk().after_crash(how))),
-                None => Ok(None),
+/// What is read of a volume with these bytes.
+pub fn read(rt: &(impl Abort + AllocGlobal), bytes: Vec<u8>) -> Result<LogContents, LogRefusal> {
+    let mut disk = TestDisk::of(rt.alloc(), 0, bytes, u64::MAX);
+    read_log(rt.alloc(), &mut disk)
+}
+
+/// A log that is open, and what was read of it then.
+#[derive(Drop)]
+struct TestLog {
+    number: u64,
+    how: Option<Crash>,
+    open: Option<Started<TestDisk>>,
+}
+
+impl TestLog {
+    fn open(&mut self, rt: &(impl Abort + AllocGlobal), disk: TestDisk) -> Answer {
+        match WalLog::start(rt.alloc(), disk) {
+            Ok(opened) => {
+                self.open = Some(opened);
+                Answer::Done
             }
+            Err((_, refusal)) => Answer::Refused(refusal),
         }
     }
-}
 
-/// Opens a log.
-fn open(
-    alloc: Global,
-    log: &mut Option<OpenLog>,
-    opens: Opens,
-    words: &mut SplitWhitespace<'_>,
-) -> Result<String, Fail> {
-    let Some(disk) = disk_of(alloc, log, opens, words)? else {
-        return Ok(String::from_str(alloc, "no log")?);
-    };
-    match WalLog::start(alloc, disk) {
-        Ok(opened) => {
-            *log = Some(opened);
-            Ok(String::from_str(alloc, "ok")?)
-        }
-        Err((_, refusal)) => told(alloc, &refusal),
+    /// The volume of the log, which is closed by that.
+    fn disk(&mut self, rt: &impl Abort) -> TestDisk {
+        self.open.take().expect(rt, "a log").log.into_disk()
     }
-}
 
-/// The bytes of its volume.
-fn bytes(alloc: Global, log: &mut WalLog<TestDisk>) -> Result<String, Fail> {
-    let mut bytes = Vec::new(alloc);
-    bytes.resize(100, 7)?;
-    let count = log.dump(0, &mut bytes)?;
-    bytes.truncate(count);
-    let wanted = log_bytes(alloc, 81)?;
-    if bytes.as_slice() == wanted.as_slice() {
-        Ok(String::from_str(alloc, "LOG")?)
-    } else {
-        told(alloc, &bytes.as_slice())
+    fn answer(&mut self, rt: &(impl Abort + AllocGlobal), call: Call<'_>) -> Answer {
+        let alloc = rt.alloc();
+        match call {
+            Call::New => self.open(rt, TestDisk::of(alloc, 0, Vec::new(alloc), self.number)),
+            Call::Open(from) => {
+                let bytes = log_bytes(rt, self.number);
+                self.open(rt, TestDisk::of(alloc, from, bytes, u64::MAX))
+            }
+            Call::Reopen => {
+                let disk = self.disk(rt);
+                self.open(rt, disk)
+            }
+            Call::Crash => {
+                let how = self.how.expect(rt, "a crash");
+                let disk = self.disk(rt).after_crash(how);
+                self.open(rt, disk)
+            }
+            _ => match &mut self.open {
+                Some(open) => ask(rt, open, call),
+                None => Answer::MayNot,
+            },
+        }
     }
 }
 
 /// What an open log answers.
-fn ask(
-    alloc: Global,
-    open: &mut OpenLog,
-    asks: Asks,
-    words: &mut SplitWhitespace<'_>,
-) -> Result<String, Fail> {
+fn ask(rt: &(impl Abort + AllocGlobal), open: &mut Started<TestDisk>, call: Call<'_>) -> Answer {
     let log = &mut open.log;
-    match asks {
-        Asks::Append => {
-            let rec = rec_of(alloc, words)?;
-            if log.may_append(&rec) {
-                told(alloc, &log.append(&rec))
-            } else {
-                Ok(String::from_str(alloc, "it may not come next")?)
+    match call {
+        Call::Append(record) => {
+            let rec = rec_of(rt, record);
+            if !log.may_append(&rec) {
+                return Answer::MayNot;
+            }
+            match log.append(&rec) {
+                Ok(number) => Answer::Given(number),
+                Err(refusal) => Answer::Refused(refusal),
             }
         }
-        Asks::MayAppend => told(alloc, &log.may_append(&rec_of(alloc, words)?)),
-        Asks::Flush => told(alloc, &log.flush()),
-        Asks::Forget => {
+        Call::MayAppend(record) => Answer::Is(log.may_append(&rec_of(rt, record))),
+        Call::Flush => done(log.flush()),
+        Call::Forget => {
             if log.may_forget() {
-                told(alloc, &log.forget_before_checkpoint())
+                done(log.forget_before_checkpoint())
             } else {
-                Ok(String::from_str(alloc, "the last batch is no checkpoint alone")?)
+                Answer::MayNot
             }
         }
-        Asks::MayForget => told(alloc, &log.may_forget()),
-        Asks::Found => told(alloc, &(open.recs.items().len(), open.first)),
-        Asks::FoundCheckpoint => match open.recs.items() {
-            [Rec::Checkpoint { number, counters }] => told(alloc, &(*number, *counters)),
-            _ => Ok(String::from_str(alloc, "no checkpoint alone")?),
+        Call::MayForget => Answer::Is(log.may_forget()),
+        Call::Found => Answer::Found(open.recs.items().len(), open.first),
+        Call::FoundCheckpoint => match open.recs.items() {
+            [Rec::Checkpoint { number, counters }] => {
+                Answer::Checkpoint(*number, numbers(counters))
+            }
+            _ => Answer::MayNot,
         },
-        Asks::Ends => told(alloc, &(log.next(), log.flushed(), log.end())),
-        Asks::Bytes => bytes(alloc, log),
-    }
-}
-
-/// How many records a log of these bytes has.
-fn count(alloc: Global, bytes: Vec<u8>) -> Result<String, Fail> {
-    match read_log(alloc, &mut TestDisk::of(alloc, 0, bytes, u64::MAX)) {
-        Ok(found) => told(alloc, &Ok::<usize, LogRefusal>(found.recs.items().len())),
-        Err(refusal) => told(alloc, &Err::<usize, LogRefusal>(refusal)),
-    }
-}
-
-/// What is read of bytes.
-fn read(alloc: Global, reads: Reads, words: &mut SplitWhitespace<'_>) -> Result<String, Fail> {
-    match reads {
-        Reads::Count => count(alloc, log_bytes(alloc, next_number(words)?)?),
-        Reads::Changed => {
-            let mut bytes = log_bytes(alloc, 81)?;
-            let at = next_number(words)? as usize;
-            let place = bytes.get_mut(at).ok_or("a byte of the log")?;
-            *place = next_byte(words)?;
-            count(alloc, bytes)
+        Call::Ends => Answer::Ends(log.next(), log.flushed(), log.end()),
+        Call::IsLog => {
+            let mut bytes = [7; 100];
+            match log.dump(0, &mut bytes) {
+                Ok(count) => Answer::Is(&bytes[..count] == LOG.as_slice()),
+                Err(refusal) => Answer::Refused(refusal),
+            }
         }
-        Reads::Contents => {
-            let mut disk = TestDisk::of(alloc, 0, log_bytes(alloc, 81)?, u64::MAX);
-            let found = read_log(alloc, &mut disk)?;
-            told(alloc, &(found.first, found.gate, found.counters))
-        }
-        Reads::Record => spelled(alloc, words),
-        Reads::IsRecord => told(alloc, &is_read(alloc, words)?),
+        _ => Answer::MayNot,
     }
 }
 
-/// What the words of a line answer, and the log that is open behind them.
-pub fn answer(alloc: Global, log: &mut Option<OpenLog>, line: &str) -> Result<String, Fail> {
-    let mut words = line.split_whitespace();
-    let came = match next_named(&mut words, &VERBS)? {
-        Verb::Opens(opens) => open(alloc, log, opens, &mut words)?,
-        Verb::Reads(reads) => read(alloc, reads, &mut words)?,
-        Verb::Asks(asks) => match log {
-            Some(open) => ask(alloc, open, asks, &mut words)?,
-            None => String::from_str(alloc, "no log")?,
-        },
+fn done(came: Result<(), LogRefusal>) -> Answer {
+    match came {
+        Ok(()) => Answer::Done,
+        Err(refusal) => Answer::Refused(refusal),
+    }
+}
+
+/// From no log on, the calls of a row have their answers, and the last one this.
+fn check_number(
+    rt: &(impl Abort + AllocGlobal),
+    row: &Row<'_>,
+    number: u64,
+    how: Option<Crash>,
+    wanted: Answer,
+) {
+    let name = row.name;
+    let mut log = TestLog {
+        number,
+        how,
+        open: None,
     };
-    match words.next() {
-        None => Ok(came),
-        Some(_) => Err("a word is left".into()),
+    for (place, (call, wanted)) in row.calls.iter().enumerate() {
+        let came = log.answer(rt, *call);
+        assert!(rt;
+            came == *wanted || *wanted == Answer::Any,
+            "{name}: {number}, {how:?}, call {place}: {came:?} came"
+        );
+    }
+    let came = log.answer(rt, row.last);
+    assert!(rt; came == wanted, "{name}: {number}, {how:?}: {came:?} came");
+}
+
+pub fn check_rows(rt: &(impl Abort + AllocGlobal), rows: &[Row<'_>]) {
+    for row in rows {
+        for (first, last, how, wanted) in row.cases {
+            for number in *first..=*last {
+                check_number(rt, row, number, *how, *wanted);
+            }
+        }
     }
 }

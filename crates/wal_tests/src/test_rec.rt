@@ -1,147 +1,117 @@
-//! Records by words, and their bytes.
-use crate::lines::{next_named, next_number, told};
-use std::alloc::Global;
-use std::str::SplitWhitespace;
-use std::test::Fail;
+//! Records as tables say them, and their bytes.
+use std::process::Abort;
 use tx_events::{Counters, FullMulti, FullXid, IdList, Member, MemberList, Mode, Rec};
-use wal_records::{ReadRec, is_lawful, read_rec, rec_length, write_rec};
+use wal_records::{is_lawful, read_rec, rec_length, write_rec};
 
 #[derive(Clone, Copy)]
-enum Kind {
-    Checkpoint,
-    Commit,
-    Abort,
-    Multi,
-    Truncate,
+pub enum Record<'a> {
+    /// Its number and its next id; the other counters are those of a new log.
+    Checkpoint(u64, u64),
+    /// The top and the subtransactions.
+    Commit(u64, &'a [u64]),
+    Abort(u64, &'a [u64]),
+    /// The number and the first offset, and of an id so many members of this mode.
+    Multi(u64, u64, &'a [(Mode, u64, usize)]),
+    /// The oldest id, multixact and offset.
+    Truncate(u64, u64, u64),
 }
 
-const KINDS: [(&str, Kind); 5] = [
-    ("checkpoint", Kind::Checkpoint),
-    ("commit", Kind::Commit),
-    ("abort", Kind::Abort),
-    ("multi", Kind::Multi),
-    ("truncate", Kind::Truncate),
-];
-
-fn next_id(words: &mut SplitWhitespace<'_>) -> Result<FullXid, Fail> {
-    Ok(FullXid::new(next_number(words)?).ok_or("an id")?)
+fn id_of(rt: &impl Abort, number: u64) -> FullXid {
+    FullXid::new(number).expect(rt, "an id")
 }
 
-fn next_multi(words: &mut SplitWhitespace<'_>) -> Result<FullMulti, Fail> {
-    Ok(FullMulti::new(next_number(words)?).ok_or("a multixact")?)
+fn multi_of(rt: &impl Abort, number: u64) -> FullMulti {
+    FullMulti::new(number).expect(rt, "a multixact")
 }
 
-/// The numbers up to the end.
-fn ids(alloc: Global, words: &mut SplitWhitespace<'_>) -> Result<IdList, Fail> {
-    let mut list = IdList::new(alloc);
-    for word in words {
-        let number = word.parse::<u64>().ok().ok_or("no number")?;
-        list.push(FullXid::new(number).ok_or("an id")?)?;
+fn ids_of(rt: &(impl Abort + AllocGlobal), numbers: &[u64]) -> IdList {
+    let mut list = IdList::new(rt.alloc());
+    for number in numbers {
+        assert!(rt; list.push(id_of(rt, *number)).is_ok());
     }
-    Ok(list)
+    list
 }
 
-/// `ROWS` and then, so often, `MODE ID COUNT`: so many members of this mode.
-fn members(alloc: Global, words: &mut SplitWhitespace<'_>) -> Result<MemberList, Fail> {
-    let mut list = MemberList::new(alloc);
-    for _ in 0..next_number(words)? {
-        let mode = Mode::of_number(next_byte(words)?).ok_or("a mode")?;
-        let id = next_id(words)?;
-        for _ in 0..next_number(words)? {
-            list.push(Member { id, mode })?;
+fn members_of(rt: &(impl Abort + AllocGlobal), groups: &[(Mode, u64, usize)]) -> MemberList {
+    let mut list = MemberList::new(rt.alloc());
+    for (mode, number, count) in groups {
+        let member = Member {
+            id: id_of(rt, *number),
+            mode: *mode,
+        };
+        for _ in 0..*count {
+            assert!(rt; list.push(member).is_ok());
         }
     }
-    Ok(list)
+    list
 }
 
-/// A record: `checkpoint NUMBER NEXT`, of the counters of a new log but for the next id; `commit TOP SUB ..`,
-/// `abort TOP SUB ..`, `multi NUMBER OFFSET` with its members, or `truncate OLDEST MULTI OFFSET`.
-pub fn rec_of(alloc: Global, words: &mut SplitWhitespace<'_>) -> Result<Rec, Fail> {
-    match next_named(words, &KINDS)? {
-        Kind::Checkpoint => Ok(Rec::Checkpoint {
-            number: next_number(words)?,
+pub fn rec_of(rt: &(impl Abort + AllocGlobal), record: Record<'_>) -> Rec {
+    match record {
+        Record::Checkpoint(number, next) => Rec::Checkpoint {
+            number,
             counters: Counters {
-                next: next_id(words)?,
+                next: id_of(rt, next),
                 ..Counters::of_new_log()
             },
-        }),
-        Kind::Commit => Ok(Rec::Commit {
-            top: next_id(words)?,
-            subs: ids(alloc, words)?,
-        }),
-        Kind::Abort => Ok(Rec::Abort {
-            top: next_id(words)?,
-            subs: ids(alloc, words)?,
-        }),
-        Kind::Multi => Ok(Rec::Multi {
-            multi: next_multi(words)?,
-            offset: next_number(words)?,
-            members: members(alloc, words)?,
-        }),
-        Kind::Truncate => Ok(Rec::Truncate {
-            oldest: next_id(words)?,
-            multi: next_multi(words)?,
-            offset: next_number(words)?,
-        }),
+        },
+        Record::Commit(top, subs) => Rec::Commit {
+            top: id_of(rt, top),
+            subs: ids_of(rt, subs),
+        },
+        Record::Abort(top, subs) => Rec::Abort {
+            top: id_of(rt, top),
+            subs: ids_of(rt, subs),
+        },
+        Record::Multi(number, offset, groups) => Rec::Multi {
+            multi: multi_of(rt, number),
+            offset,
+            members: members_of(rt, groups),
+        },
+        Record::Truncate(oldest, number, offset) => Rec::Truncate {
+            oldest: id_of(rt, oldest),
+            multi: multi_of(rt, number),
+            offset,
+        },
     }
 }
 
-/// Adds the record, whose bytes these are, behind others; it is read again whatever follows it, and no less than all
-/// of its bytes is a record.
-fn has_bytes(rec: &Rec, bytes: &[u8], alloc: Global) -> Result<bool, Fail> {
+/// Whether the record is lawful, and has these bytes where it is added behind others.
+fn adds(rt: &(impl Abort + AllocGlobal), rec: &Rec, front: &[u8], bytes: &[u8]) -> bool {
     if !is_lawful(rec) || rec_length(rec) != bytes.len() as u64 {
-        return Ok(false);
+        return false;
     }
-    let mut written = [8, 9].to_vec(alloc)?;
-    write_rec(rec, &mut written)?;
-    if written.len() < 2 || &written[2..] != bytes {
-        return Ok(false);
+    let mut written = Vec::from_slice(rt.alloc(), front).expect(rt, "memory");
+    assert!(rt; write_rec(rec, &mut written).is_ok());
+    written.as_slice().strip_prefix(front) == Some(bytes)
+}
+
+/// Whether the record has these bytes, is read from them whatever follows, and from no fewer of them.
+pub fn is_spelled(rt: &(impl Abort + AllocGlobal), rec: &Rec, bytes: &[u8]) -> bool {
+    let alloc = rt.alloc();
+    if !adds(rt, rec, &[], bytes) || !adds(rt, rec, &[8, 9], bytes) {
+        return false;
     }
-    written.push(77)?;
-    let Some(ReadRec { rec: again, length }) = read_rec(alloc, &written[2..])? else {
-        return Ok(false);
-    };
-    let mut spelled = Vec::new(alloc);
-    write_rec(&again, &mut spelled)?;
-    if length != bytes.len() as u64 || spelled.as_slice() != bytes {
-        return Ok(false);
+    let mut followed = Vec::from_slice(alloc, bytes).expect(rt, "memory");
+    assert!(rt; followed.push(77).is_ok());
+    let found = read_rec(alloc, followed.as_slice()).expect(rt, "memory");
+    let again = found.expect(rt, "a record is read again");
+    if again.length != bytes.len() as u64 || !adds(rt, &again.rec, &[], bytes) {
+        return false;
     }
     for count in 0..bytes.len() {
-        if read_rec(alloc, &bytes[..count])?.is_some() {
-            return Ok(false);
+        let found = read_rec(alloc, &bytes[..count]).expect(rt, "memory");
+        if found.is_some() {
+            return false;
         }
     }
-    Ok(true)
+    true
 }
 
-/// The bytes of the record that the words name, where it is read from them again.
-pub fn spelled(alloc: Global, words: &mut SplitWhitespace<'_>) -> Result<String, Fail> {
-    let rec = rec_of(alloc, words)?;
-    if !is_lawful(&rec) {
-        return Ok(String::from_str(alloc, "it isn't lawful")?);
-    }
-    let mut bytes = Vec::new(alloc);
-    write_rec(&rec, &mut bytes)?;
-    if has_bytes(&rec, bytes.as_slice(), alloc)? {
-        told(alloc, &bytes.as_slice())
-    } else {
-        Ok(String::from_str(alloc, "it isn't read again")?)
-    }
-}
-
-/// Whether a record is read from the bytes `AT BYTE BYTES..`, of which the one at the place AT becomes BYTE.
-pub fn is_read(alloc: Global, words: &mut SplitWhitespace<'_>) -> Result<bool, Fail> {
-    let at = next_number(words)?;
-    let changed = next_byte(words)?;
-    let mut bytes: Vec<u8> = Vec::new(alloc);
-    for word in words {
-        let is_changed = bytes.len() as u64 == at;
-        let byte = word.parse::<u8>().ok().ok_or("no byte")?;
-        bytes.push(if is_changed { changed } else { byte })?;
-    }
-    Ok(read_rec(alloc, bytes.as_slice())?.is_some())
-}
-
-pub fn next_byte(words: &mut SplitWhitespace<'_>) -> Result<u8, Fail> {
-    Ok(u8::try_from(next_number(words)?).ok().ok_or("no byte")?)
+/// Whether a record is read from the bytes, of which the one at this place becomes another.
+pub fn is_read(rt: &(impl Abort + AllocGlobal), bytes: &[u8], at: usize, byte: u8) -> bool {
+    let mut changed = Vec::from_slice(rt.alloc(), bytes).expect(rt, "memory");
+    *changed.get_mut(at).expect(rt, "a byte") = byte;
+    let found = read_rec(rt.alloc(), changed.as_slice());
+    found.expect(rt, "memory").is_some()
 }

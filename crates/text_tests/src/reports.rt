@@ -28,7 +28,7 @@ fn quiet_life(rt: &(impl Abort + AllocGlobal), number: u64, flushed: u64, end: u
     let counters = first_counters(rt);
     let life = Life {
         from: number,
-        base: counters,
+        base: first_counters(rt),
         committed: Sequence::new(alloc),
         recorded: Sequence::new(alloc),
         events: Sequence::new(alloc),

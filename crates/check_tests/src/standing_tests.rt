@@ -7,56 +7,74 @@ use std::process::Abort;
 use tx_events::{By, Lock, Mode, Refusal, Sequence, Xid};
 use tx_model::{Command, Line, Pair, PairList, Reply};
 
-fn refused(refusal: Refusal) -> Reply {
-    Reply::Refused { refusal }
+/// The reply that tells this refusal, or `ok`.
+fn reply_of(refusal: Option<Refusal>) -> Reply {
+    match refusal {
+        Some(refusal) => Reply::Refused { refusal },
+        None => Reply::Done,
+    }
 }
 
-fn line_of(command: Command, reply: Reply) -> Line {
+fn line_of(command: Command, refusal: Option<Refusal>) -> Line {
     let by = By {
         session: 0,
         command: 1,
     };
+    let reply = reply_of(refusal);
     Line { by, command, reply }
 }
 
 /// A commit is pending.
-fn held() -> Option<Refusal> {
-    Some(Refusal::CommitPending)
-}
+const HELD: Option<Refusal> = Some(Refusal::CommitPending);
 
 /// Whether the line may come next, as far as the session's standing tells, is `wanted`.
 fn check<R: Abort>(
     rt: &R,
     standing: &Standing,
     command: Command,
-    reply: Reply,
+    refusal: Option<Refusal>,
     pending: Option<Refusal>,
     wanted: bool,
 ) {
-    let may = is_refused_by_standing(&line_of(command, reply), standing, pending);
-    assert!(rt; may == wanted);
+    let line = line_of(command, refusal);
+    assert!(rt; is_refused_by_standing(&line, standing, pending) == wanted);
 }
 
 #[test]
 fn release_and_undo_want_a_savepoint(rt: HostRuntime) {
+    use Command::{Begin, Commit, Release, Save, Undo, Write};
     let mut standing = Standing::new(rt.alloc());
-    let none = refused(Refusal::NoTransaction);
-    check(&rt, &standing, Command::Write, none, None, true);
+    check(
+        &rt,
+        &standing,
+        Write,
+        Some(Refusal::NoTransaction),
+        None,
+        true,
+    );
     standing.levels.begin();
-    let none = refused(Refusal::NoSavepoint);
-    check(&rt, &standing, Command::Release, none, None, true);
-    check(&rt, &standing, Command::Undo, Reply::Done, None, false);
-    let memory = refused(Refusal::Memory);
-    check(&rt, &standing, Command::Undo, memory, None, true);
-    let open = refused(Refusal::AlreadyOpen);
-    check(&rt, &standing, Command::Begin, open, None, true);
+    let none = Some(Refusal::NoSavepoint);
+    check(&rt, &standing, Release, none, None, true);
+    check(&rt, &standing, Undo, None, None, false);
+    check(&rt, &standing, Undo, Some(Refusal::Memory), None, true);
+    check(
+        &rt,
+        &standing,
+        Begin,
+        Some(Refusal::AlreadyOpen),
+        None,
+        true,
+    );
     assert!(rt; standing.levels.save().is_ok());
-    check(&rt, &standing, Command::Undo, Reply::Done, None, true);
-    let pending = refused(Refusal::CommitPending);
-    check(&rt, &standing, Command::Save, pending, held(), true);
-    check(&rt, &standing, Command::Save, Reply::Done, held(), false);
-    check(&rt, &standing, Command::Commit, Reply::Done, held(), true);
+    check(&rt, &standing, Undo, None, None, true);
+    check(&rt, &standing, Save, HELD, HELD, true);
+    check(&rt, &standing, Save, None, HELD, false);
+    check(&rt, &standing, Commit, None, HELD, true);
 }
+
+const FAULT: Option<Refusal> = Some(Refusal::LogFault);
+
+const DOWN: Option<Refusal> = Some(Refusal::LogDown { at: 3 });
 
 /// What is pending behind the line is `wanted`.
 fn check_pending<R: Abort>(
@@ -64,47 +82,63 @@ fn check_pending<R: Abort>(
     recorded: bool,
     before: Option<Refusal>,
     command: &Command,
-    reply: &Reply,
+    refusal: Option<Refusal>,
     wanted: Option<Refusal>,
 ) {
-    assert!(rt; pending_after(recorded, before, command, reply) == wanted);
+    let reply = reply_of(refusal);
+    assert!(rt; pending_after(recorded, before, command, &reply) == wanted);
 }
 
 #[test]
 fn faults_leave_an_end_pending(rt: HostRuntime) {
-    let log = refused(Refusal::LogFault);
-    let down = refused(Refusal::LogDown { at: 3 });
-    let fault = refused(Refusal::DiskFault {
+    let fault = Some(Refusal::DiskFault {
         lock: Lock::Xact(0),
     });
     let abort = Some(Refusal::AbortPending);
-    check_pending(&rt, false, None, &Command::Commit, &log, held());
-    check_pending(&rt, true, None, &Command::Commit, &down, held());
-    check_pending(&rt, false, None, &Command::Commit, &down, None);
-    check_pending(&rt, false, None, &Command::Abort, &fault, abort);
-    check_pending(&rt, false, held(), &Command::Commit, &Reply::Done, None);
-    check_pending(&rt, false, held(), &Command::Save, &log, held());
+    check_pending(&rt, false, None, &Command::Commit, FAULT, HELD);
+    check_pending(&rt, true, None, &Command::Commit, DOWN, HELD);
+    check_pending(&rt, false, None, &Command::Commit, DOWN, None);
+    check_pending(&rt, false, None, &Command::Abort, fault, abort);
+    check_pending(&rt, false, HELD, &Command::Commit, None, None);
+    check_pending(&rt, false, HELD, &Command::Save, FAULT, HELD);
+}
+
+fn updater() -> Pair {
+    Pair {
+        x: Xid { number: 3 },
+        mode: Mode::Upd,
+    }
+}
+
+fn two_updaters<R: Abort + AllocGlobal>(rt: &R) -> Command {
+    let mut pairs = Sequence::new(rt.alloc());
+    assert!(rt; pairs.push(updater()).is_ok());
+    assert!(rt; pairs.push(updater()).is_ok());
+    let members = PairList::of(rt.alloc(), pairs).expect(rt, "memory");
+    Command::Multi { members }
+}
+
+/// Behind a command with this refusal the multixact that was unfinished stands so.
+fn check_unfinished<R: Abort>(
+    rt: &R,
+    before: Unfinished,
+    recorded: bool,
+    command: &Command,
+    refusal: Refusal,
+    wanted: Unfinished,
+) {
+    let reply = Reply::Refused { refusal };
+    assert!(rt; unfinished_behind(before, recorded, command, &reply) == wanted);
 }
 
 #[test]
 fn multixact_may_be_refused_or_unfinished(rt: HostRuntime) {
-    let mut pairs = Sequence::new(rt.alloc());
-    for _n in 0..2 {
-        let pair = Pair {
-            x: Xid { number: 3 },
-            mode: Mode::Upd,
-        };
-        assert!(rt; pairs.push(pair).is_ok());
-    }
-    let members = PairList::of(rt.alloc(), pairs).expect(&rt, "memory");
-    let line = line_of(Command::Multi { members }, refused(Refusal::TwoUpdaters));
+    use Unfinished::{Nothing, Perhaps, Sure};
+    let line = line_of(two_updaters(&rt), Some(Refusal::TwoUpdaters));
     assert!(rt; is_refused_by_members(&line));
-    let full = refused(Refusal::Full);
-    let memory = refused(Refusal::Memory);
-    let sure = unfinished_behind(Unfinished::Nothing, true, &line.command, &full);
-    assert!(rt; sure == Unfinished::Sure);
-    assert!(rt; unfinished_behind(sure, false, &line.command, &memory) == Unfinished::Perhaps);
-    let never = unfinished_behind(Unfinished::Nothing, false, &line.command, &memory);
-    assert!(rt; never == Unfinished::Nothing);
-    assert!(rt; unfinished_behind(sure, false, &Command::Commit, &memory) == Unfinished::Sure);
+    let multi = &line.command;
+    check_unfinished(&rt, Nothing, true, multi, Refusal::Full, Sure);
+    check_unfinished(&rt, Sure, false, multi, Refusal::Memory, Perhaps);
+    check_unfinished(&rt, Nothing, false, multi, Refusal::Memory, Nothing);
+    check_unfinished(&rt, Sure, false, &Command::Commit, Refusal::Memory, Sure);
 }

@@ -32,20 +32,23 @@ fn check(
     room: u64,
     status: u8,
     line: &str,
+    row: &str,
 ) {
     let mut source = MemSource::new(bytes, failing);
     let mut sink = MemSink::new(rt.alloc(), room, Vec::new(rt.alloc())).expect(rt, "memory");
     let found = check_tool(rt.alloc(), &mut source, &mut sink);
-    assert!(rt;
-        found == status && sink.held() == line.as_bytes(),
-        "not {line}"
-    );
+    let ends = found == status && sink.held() == line.as_bytes();
+    assert!(rt; ends, "not {line} of {row}");
+}
+
+fn bytes_of(rt: &(impl Abort + AllocGlobal), text: &str) -> Vec<u8> {
+    Vec::from_slice(rt.alloc(), text.as_bytes()).expect(rt, "memory")
 }
 
 /// A check of the text ends with this status and this line.
 pub fn check_text(rt: &(impl Abort + AllocGlobal), text: &str, status: u8, line: &str) {
-    let bytes = Vec::from_slice(rt.alloc(), text.as_bytes()).expect(rt, "memory");
-    check(rt, bytes, Vec::new(rt.alloc()), 100, status, line);
+    let none = Vec::new(rt.alloc());
+    check(rt, bytes_of(rt, text), none, 100, status, line, text);
 }
 
 /// The report with the second words in place of the first ones is refused with this line.
@@ -57,8 +60,9 @@ pub fn check_refused(
     line: &str,
 ) {
     let (front, behind) = report.split_once(old).expect(rt, "the words");
-    let text = format!(in rt.alloc(); "{front}{new}{behind}").expect(rt, "memory");
-    check_text(rt, text.as_str(), 8, line);
+    let text = [front, new, behind].concat(rt.alloc()).expect(rt, "memory");
+    let none = Vec::new(rt.alloc());
+    check(rt, bytes_of(rt, text.as_str()), none, 100, 8, line, old);
 }
 
 #[test]
@@ -118,14 +122,15 @@ fn first_lines_of_a_report_lack_the_next_one(rt: HostRuntime) {
 fn text_past_the_limit_is_told_at_line_0(rt: HostRuntime) {
     let mut bytes = Vec::new(rt.alloc());
     assert!(rt; bytes.resize(16_777_217, b'\n').is_ok());
-    check(&rt, bytes, Vec::new(rt.alloc()), 100, 8, "unlawful 0\n");
+    let none = Vec::new(rt.alloc());
+    check(&rt, bytes, none, 100, 8, "unlawful 0\n", "only line ends");
 }
 
 #[test]
 fn a_source_or_a_sink_that_fails_ends_the_check(rt: HostRuntime) {
-    let bytes = Vec::from_slice(rt.alloc(), COMMITTED.as_bytes()).expect(&rt, "memory");
+    let bytes = bytes_of(&rt, COMMITTED);
     let failing = [1].to_vec(rt.alloc()).expect(&rt, "memory");
-    check(&rt, bytes, failing, 100, 3, "read-fault\n");
-    let bytes = Vec::from_slice(rt.alloc(), COMMITTED.as_bytes()).expect(&rt, "memory");
-    check(&rt, bytes, Vec::new(rt.alloc()), 4, 4, "lawf");
+    check(&rt, bytes, failing, 100, 3, "read-fault\n", "a source");
+    let none = Vec::new(rt.alloc());
+    check(&rt, bytes_of(&rt, COMMITTED), none, 4, 4, "lawf", "a sink");
 }

@@ -1,15 +1,19 @@
 //! What is generated, and what it comes to.
-use crate::lines::{number_and_rest, told};
-use crate::script_calls::script_text;
+use crate::help::{check_row, id};
+use crate::scripts::Asks::{Begin, Commit, Drop, Release, Save, See, Snap, Undo, Write};
+use crate::scripts::check_script;
 use script_gen::{Summary, generate};
 use session_lang::{Item, Items, Script};
-use std::alloc::Global;
-use std::test::Fail;
-use tx_events::FullXid;
-use tx_model::{By, Command, Event, Memory, Name};
+use std::alloc::AllocGlobal;
+use std::process::Abort;
+use tx_model::{By, Command, Event, Name};
+
+fn script_of(rt: &(impl Abort + AllocGlobal), seed: u32, size: u32) -> Script {
+    generate(rt.alloc(), seed, size).expect(rt, "memory")
+}
 
 /// What a script's commands come to, where none of them is refused.
-fn counted(items: &Items) -> Result<Summary, Memory> {
+fn counted(rt: &impl Abort, items: &Items) -> Summary {
     let mut all = Summary {
         commands: 0,
         ids: 0,
@@ -20,7 +24,7 @@ fn counted(items: &Items) -> Result<Summary, Memory> {
         sees: 0,
     };
     for place in 0..items.len() {
-        let Some(Item::Run { command, .. }) = items.get(place)? else {
+        let Some(Item::Run { command, .. }) = items.get(place).expect(rt, "memory") else {
             continue;
         };
         all.commands = all.commands.saturating_add(1);
@@ -35,56 +39,96 @@ fn counted(items: &Items) -> Result<Summary, Memory> {
         };
         *count = count.saturating_add(1);
     }
-    Ok(all)
+    all
 }
 
-/// How many transactions and rounds there are, and how many sessions, if four take turns and a round ends behind 64
-/// transactions.
-fn turns(alloc: Global, script: &Script) -> Result<String, Fail> {
+pub fn scripts_have_the_counts_that_were_printed_elsewhere(rt: &(impl Abort + AllocGlobal)) {
+    for (seed, size, line) in [
+        (
+            1,
+            1,
+            "commands 15 ids 4 undone 2 commits 1 aborts 0 snaps 1 sees 1\n",
+        ),
+        (
+            7,
+            64,
+            "commands 2103 ids 637 undone 224 commits 53 aborts 11 snaps 64 sees 64\n",
+        ),
+        (
+            123456789,
+            300,
+            "commands 9570 ids 2890 undone 861 commits 239 aborts 61 snaps 300 sees 300\n",
+        ),
+        (
+            2147483646,
+            1000,
+            "commands 32439 ids 9813 undone 2934 commits 814 aborts 186 snaps 1000 sees 1000\n",
+        ),
+    ] {
+        let script = script_of(rt, seed, size);
+        let all = counted(rt, &script.items.items());
+        let text = all.text(rt.alloc()).expect(rt, "memory");
+        check_row(rt, text.as_slice() == line.as_bytes(), line);
+    }
+}
+
+pub fn first_script_of_the_format_is_drawn_as_it_says(rt: &(impl Abort + AllocGlobal)) {
+    check_script(
+        rt,
+        &script_of(rt, 1, 1),
+        4,
+        &[b"a"],
+        &[
+            (0, Begin),
+            (0, Write),
+            (0, Save),
+            (0, Write),
+            (0, Undo),
+            (0, Save),
+            (0, Write),
+            (0, Undo),
+            (0, Save),
+            (0, Write),
+            (0, Release),
+            (0, Snap(b"s")),
+            (0, See(b"s", 3)),
+            (0, Drop(b"s")),
+            (0, Commit),
+        ],
+    );
+}
+
+pub fn no_transactions_make_no_script_lines(rt: &(impl Abort + AllocGlobal)) {
+    check_script(rt, &script_of(rt, 5, 0), 4, &[], &[]);
+}
+
+/// Four sessions take turns, and a round ends behind 64 transactions: of 130 transactions there are two rounds.
+pub fn a_round_ends_behind_64_transactions_and_sessions_take_turns(
+    rt: &(impl Abort + AllocGlobal),
+) {
+    let script = script_of(rt, 7, 130);
     let items = script.items.items();
     let mut begun: u32 = 0;
     let mut rounds: u32 = 0;
     for place in 0..items.len() {
-        match items.get(place)? {
+        match items.get(place).expect(rt, "memory") {
             Some(
                 Item::Run {
                     session,
                     command: Command::Begin,
                 },
             ) => {
-                if session != begun % 4 {
-                    return told(alloc, &("begun by session", session));
-                }
+                assert!(rt; session == begun % 4);
                 begun = begun.saturating_add(1);
             }
             Some(Item::Round) => {
                 rounds = rounds.saturating_add(1);
-                if begun != rounds.saturating_mul(64) {
-                    return told(alloc, &("round behind", begun));
-                }
+                assert!(rt; begun == rounds.saturating_mul(64));
             }
             _ => {}
         }
     }
-    told(alloc, &(begun, rounds, script.names.items().len()))
-}
-
-/// The script of `SEED SIZE`.
-pub fn of_numbers(alloc: Global, word: &str, text: &str) -> Result<String, Fail> {
-    let (seed, rest) = number_and_rest(text)?;
-    let (size, _) = number_and_rest(rest)?;
-    let script = generate(alloc, seed, size)?;
-    let items = script.items.items();
-    match word {
-        "counts" => {
-            let line = counted(&items)?.text(alloc)?;
-            let line = String::from_utf8(line).ok().ok_or("no text")?;
-            let line = line.as_str().strip_suffix("\n");
-            Ok(String::from_str(alloc, line.ok_or("an unfinished line")?)?)
-        }
-        "turns" => turns(alloc, &script),
-        _ => script_text(alloc, &script),
-    }
+    assert!(rt; begun == 130 && rounds == 2 && script.names.items().len() == 4);
 }
 
 #[test]
@@ -93,9 +137,7 @@ fn summary_counts_what_a_history_has_of_each(rt: HostRuntime) {
         session: 0,
         command: 1,
     };
-    let (Some(three), Some(four)) = (FullXid::new(3), FullXid::new(4)) else {
-        return assert!(rt; false);
-    };
+    let (three, four) = (id(&rt, 3), id(&rt, 4));
     let history = [
         Event::Id { by, id: three },
         Event::Sub {
@@ -124,5 +166,5 @@ fn summary_counts_what_a_history_has_of_each(rt: HostRuntime) {
         snaps: 1,
         sees: 3,
     };
-    assert_eq!(rt; Summary::of(&history, 9, 3), wanted);
+    assert!(rt; Summary::of(&history, 9, 3) == wanted);
 }

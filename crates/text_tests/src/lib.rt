@@ -6,16 +6,16 @@
 #[cfg(test)]
 mod generated;
 #[cfg(test)]
-mod lines;
+mod help;
 #[cfg(test)]
 mod replies;
 #[cfg(test)]
-mod report_calls;
-#[cfg(test)]
 mod report_tests;
+#[cfg(test)]
+mod report_texts;
 #[cfg(test)]
 mod reports;
 #[cfg(test)]
-mod script_calls;
-#[cfg(test)]
 mod script_tests;
+#[cfg(test)]
+mod scripts;

@@ -1,53 +1,59 @@
 //! The reports that are printed, by their values.
-use crate::replies::{id, multi};
-use std::alloc::Global;
-use std::test::Fail;
-use tx_events::Xid;
-use tx_model::*;
+use crate::help::{id, list, multi};
+use std::alloc::AllocGlobal;
+use std::process::Abort;
+use tx_events::{
+    By, Counters, Event, EventList, Member, MemberList, Mode, MultiEvent, MultiEventList, Name,
+    Rec, RecList, Refusal, Sequence, Xid,
+};
+use tx_model::{
+    Command, DumpOf, How, Life, LifeReport, Line, NameList, Pair, PairList, Reply, Report, Step,
+    StepList,
+};
 
-fn first_counters() -> Result<Counters, Fail> {
-    Ok(Counters {
-        next: id(3)?,
-        oldest: id(3)?,
-        multi: multi(1)?,
+fn first_counters(rt: &impl Abort) -> Counters {
+    Counters {
+        next: id(rt, 3),
+        oldest: id(rt, 3),
+        multi: multi(rt, 1),
         offset: 1,
-        oldest_multi: multi(1)?,
+        oldest_multi: multi(rt, 1),
         oldest_offset: 1,
-    })
+    }
 }
 
 /// A life whose log has one checkpoint, of this number.
-fn quiet_life(alloc: Global, number: u64, flushed: u64, end: u64) -> Result<LifeReport, Fail> {
-    let counters = first_counters()?;
-    let recs = Sequence::of(vec![in alloc; Rec::Checkpoint { number, counters }]?);
+fn quiet_life(rt: &(impl Abort + AllocGlobal), number: u64, flushed: u64, end: u64) -> LifeReport {
+    let alloc = rt.alloc();
+    let counters = first_counters(rt);
     let life = Life {
         from: number,
-        base: counters,
+        base: first_counters(rt),
         committed: Sequence::new(alloc),
         recorded: Sequence::new(alloc),
         events: Sequence::new(alloc),
         multis: Sequence::new(alloc),
-        recs,
+        recs: list(rt, [Rec::Checkpoint { number, counters }]),
         flushed,
         end,
     };
-    Ok(LifeReport {
+    LifeReport {
         life,
         steps: Sequence::new(alloc),
         crash: None,
-    })
+    }
 }
 
-fn members(alloc: Global) -> Result<MemberList, Fail> {
+fn members(rt: &(impl Abort + AllocGlobal)) -> MemberList {
     let first = Member {
-        id: id(3)?,
+        id: id(rt, 3),
         mode: Mode::KeySh,
     };
     let second = Member {
-        id: id(4)?,
+        id: id(rt, 4),
         mode: Mode::Upd,
     };
-    Ok(Sequence::of(vec![in alloc; first, second]?))
+    list(rt, [first, second])
 }
 
 fn line(session: u32, number: u64, command: Command, reply: Reply) -> Line {
@@ -58,49 +64,50 @@ fn line(session: u32, number: u64, command: Command, reply: Reply) -> Line {
     Line { by, command, reply }
 }
 
-fn round(alloc: Global) -> Result<Step, Fail> {
+fn round(rt: &(impl Abort + AllocGlobal)) -> Step {
     let x = Xid { number: 3 };
     let mode = Mode::KeySh;
-    let pairs = Sequence::of(vec![in alloc; Pair { x, mode }]?);
-    let members = PairList::of(alloc, pairs)?;
-    let name = Name::of(b"s");
-    let mut lines = Sequence::new(alloc);
-    lines.push(line(0, 1, Command::Begin, Reply::Done))?;
-    lines.push(line(
-        0,
-        2,
-        Command::See { name, x },
-        Reply::Seen { visible: false },
-    ))?;
-    lines.push(line(1, 1, Command::Multi { members }, Reply::Done))?;
-    Ok(Step::Round { number: 1, lines })
+    let pairs = list(rt, [Pair { x, mode }]);
+    let members = PairList::of(rt.alloc(), pairs).expect(rt, "memory");
+    let see = Command::See {
+        name: Name::of(b"s"),
+        x,
+    };
+    let hidden = Reply::Seen { visible: false };
+    let lines = list(
+        rt,
+        [
+            line(0, 1, Command::Begin, Reply::Done),
+            line(0, 2, see, hidden),
+            line(1, 1, Command::Multi { members }, Reply::Done),
+        ],
+    );
+    Step::Round { number: 1, lines }
 }
 
-fn steps(alloc: Global) -> Result<StepList, Fail> {
-    let mut steps = Sequence::new(alloc);
-    steps.push(round(alloc)?)?;
-    steps.push(Step::Checkpoint {
+fn steps(rt: &(impl Abort + AllocGlobal)) -> StepList {
+    let checkpoint = Step::Checkpoint {
         reply: Reply::Pending {
             session: 0,
             refusal: Refusal::CommitPending,
         },
-    })?;
-    let bytes = Sequence::of(vec![in alloc; 0x40, 0x06, 0x00, 0xaf]?);
-    steps.push(Step::Dump {
+    };
+    let bytes = list(rt, [0x40, 0x06, 0x00, 0xaf]);
+    let states = Step::Dump {
         what: DumpOf::Xact { page: 0 },
         at: 0,
         length: 4,
         reply: Reply::Bytes { bytes },
-    })?;
-    steps.push(Step::Dump {
+    };
+    let log = Step::Dump {
         what: DumpOf::Log,
         at: 62,
         length: 8,
         reply: Reply::Refused {
             refusal: Refusal::LogFault,
         },
-    })?;
-    Ok(steps)
+    };
+    list(rt, [round(rt), checkpoint, states, log])
 }
 
 const FOURTH: By = By {
@@ -108,107 +115,96 @@ const FOURTH: By = By {
     command: 4,
 };
 
-fn events(alloc: Global) -> Result<EventList, Fail> {
+fn events(rt: &(impl Abort + AllocGlobal)) -> EventList {
     let sub = Event::Sub {
         by: FOURTH,
-        parent: id(3)?,
-        id: id(4)?,
+        parent: id(rt, 3),
+        id: id(rt, 4),
     };
     let drop = Event::SnapDrop {
         by: FOURTH,
         name: Name::of(b"s"),
     };
-    Ok(Sequence::of(vec![in alloc; sub, drop]?))
+    list(rt, [sub, drop])
 }
 
-fn multi_events(alloc: Global) -> Result<MultiEventList, Fail> {
-    let (first, second) = (multi(1)?, multi(2)?);
-    let members = members(alloc)?;
+fn multi_events(rt: &(impl Abort + AllocGlobal)) -> MultiEventList {
     let generated = MultiEvent::Gen {
         by: FOURTH,
-        multi: first,
+        multi: multi(rt, 1),
         offset: 1,
-        members,
+        members: members(rt),
     };
     let unhold = MultiEvent::Unhold {
         by: FOURTH,
-        multi: first,
+        multi: multi(rt, 1),
     };
     let raise = MultiEvent::Raise {
         by: FOURTH,
-        multi: second,
+        multi: multi(rt, 2),
         offset: 3,
     };
-    Ok(Sequence::of(vec![in alloc; generated, unhold, raise]?))
+    list(rt, [generated, unhold, raise])
 }
 
-fn records(alloc: Global) -> Result<RecList, Fail> {
-    let (three, four, five) = (id(3)?, id(4)?, id(5)?);
-    let multi = multi(1)?;
-    let subs = Sequence::of(vec![in alloc; four]?);
-    let members = members(alloc)?;
-    let mut recs = Sequence::new(alloc);
-    recs.push(Rec::Commit { top: three, subs })?;
-    recs.push(Rec::Abort {
-        top: five,
-        subs: Sequence::new(alloc),
-    })?;
-    recs.push(Rec::Multi {
-        multi,
+fn records(rt: &(impl Abort + AllocGlobal)) -> RecList {
+    let commit = Rec::Commit {
+        top: id(rt, 3),
+        subs: list(rt, [id(rt, 4)]),
+    };
+    let abort = Rec::Abort {
+        top: id(rt, 5),
+        subs: Sequence::new(rt.alloc()),
+    };
+    let made = Rec::Multi {
+        multi: multi(rt, 1),
         offset: 1,
-        members,
-    })?;
-    recs.push(Rec::Truncate {
-        oldest: three,
-        multi,
+        members: members(rt),
+    };
+    let truncate = Rec::Truncate {
+        oldest: id(rt, 3),
+        multi: multi(rt, 1),
         offset: 1,
-    })?;
-    Ok(recs)
+    };
+    list(rt, [commit, abort, made, truncate])
 }
 
-fn busy_life(alloc: Global) -> Result<LifeReport, Fail> {
-    let base = first_counters()?;
-    let events = events(alloc)?;
-    let multis = multi_events(alloc)?;
-    let recs = records(alloc)?;
-    let steps = steps(alloc)?;
+fn busy_life(rt: &(impl Abort + AllocGlobal)) -> LifeReport {
     let life = Life {
         from: 8,
-        base,
-        committed: Sequence::new(alloc),
-        recorded: Sequence::new(alloc),
-        events,
-        multis,
-        recs,
+        base: first_counters(rt),
+        committed: Sequence::new(rt.alloc()),
+        recorded: Sequence::new(rt.alloc()),
+        events: events(rt),
+        multis: multi_events(rt),
+        recs: records(rt),
         flushed: 9,
         end: 131,
     };
-    Ok(LifeReport {
+    LifeReport {
         life,
-        steps,
+        steps: steps(rt),
         crash: Some(How::Torn),
-    })
+    }
 }
 
 /// The sessions `a` and `b`.
-pub fn two_sessions(alloc: Global) -> Result<NameList, Fail> {
-    Ok(Sequence::of(vec![in alloc; Name::of(b"a"), Name::of(b"b")]?))
+pub fn two_sessions(rt: &(impl Abort + AllocGlobal)) -> NameList {
+    list(rt, [Name::of(b"a"), Name::of(b"b")])
 }
 
 /// A run of no commands.
-pub fn empty_run(alloc: Global) -> Result<Report, Fail> {
-    let lives = Sequence::of(vec![in alloc; quiet_life(alloc, 0, 1, 62)?]?);
-    Ok(Report {
-        names: Sequence::new(alloc),
-        lives,
-    })
+pub fn empty_run(rt: &(impl Abort + AllocGlobal)) -> Report {
+    Report {
+        names: Sequence::new(rt.alloc()),
+        lives: list(rt, [quiet_life(rt, 0, 1, 62)]),
+    }
 }
 
 /// A run whose first life has a line of each kind.
-pub fn two_lives(alloc: Global) -> Result<Report, Fail> {
-    let names = two_sessions(alloc)?;
-    let mut lives = Sequence::new(alloc);
-    lives.push(busy_life(alloc)?)?;
-    lives.push(quiet_life(alloc, 12, 13, 193)?)?;
-    Ok(Report { names, lives })
+pub fn two_lives(rt: &(impl Abort + AllocGlobal)) -> Report {
+    Report {
+        names: two_sessions(rt),
+        lives: list(rt, [busy_life(rt), quiet_life(rt, 12, 13, 193)]),
+    }
 }

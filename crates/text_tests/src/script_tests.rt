@@ -1,91 +1,224 @@
 // Scripts with their faults, from the rows of the format, and generated ones, with the counts that another program of the same
 // format printed.
-use crate::lines::check_rows;
-use std::test::Fail;
+use crate::generated::{
+    a_round_ends_behind_64_transactions_and_sessions_take_turns,
+    first_script_of_the_format_is_drawn_as_it_says, no_transactions_make_no_script_lines,
+    scripts_have_the_counts_that_were_printed_elsewhere,
+};
+use crate::help::{check_row, joined};
+use crate::scripts::Asks::{Crash, Did, Drop, Dump, Multi, See, SeeMulti, Snap, Status};
+use crate::scripts::check_script;
+use session_lang::{Kind, ParseRefusal, Script, line_of, parse};
+use std::alloc::AllocGlobal;
+use std::process::Abort;
+use tx_events::Xid;
+use tx_model::{DumpOf, How, Mode, Pair};
 
-const ROWS: &str = "=== first_fault_is_told_with_its_line_and_kind
-fault .round|.start 3| => Some((2, Directive))
-fault a see s 4294967296| => Some((1, Number))
-fault a multi 3:foo| => Some((1, Mode))
-fault a multi x:sh 3:sh:| => Some((1, Mode))
-fault a multi x:sh| => Some((1, Number))
-fault a begin x| => Some((1, Arguments))
-fault .oldest 9|.start 8| => Some((2, Base))
-fault .oldest 9||# x|.start 9|.start 9| => Some((5, Directive))
-fault .oldest 9|a frob| => Some((1, Base))
-fault .oldest 9|# \x01|.start 9| => Some((1, Base))
-fault .oldest 9|.start \x01| => Some((2, Byte))
-fault .crash soon| => Some((1, Name))
-fault .crash| => Some((1, Arguments))
-fault a begin|a frob| => Some((2, Command))
-fault a| => Some((1, Command))
-fault A begin| => Some((1, Session))
-fault a begin\r => Some((1, Byte))
-fault a begin\r\r| => Some((1, Byte))
-fault # \x7f| => Some((1, Byte))
-fault .dump foo 0 1| => Some((1, Arguments))
-fault .dump foo 0 0 1| => Some((1, Name))
-fault .dump xact 0 8192 1| => Some((1, Number))
-fault a freeze 4294967296| => Some((1, Number))
-fault .banks 17| => Some((1, Number))
-=== blanks_comments_and_line_ends_are_no_part_of_a_script
-script   # a script\r|\t.banks\t016\r|| b  multi 003:upd\t4:sh |.crash torn|b did 1 => 16 banks: b; 0 multi [Pair { x: Xid { number: 3 }, mode: Upd }, Pair { x: Xid { number: 4 }, mode: Sh }]; Torn; 0 did 1
-line-of 0   # a script\r|\t.banks\t016\r|| b  multi 003:upd\t4:sh |.crash torn|b did 1 => 4
-line-of 1   # a script\r|\t.banks\t016\r|| b  multi 003:upd\t4:sh |.crash torn|b did 1 => 5
-line-of 3   # a script\r|\t.banks\t016\r|| b  multi 003:upd\t4:sh |.crash torn|b did 1 => 0
-=== each_command_has_its_own_name_and_number
-script a snap first|b see s 7|a seemulti second1 9|b status 4294967303|a drop first| => 4 banks: a b; 0 snap first; 1 see s 7; 0 seemulti second1 9; 1 status 4294967303; 0 drop first
-session-of 4 a snap first|b see s 7|a seemulti second1 9|b status 4294967303|a drop first| => Some(0)
-session-of 5 a snap first|b see s 7|a seemulti second1 9|b status 4294967303|a drop first| => None
-=== each_multixact_and_dump_has_its_own_part
-script a multi 3:sh 4:upd|.dump log 1099511627776 64|a multi 5:keysh|.dump xact 7 8 9| => 4 banks: a; 0 multi [Pair { x: Xid { number: 3 }, mode: Sh }, Pair { x: Xid { number: 4 }, mode: Upd }]; (Log, 1099511627776, 64); 0 multi [Pair { x: Xid { number: 5 }, mode: KeySh }]; (Xact { page: 7 }, 8, 9)
-=== shortest_line_of_each_kind_takes_at_most_twice_its_text
-kept a begin => true
-kept a save => true
-kept a write => true
-kept a release => true
-kept a undo => true
-kept a commit => true
-kept a abort => true
-kept a trim => true
-kept a horizon => true
-kept a snap s => true
-kept a drop s => true
-kept a see s 3 => true
-kept a seemulti s 1 => true
-kept a did 3 => true
-kept a status 3 => true
-kept a freeze 3 => true
-kept a multifreeze 1 => true
-kept a multi => true
-kept a multi 3:sh 4:sh 5:sh => true
-kept .round => true
-kept .checkpoint => true
-kept .crash lost => true
-kept .dump log 0 1 => true
-kept .dump xact 0 0 1 => true
-=== header_sets_all_counters
-base .offset 9|.start 4294967299|.multi 77|.oldest 4294967295| => ((4294967299, 4294967295), (77, 77), (9, 9))
-=== sixty_fifth_session_is_one_too_many
-fault s0 begin|s1 begin|s2 begin|s3 begin|s4 begin|s5 begin|s6 begin|s7 begin|s8 begin|s9 begin|s10 begin|s11 begin|s12 begin|s13 begin|s14 begin|s15 begin|s16 begin|s17 begin|s18 begin|s19 begin|s20 begin|s21 begin|s22 begin|s23 begin|s24 begin|s25 begin|s26 begin|s27 begin|s28 begin|s29 begin|s30 begin|s31 begin|s32 begin|s33 begin|s34 begin|s35 begin|s36 begin|s37 begin|s38 begin|s39 begin|s40 begin|s41 begin|s42 begin|s43 begin|s44 begin|s45 begin|s46 begin|s47 begin|s48 begin|s49 begin|s50 begin|s51 begin|s52 begin|s53 begin|s54 begin|s55 begin|s56 begin|s57 begin|s58 begin|s59 begin|s60 begin|s61 begin|s62 begin|s63 begin| => None
-fault s0 begin|s1 begin|s2 begin|s3 begin|s4 begin|s5 begin|s6 begin|s7 begin|s8 begin|s9 begin|s10 begin|s11 begin|s12 begin|s13 begin|s14 begin|s15 begin|s16 begin|s17 begin|s18 begin|s19 begin|s20 begin|s21 begin|s22 begin|s23 begin|s24 begin|s25 begin|s26 begin|s27 begin|s28 begin|s29 begin|s30 begin|s31 begin|s32 begin|s33 begin|s34 begin|s35 begin|s36 begin|s37 begin|s38 begin|s39 begin|s40 begin|s41 begin|s42 begin|s43 begin|s44 begin|s45 begin|s46 begin|s47 begin|s48 begin|s49 begin|s50 begin|s51 begin|s52 begin|s53 begin|s54 begin|s55 begin|s56 begin|s57 begin|s58 begin|s59 begin|s60 begin|s61 begin|s62 begin|s63 begin|s64 begin| => Some((65, Limit))
-=== command_past_a_hundred_thousand_in_a_round_is_one_too_many
-rounds 100000 100000 => None
-rounds 100000 100001 => Some((200002, Limit))
-=== scripts_have_the_counts_that_were_printed_elsewhere
-counts 1 1 => commands 15 ids 4 undone 2 commits 1 aborts 0 snaps 1 sees 1
-counts 7 64 => commands 2103 ids 637 undone 224 commits 53 aborts 11 snaps 64 sees 64
-counts 123456789 300 => commands 9570 ids 2890 undone 861 commits 239 aborts 61 snaps 300 sees 300
-counts 2147483646 1000 => commands 32439 ids 9813 undone 2934 commits 814 aborts 186 snaps 1000 sees 1000
-=== first_script_of_the_format_is_drawn_as_it_says
-generated 1 1 => 4 banks: a; 0 begin; 0 write; 0 save; 0 write; 0 undo; 0 save; 0 write; 0 undo; 0 save; 0 write; 0 release; 0 snap s; 0 see s 3; 0 drop s; 0 commit
-=== no_transactions_make_no_script_lines
-generated 5 0 => 4 banks:
-=== a_round_ends_behind_64_transactions_and_sessions_take_turns: of 130 transactions, two rounds, and four sessions
-turns 7 130 => (130, 2, 4)
-";
+fn read(rt: &(impl Abort + AllocGlobal), text: &str) -> Script {
+    let Ok(script) = parse(rt.alloc(), text.as_bytes()) else {
+        panic!(rt; "not read: {text}");
+    };
+    script
+}
+
+/// The first fault of the text is of this line and of this kind.
+fn check_fault(rt: &(impl Abort + AllocGlobal), text: &str, line: u64, kind: Kind) {
+    let fault = ParseRefusal::Fault { line, kind };
+    let found = match parse(rt.alloc(), text.as_bytes()) {
+        Err(refusal) => refusal == fault,
+        Ok(_) => false,
+    };
+    check_row(rt, found, text);
+}
+
+const FAULTS: [(&str, u64, Kind); 24] = [
+    (".round\n.start 3\n", 2, Kind::Directive),
+    ("a see s 4294967296\n", 1, Kind::Number),
+    ("a multi 3:foo\n", 1, Kind::Mode),
+    ("a multi x:sh 3:sh:\n", 1, Kind::Mode),
+    ("a multi x:sh\n", 1, Kind::Number),
+    ("a begin x\n", 1, Kind::Arguments),
+    (".oldest 9\n.start 8\n", 2, Kind::Base),
+    (".oldest 9\n\n# x\n.start 9\n.start 9\n", 5, Kind::Directive),
+    (".oldest 9\na frob\n", 1, Kind::Base),
+    (".oldest 9\n# \x01\n.start 9\n", 1, Kind::Base),
+    (".oldest 9\n.start \x01\n", 2, Kind::Byte),
+    (".crash soon\n", 1, Kind::Name),
+    (".crash\n", 1, Kind::Arguments),
+    ("a begin\na frob\n", 2, Kind::Command),
+    ("a\n", 1, Kind::Command),
+    ("A begin\n", 1, Kind::Session),
+    ("a begin\r", 1, Kind::Byte),
+    ("a begin\r\r\n", 1, Kind::Byte),
+    ("# \x7f\n", 1, Kind::Byte),
+    (".dump foo 0 1\n", 1, Kind::Arguments),
+    (".dump foo 0 0 1\n", 1, Kind::Name),
+    (".dump xact 0 8192 1\n", 1, Kind::Number),
+    ("a freeze 4294967296\n", 1, Kind::Number),
+    (".banks 17\n", 1, Kind::Number),
+];
+
+fn first_fault_is_told_with_its_line_and_kind(rt: &(impl Abort + AllocGlobal)) {
+    for (text, line, kind) in FAULTS {
+        check_fault(rt, text, line, kind);
+    }
+}
+
+const fn pair(number: u32, mode: Mode) -> Pair {
+    Pair {
+        x: Xid { number },
+        mode,
+    }
+}
+
+/// The item at this place stands on this line, or on none, which is 0.
+fn check_line_of(rt: &impl Abort, text: &str, place: usize, line: u64) {
+    assert!(rt; text.len() <= 16_777_216);
+    check_row(rt, line_of(text.as_bytes(), place) == line, text);
+}
+
+fn blanks_comments_and_line_ends_are_no_part_of_a_script(rt: &(impl Abort + AllocGlobal)) {
+    let text = "  # a script\r\n\t.banks\t016\r\n\n b  multi 003:upd\t4:sh \n.crash torn\nb did 1";
+    check_script(
+        rt,
+        &read(rt, text),
+        16,
+        &[b"b"],
+        &[
+            (0, Multi(&[pair(3, Mode::Upd), pair(4, Mode::Sh)])),
+            (0, Crash(How::Torn)),
+            (0, Did(1)),
+        ],
+    );
+    check_line_of(rt, text, 0, 4);
+    check_line_of(rt, text, 1, 5);
+    check_line_of(rt, text, 3, 0);
+}
+
+fn each_command_has_its_own_name_and_number(rt: &(impl Abort + AllocGlobal)) {
+    let script = read(
+        rt,
+        "a snap first\nb see s 7\na seemulti second1 9\nb status 4294967303\na drop first\n",
+    );
+    check_script(
+        rt,
+        &script,
+        4,
+        &[b"a", b"b"],
+        &[
+            (0, Snap(b"first")),
+            (1, See(b"s", 7)),
+            (0, SeeMulti(b"second1", 9)),
+            (1, Status(4_294_967_303)),
+            (0, Drop(b"first")),
+        ],
+    );
+    let items = script.items.items();
+    assert!(rt; items.session_at(4) == Some(0) && items.session_at(5).is_none());
+}
+
+fn each_multixact_and_dump_has_its_own_part(rt: &(impl Abort + AllocGlobal)) {
+    let text =
+        "a multi 3:sh 4:upd\n.dump log 1099511627776 64\na multi 5:keysh\n.dump xact 7 8 9\n";
+    check_script(
+        rt,
+        &read(rt, text),
+        4,
+        &[b"a"],
+        &[
+            (0, Multi(&[pair(3, Mode::Sh), pair(4, Mode::Upd)])),
+            (0, Dump(DumpOf::Log, 1_099_511_627_776, 64)),
+            (0, Multi(&[pair(5, Mode::KeySh)])),
+            (0, Dump(DumpOf::Xact { page: 7 }, 8, 9)),
+        ],
+    );
+}
+
+const SHORT_LINES: [&str; 24] = [
+    "a begin",
+    "a save",
+    "a write",
+    "a release",
+    "a undo",
+    "a commit",
+    "a abort",
+    "a trim",
+    "a horizon",
+    "a snap s",
+    "a drop s",
+    "a see s 3",
+    "a seemulti s 1",
+    "a did 3",
+    "a status 3",
+    "a freeze 3",
+    "a multifreeze 1",
+    "a multi",
+    "a multi 3:sh 4:sh 5:sh",
+    ".round",
+    ".checkpoint",
+    ".crash lost",
+    ".dump log 0 1",
+    ".dump xact 0 0 1",
+];
+
+fn shortest_line_of_each_kind_takes_at_most_twice_its_text(rt: &(impl Abort + AllocGlobal)) {
+    for text in SHORT_LINES {
+        let kept = read(rt, text).items.bytes_kept();
+        check_row(rt, kept <= text.len().saturating_mul(2), text);
+    }
+}
+
+fn header_sets_all_counters(rt: &(impl Abort + AllocGlobal)) {
+    let text = ".offset 9\n.start 4294967299\n.multi 77\n.oldest 4294967295\n";
+    let base = read(rt, text).base;
+    assert!(rt; base.next.number() == 4_294_967_299 && base.oldest.number() == 4_294_967_295);
+    assert!(rt; base.multi.number() == 77 && base.oldest_multi.number() == 77);
+    assert!(rt; base.offset == 9 && base.oldest_offset == 9);
+}
+
+const SIXTY_FOUR: &str = "s0 begin\ns1 begin\ns2 begin\ns3 begin\n\
+    s4 begin\ns5 begin\ns6 begin\ns7 begin\n\
+    s8 begin\ns9 begin\ns10 begin\ns11 begin\n\
+    s12 begin\ns13 begin\ns14 begin\ns15 begin\n\
+    s16 begin\ns17 begin\ns18 begin\ns19 begin\n\
+    s20 begin\ns21 begin\ns22 begin\ns23 begin\n\
+    s24 begin\ns25 begin\ns26 begin\ns27 begin\n\
+    s28 begin\ns29 begin\ns30 begin\ns31 begin\n\
+    s32 begin\ns33 begin\ns34 begin\ns35 begin\n\
+    s36 begin\ns37 begin\ns38 begin\ns39 begin\n\
+    s40 begin\ns41 begin\ns42 begin\ns43 begin\n\
+    s44 begin\ns45 begin\ns46 begin\ns47 begin\n\
+    s48 begin\ns49 begin\ns50 begin\ns51 begin\n\
+    s52 begin\ns53 begin\ns54 begin\ns55 begin\n\
+    s56 begin\ns57 begin\ns58 begin\ns59 begin\n\
+    s60 begin\ns61 begin\ns62 begin\ns63 begin\n";
+
+fn sixty_fifth_session_is_one_too_many(rt: &(impl Abort + AllocGlobal)) {
+    let _script = read(rt, SIXTY_FOUR);
+    let one_more = joined(rt, &[SIXTY_FOUR, "s64 begin\n"]);
+    check_fault(rt, one_more.as_str(), 65, Kind::Limit);
+}
+
+fn command_past_a_hundred_thousand_in_a_round_is_one_too_many(rt: &(impl Abort + AllocGlobal)) {
+    let writes = "a write\n".repeat(rt.alloc(), 100_000).expect(rt, "memory");
+    let two_rounds = joined(rt, &[writes.as_str(), ".dump log 0 1\n", writes.as_str()]);
+    let _script = read(rt, two_rounds.as_str());
+    let one_more = joined(rt, &[two_rounds.as_str(), "a write\n"]);
+    check_fault(rt, one_more.as_str(), 200_002, Kind::Limit);
+}
 
 #[test]
-fn scripts_answer_as_each_row_says(rt: HostRuntime) -> Result<(), Fail> {
-    check_rows(rt.alloc(), ROWS)
+fn scripts_answer_as_each_row_says(rt: HostRuntime) {
+    first_fault_is_told_with_its_line_and_kind(&rt);
+    blanks_comments_and_line_ends_are_no_part_of_a_script(&rt);
+    each_command_has_its_own_name_and_number(&rt);
+    each_multixact_and_dump_has_its_own_part(&rt);
+    shortest_line_of_each_kind_takes_at_most_twice_its_text(&rt);
+    header_sets_all_counters(&rt);
+    sixty_fifth_session_is_one_too_many(&rt);
+    command_past_a_hundred_thousand_in_a_round_is_one_too_many(&rt);
+    scripts_have_the_counts_that_were_printed_elsewhere(&rt);
+    first_script_of_the_format_is_drawn_as_it_says(&rt);
+    no_transactions_make_no_script_lines(&rt);
+    a_round_ends_behind_64_transactions_and_sessions_take_turns(&rt);
 }

@@ -17,10 +17,12 @@ mod fail_once_tests;
 #[cfg(test)]
 mod log_tests;
 #[cfg(test)]
-mod once_help;
+mod rows;
 #[cfg(test)]
 mod run_help;
 #[cfg(test)]
 mod stopped_tests;
 #[cfg(test)]
 mod thread_tests;
+#[cfg(test)]
+mod whole_help;

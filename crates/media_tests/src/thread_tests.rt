@@ -1,7 +1,8 @@
 //! Rounds of many commands, so that threads run: whatever order they take, each session's lines and events stand in its
 //! order, each once.
-use crate::run_help::{run_fused, run_new};
+use crate::run_help::{run_over, text_from};
 use disk_core::Which;
+use disk_fuse::Fails;
 use std::alloc::AllocGlobal;
 use std::process::Abort;
 
@@ -115,9 +116,17 @@ const SNAP: &str = "s0 11 snap t -> ok xmin 195 xmax 195 xip - sub - overflow no
 /// Each session was given three ids, of which one was undone.
 #[test]
 fn threads_tell_each_session_once_and_in_order(rt: HostRuntime) {
+    let words = [text_from(&rt, "run")];
     let script = round_and_looks(&rt);
     for threads in [1, 4, 64] {
-        let (status, report) = run_new(&rt, script.as_str(), threads);
+        let (status, report) = run_over(
+            &rt,
+            &words,
+            script.as_str(),
+            Which::Log,
+            Fails::Never,
+            threads,
+        );
         assert!(rt; status == 0);
         let report = report.as_str();
         check_lines(&rt, between(&rt, report, "\nround 1\n", "round 2\n"));
@@ -152,9 +161,11 @@ fn check_fault(rt: &(impl Abort + AllocGlobal), report: &str) {
 
 #[test]
 fn one_thread_is_told_the_fault_of_the_log(rt: HostRuntime) {
+    let words = [text_from(&rt, "run")];
     let script = one_round(&rt, &COMMITS);
     for passes in 8..30 {
-        let (status, report) = run_fused(&rt, "run", script.as_str(), Which::Log, passes, 8);
+        let fails = Fails::Behind(passes);
+        let (status, report) = run_over(&rt, &words, script.as_str(), Which::Log, fails, 8);
         assert!(rt; status == 0);
         check_fault(&rt, report.as_str());
     }

@@ -2,7 +2,7 @@
 use crate::rows::Fault::Behind;
 use crate::rows::Way::{Device, Has};
 use crate::rows::{NO_CRASH, Part, Row, check_rows};
-use crate::run_help::{run_over, text_from};
+use crate::run_help::run_over;
 use disk_core::Which::{Subtrans, Xact};
 use disk_fuse::Fails;
 use std::alloc::AllocGlobal;
@@ -371,12 +371,10 @@ fn many_subtransactions(rt: &(impl Abort + AllocGlobal)) -> String {
 #[test]
 fn a_fault_of_pg_subtrans_stops_a_write_halfway(rt: HostRuntime) {
     let script = many_subtransactions(&rt);
-    let words = [text_from(&rt, "run")];
-    let fails = Fails::Behind(3);
-    let (status, report) = run_over(&rt, &words, script.as_str(), Subtrans(0), fails, 1);
-    assert!(rt; status == 0);
+    let run = run_over(&rt, script.as_str(), Subtrans(0), Fails::Behind(3), 1);
+    assert!(rt; run.status == 0);
     assert!(rt;
-        report.contains(
+        run.written.contains(
             "
 a 33098 write -> disk-fault subtrans 0
 a 33099 write -> disk-fault subtrans 0
@@ -386,7 +384,7 @@ history
         )
     );
     assert!(rt;
-        report.contains(
+        run.written.contains(
             "
 sub a 33098 32765 32766
 sub a 33098 32766 32767

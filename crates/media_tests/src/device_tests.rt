@@ -1,10 +1,14 @@
 //! Runs over devices that fail: one volume passes so many calls, and then fails each. Opening a life makes eight calls on
 //! the log's volume, and each flush four.
 use crate::rows::Fault::Behind;
-use crate::rows::Way::{Device, Line, Report};
-use crate::rows::{NO_CRASH, Part, Row, check_rows, check_words};
-use crate::run_help::text_from;
+use crate::rows::Way::{Device, Report};
+use crate::rows::{NO_CRASH, Part, Row, check_rows};
 use disk_core::Which::{Log, Members, Offsets, Subtrans, Xact};
+use disk_fuse::Fails;
+use std::alloc::AllocGlobal;
+use std::process::Abort;
+use std::sync::Wait;
+use std::thread::Threads;
 
 const ROWS: [Row; 7] = [
     Row {
@@ -319,35 +323,43 @@ end
     },
 ];
 
-/// Over the words `gen 1 1`.
-const GENERATED: [Row; 1] = [Row {
-    name: "a_generated_script_over_a_log_that_fails",
-    script: "",
-    fault: Behind,
-    parts: &[
-        Part(Log, (0, 7), NO_CRASH, &[Device]),
-        Part(
-            Log,
-            (8, 11),
-            NO_CRASH,
-            &[Line("commands 15 ids 4 undone 2 commits 0 aborts 0 snaps 1 sees 1\n")],
-        ),
-        Part(
-            Log,
-            (12, 13),
-            NO_CRASH,
-            &[Line("commands 15 ids 4 undone 2 commits 1 aborts 0 snaps 1 sees 1\n")],
-        ),
-    ],
-}];
+/// a_generated_script_over_a_log_that_fails: what runs by the words `gen 1 1` write where the log's volume passes so many calls,
+/// from the first number to the last.
+const GENERATED: [(u64, u64, u8, &str); 3] = [
+    (0, 7, 5, "device\n"),
+    (
+        8,
+        11,
+        0,
+        "commands 15 ids 4 undone 2 commits 0 aborts 0 snaps 1 sees 1\n",
+    ),
+    (
+        12,
+        13,
+        0,
+        "commands 15 ids 4 undone 2 commits 1 aborts 0 snaps 1 sees 1\n",
+    ),
+];
+
+fn check_generated(
+    rt: &(impl Abort + AllocGlobal + Threads + Wait + Sync),
+    passes: u64,
+    status: u8,
+    text: &str,
+) {
+    let words = ["gen", "1", "1"];
+    let run = tool_runs::run_over(rt, &words, "", Log, Fails::Behind(passes), 1);
+    let run = run.expect(rt, "memory");
+    let is_well = run.status == status && run.written.as_str() == text;
+    assert!(rt; is_well, "{passes}: {} {}", run.status, run.written);
+}
 
 #[test]
 fn devices_that_fail(rt: HostRuntime) {
     check_rows(&rt, &ROWS);
-    let words = [
-        text_from(&rt, "gen"),
-        text_from(&rt, "1"),
-        text_from(&rt, "1"),
-    ];
-    check_words(&rt, &words, &GENERATED);
+    for (first, last, status, text) in &GENERATED {
+        for passes in *first..=*last {
+            check_generated(&rt, passes, *status, text);
+        }
+    }
 }

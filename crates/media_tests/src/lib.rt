@@ -3,7 +3,11 @@
 #![tactic(auto)]
 
 #[cfg(test)]
+mod again_rows;
+#[cfg(test)]
 mod again_tests;
+#[cfg(test)]
+mod bank_checkpoint_rows;
 #[cfg(test)]
 mod bank_fault_tests;
 #[cfg(test)]
@@ -24,5 +28,7 @@ mod run_help;
 mod stopped_tests;
 #[cfg(test)]
 mod thread_tests;
+#[cfg(test)]
+mod two_pages_rows;
 #[cfg(test)]
 mod whole_help;

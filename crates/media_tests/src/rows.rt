@@ -1,67 +1,59 @@
 //! Rows of scripts, and what their runs write where calls of a volume fail.
-use crate::run_help::{run_over, sink_of, source_of, text_from};
+use crate::run_help::{is_lawful, run_over};
 use disk_core::Which;
 use disk_fuse::Fails;
-use report_check::check_tool;
 use std::alloc::AllocGlobal;
 use std::process::Abort;
 use std::sync::Wait;
 use std::thread::Threads;
+use tool_runs::Ran;
 
 /// Which calls a volume fails.
-#[derive(Clone, Copy)]
+#[derive(Drop)]
 pub enum Fault {
     /// All behind so many.
     Behind,
-    /// The one of this number.
-    Once,
+    /// The one of this number. A run in which no call fails has this report.
+    Once(&'static str),
 }
 
-/// How a run comes out. All but the first two are status 0 and a lawful report.
+/// How a run comes out. All but the first are status 0 and a lawful report.
 #[derive(Drop)]
 pub enum Way {
-    /// A life couldn't be opened: status 5, and the report is the plain one as far as the lives that were over.
+    /// A life couldn't be opened: status 5, and the report is as far as the lives that were over the one without a fault.
     Device,
-    /// This is what a run of a generated script writes.
-    Line(&'static str),
     Report(&'static str),
-    /// It has each of these texts, whose lines stand one behind another.
+    /// The report has each of these texts, whose lines stand one behind another.
     Has(&'static [&'static str]),
     /// It has these lines, in this order.
     With(&'static str),
-    /// It is the plain one but for these lines.
+    /// It is the one without a fault but for these lines.
     But(&'static str),
-    /// It is the plain one but for one line, which ends so.
+    /// It is the one without a fault but for one line, which ends so.
     One(&'static str),
 }
 
-/// The number of calls goes up from the first to the last, with each kind of crash for the word HOW of the script. The first
-/// runs come out the first of the ways, the next ones the next, and so on.
+/// Runs over this volume. The number of calls goes up from the first to the last, with each of these kinds of crash for the word
+/// HOW of the script. The first runs come out the first of the ways, the next ones the next, and so on.
 #[derive(Drop)]
-pub struct Part {
-    pub at: Which,
-    pub first: u64,
-    pub last: u64,
-    pub crashes: &'static [&'static str],
-    pub ways: &'static [Way],
-}
+pub struct Part(
+    pub Which,
+    pub (u64, u64),
+    pub &'static [&'static str],
+    pub &'static [Way],
+);
+
+/// For a script without a crash, or with one of a kind.
+pub const NO_CRASH: &[&str] = &[""];
+
+pub const EACH_CRASH: &[&str] = &["lost", "kept", "torn"];
 
 #[derive(Drop)]
 pub struct Row {
     pub name: &'static str,
     pub script: &'static str,
     pub fault: Fault,
-    /// The report of a run in which no call fails. Rows of the fault `Behind` don't tell it.
-    pub plain: &'static str,
     pub parts: &'static [Part],
-}
-
-/// Whether the checker calls the report lawful.
-pub fn is_lawful(rt: &(impl Abort + AllocGlobal), report: &str) -> bool {
-    let mut source = source_of(rt, report);
-    let mut sink = sink_of(rt, 100);
-    let status = check_tool(rt.alloc(), &mut source, &mut sink);
-    status == 0 && sink.held() == b"lawful\n".as_slice()
 }
 
 /// Whether these lines stand in a text, one behind another.
@@ -113,25 +105,22 @@ fn is_one_line(lines: &str, end: &str) -> bool {
 }
 
 /// Whether a life couldn't be opened, and what was written is the front of the plain report before that.
-fn ends_with_device(status: u8, written: &str, plain: &str) -> bool {
-    let Some((front, rest)) = written.split_once("device\n") else {
-        return false;
-    };
-    let is_whole = front.is_empty() || front.ends_with("\n");
-    status == 5 && rest.is_empty() && is_whole && plain.starts_with(front)
+fn ends_with_device(run: &Ran, plain: &str) -> bool {
+    match run.written.as_str().strip_suffix("device\n") {
+        Some(front) => {
+            run.status == 5
+                && plain.starts_with(front)
+                && (front.is_empty() || front.ends_with("\n"))
+        }
+        None => false,
+    }
 }
 
-/// Whether a run came out so. No run comes out where no way is told.
-fn is_so(
-    rt: &(impl Abort + AllocGlobal),
-    way: Option<&Way>,
-    plain: &str,
-    status: u8,
-    written: &str,
-) -> bool {
+/// Whether a run came out so. None does where no way is told.
+fn is_so(rt: &(impl Abort + AllocGlobal), way: Option<&Way>, plain: &str, run: &Ran) -> bool {
+    let written = run.written.as_str();
     let is_as_told = match way {
-        Some(Way::Device) => return ends_with_device(status, written, plain),
-        Some(Way::Line(line)) => return status == 0 && written == *line,
+        Some(Way::Device) => return ends_with_device(run, plain),
         Some(Way::Report(report)) => written == *report,
         Some(Way::Has(parts)) => has_all(written, parts),
         Some(Way::With(lines)) => has_in_order(written, lines),
@@ -139,78 +128,70 @@ fn is_so(
         Some(Way::One(end)) => is_one_line(changed_lines(rt, written, plain).as_str(), end),
         None => false,
     };
-    status == 0 && is_as_told && is_lawful(rt, written)
+    run.status == 0 && is_as_told && is_lawful(rt, written)
 }
 
-/// The place of the way in which the run with so many calls comes out: this one or the next.
-fn way_behind(
+/// Runs the script over this volume, of which the row's fault meets calls by this number. Answers the place of the way in which
+/// the run comes out: this one or the next.
+fn way_of(
     rt: &(impl Abort + AllocGlobal + Threads + Wait + Sync),
-    words: &[String],
     row: &Row,
-    part: &Part,
     script: &str,
+    at: Which,
     calls: u64,
-    way: usize,
+    ways: &[Way],
+    place: usize,
 ) -> usize {
-    let fails = match row.fault {
-        Fault::Behind => Fails::Behind(calls),
-        Fault::Once => Fails::At(calls),
+    let (fails, plain) = match row.fault {
+        Fault::Behind => (Fails::Behind(calls), ""),
+        Fault::Once(plain) => (Fails::At(calls), plain),
     };
-    let (status, written) = run_over(rt, words, script, part.at, fails, 1);
-    let written = written.as_str();
-    if is_so(rt, part.ways.get(way), row.plain, status, written) {
-        return way;
+    let run = run_over(rt, script, at, fails, 1);
+    if is_so(rt, ways.get(place), plain, &run) {
+        return place;
     }
-    let next = way.saturating_add(1);
-    let is_well = is_so(rt, part.ways.get(next), row.plain, status, written);
+    let next = place.saturating_add(1);
+    let is_well = is_so(rt, ways.get(next), plain, &run);
     assert!(rt;
         is_well,
-        "{}, {:?} {fails:?}: {status} {written}",
-        row.name, part.at
+        "{}, {at:?} {fails:?}: {} {}",
+        row.name, run.status, run.written
     );
     next
 }
 
-/// Each of the ways is that of a run.
-fn check_part(
-    rt: &(impl Abort + AllocGlobal + Threads + Wait + Sync),
-    words: &[String],
-    row: &Row,
-    part: &Part,
-) {
-    for crash in part.crashes {
+/// Runs come out in each of the ways that the part tells.
+fn check_part(rt: &(impl Abort + AllocGlobal + Threads + Wait + Sync), row: &Row, part: &Part) {
+    let Part(at, (first, last), crashes, ways) = part;
+    for crash in *crashes {
         let script = row
             .script
             .replace(rt.alloc(), "HOW", crash)
             .expect(rt, "memory");
-        let mut way = 0usize;
-        for calls in part.first..=part.last {
-            way = way_behind(rt, words, row, part, script.as_str(), calls, way);
+        let mut place = 0usize;
+        for calls in *first..=*last {
+            place = way_of(rt, row, script.as_str(), *at, calls, ways, place);
         }
-        let is_last = way.saturating_add(1) == part.ways.len();
-        assert!(rt; is_last, "{}, {:?}: only {way}", row.name, part.at);
+        let is_last = place.saturating_add(1) == ways.len();
+        assert!(rt; is_last, "{}, {at:?}: {place}", row.name);
     }
 }
 
-/// Runs the tool with these words over the scripts of these rows. A run in which no call fails writes the plain report, where
-/// the row tells it.
-pub fn check_words(
-    rt: &(impl Abort + AllocGlobal + Threads + Wait + Sync),
-    words: &[String],
-    rows: &[Row],
-) {
-    for row in rows {
-        if !row.plain.is_empty() {
-            let (status, written) = run_over(rt, words, row.script, Which::Log, Fails::At(0), 1);
-            let is_plain = status == 0 && written.as_str() == row.plain;
-            assert!(rt; is_plain, "{}: {written}", row.name);
-        }
-        for part in row.parts {
-            check_part(rt, words, row, part);
-        }
+/// A run in which no call fails has the report that the row tells.
+fn check_plain(rt: &(impl Abort + AllocGlobal + Threads + Wait + Sync), row: &Row) {
+    if let Fault::Once(plain) = row.fault {
+        let run = run_over(rt, row.script, Which::Log, Fails::At(0), 1);
+        let is_plain = run.status == 0 && run.written.as_str() == plain;
+        assert!(rt; is_plain, "{}: {} {}", row.name, run.status, run.written);
     }
 }
 
+/// Runs the scripts of these rows.
 pub fn check_rows(rt: &(impl Abort + AllocGlobal + Threads + Wait + Sync), rows: &[Row]) {
-    check_words(rt, &[text_from(rt, "run")], rows);
+    for row in rows {
+        check_plain(rt, row);
+        for part in row.parts {
+            check_part(rt, row, part);
+        }
+    }
 }

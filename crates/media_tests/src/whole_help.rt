@@ -1,12 +1,12 @@
 //! Runs over a volume that fails any call, behind which a transaction has committed whole or not at all.
-use crate::rows::is_lawful;
-use crate::run_help::{run_over, text_from};
+use crate::run_help::{is_lawful, run_over};
 use disk_core::Which;
 use disk_fuse::Fails;
 use std::alloc::AllocGlobal;
 use std::process::Abort;
 use std::sync::Wait;
 use std::thread::Threads;
+use tool_runs::Ran;
 
 /// The reply to a command that was asked last, by the front of its line.
 fn last_reply<'a>(report: &'a str, front: &str) -> Option<&'a str> {
@@ -21,8 +21,9 @@ fn last_reply<'a>(report: &'a str, front: &str) -> Option<&'a str> {
 
 /// Whether the run stopped at an opening, or its report is lawful, both questions that have a verdict have the same, and that is
 /// `visible` where a commit was answered `ok`. Behind a crash a page is read again, so a question may meet the fault.
-fn is_whole(rt: &(impl Abort + AllocGlobal), status: u8, written: &str, asked: [&str; 2]) -> bool {
-    if status == 5 {
+fn is_whole(rt: &(impl Abort + AllocGlobal), run: &Ran, asked: [&str; 2]) -> bool {
+    let written = run.written.as_str();
+    if run.status == 5 {
         return written.ends_with("device\n");
     }
     let mut verdict = None;
@@ -38,7 +39,7 @@ fn is_whole(rt: &(impl Abort + AllocGlobal), status: u8, written: &str, asked: [
         Some("hidden") => !written.contains("commit -> ok\n"),
         _ => false,
     };
-    status == 0 && is_kept && is_lawful(rt, written)
+    run.status == 0 && is_kept && is_lawful(rt, written)
 }
 
 /// Runs the script over this volume, which fails such calls. Both lines that are asked for are answered as one. Answers what
@@ -50,11 +51,10 @@ fn written_whole(
     at: Which,
     fails: Fails,
 ) -> String {
-    let words = [text_from(rt, "run")];
-    let (status, written) = run_over(rt, &words, script, at, fails, 1);
-    let is_well = is_whole(rt, status, written.as_str(), asked);
-    assert!(rt; is_well, "{at:?} {fails:?}: {written}");
-    written
+    let run = run_over(rt, script, at, fails, 1);
+    let is_well = is_whole(rt, &run, asked);
+    assert!(rt; is_well, "{at:?} {fails:?}: {} {}", run.status, run.written);
+    run.written
 }
 
 /// Over each of the five volumes, which fails one call, or all from it on, the number of the call going up to MOST, with which

@@ -1,12 +1,13 @@
 //! The first worked runs, and how a run ends otherwise.
 use crate::test_help::Told::Report;
-use crate::test_help::{Row, check_rows, sink_of, source_of, status_of, text_of, word};
+use crate::test_help::{Row, check_rows};
 use engine_parts::OpenGate;
 use script_rounds::RoundThreads;
 use std::alloc::AllocGlobal;
 use std::process::Abort;
 use std::sync::Wait;
 use std::thread::Threads;
+use tool_runs::{run_past, source_of};
 use tx_io::{Failed, Source};
 
 const ROWS: [Row; 5] = [
@@ -206,18 +207,15 @@ const ENDINGS: [Ending; 4] = [
 
 /// A run of the script ends as the row says.
 fn check_ending(rt: &(impl Abort + AllocGlobal + Threads + Wait + Sync), row: &Ending) {
-    let failing = Vec::from_slice(rt.alloc(), row.failing).expect(rt, "memory");
-    let mut source = source_of(rt, row.script, failing);
-    let mut sink = sink_of(rt, row.room);
-    let words = [word(rt, "run")];
+    let mut source = source_of(rt.alloc(), row.script, row.failing).expect(rt, "memory");
     let threads = RoundThreads::AtMost(4);
-    let status = status_of(rt, &words, &mut source, &mut sink, threads, &OpenGate);
-    let written = text_of(rt, &sink);
+    let run = run_past(rt, &["run"], &mut source, row.room, threads, &OpenGate);
+    let run = run.expect(rt, "memory");
     let length = (row.text.len() as u64).min(row.room);
-    let is_well = status == row.status
-        && row.text.starts_with(written.as_str())
-        && written.len() as u64 == length;
-    assert!(rt; is_well, "{}: {status} {written}", row.name);
+    let is_well = run.status == row.status
+        && row.text.starts_with(run.written.as_str())
+        && run.written.len() as u64 == length;
+    assert!(rt; is_well, "{}: {} {}", row.name, run.status, run.written);
 }
 
 #[test]
@@ -253,9 +251,8 @@ impl Source for Endless {
 /// A run stops one byte past the limit of a script.
 #[test]
 fn script_past_the_limit_is_refused(rt: HostRuntime) {
-    let mut sink = sink_of(&rt, 100);
-    let words = [word(&rt, "run")];
     let threads = RoundThreads::AtMost(4);
-    let status = status_of(&rt, &words, &mut Endless, &mut sink, threads, &OpenGate);
-    assert!(rt; status == 1 && sink.held() == b"script 0 size\n".as_slice());
+    let run = run_past(&rt, &["run"], &mut Endless, 100, threads, &OpenGate);
+    let run = run.expect(&rt, "memory");
+    assert!(rt; run.status == 1 && run.written.as_str() == "script 0 size\n");
 }

@@ -1,50 +1,11 @@
 //! What the tests share: runs of the tool on a script in memory, and rows that their reports are held against.
-use disk_core::MemMedia;
 use engine_parts::{Gate, OpenGate};
-use report_check::check_tool;
 use script_rounds::RoundThreads;
-use session_run::run_tool;
 use std::alloc::AllocGlobal;
 use std::process::Abort;
 use std::sync::Wait;
 use std::thread::Threads;
-use tx_io::{MemSink, MemSource, Source};
-
-/// The tool over a new media in memory, without its contract, so that a test proves no more than that it is safe.
-pub fn status_of<S: Source, G: Gate + Sync>(
-    rt: &(impl AllocGlobal + Threads + Wait + Sync),
-    words: &[String],
-    source: &mut S,
-    sink: &mut MemSink,
-    threads: RoundThreads,
-    gate: &G,
-) -> u8 {
-    let alloc = rt.alloc();
-    let mut media = MemMedia::new(alloc);
-    run_tool(rt, alloc, words, source, sink, &mut media, threads, gate)
-}
-
-/// A source of these bytes, whose reads of these numbers fail. The first one is 1.
-pub fn source_of(rt: &(impl Abort + AllocGlobal), script: &str, failing: Vec<u64>) -> MemSource {
-    let bytes = Vec::from_slice(rt.alloc(), script.as_bytes()).expect(rt, "memory");
-    MemSource::new(bytes, failing)
-}
-
-/// A sink with so much room.
-pub fn sink_of(rt: &(impl Abort + AllocGlobal), room: u64) -> MemSink {
-    let alloc = rt.alloc();
-    MemSink::new(alloc, room, Vec::new(alloc)).expect(rt, "memory")
-}
-
-/// What a sink holds, as text.
-pub fn text_of(rt: &(impl Abort + AllocGlobal), sink: &MemSink) -> String {
-    let held = Vec::from_slice(rt.alloc(), sink.held()).expect(rt, "memory");
-    String::from_utf8(held).ok().expect(rt, "text is written")
-}
-
-pub fn word(rt: &(impl Abort + AllocGlobal), word: &str) -> String {
-    String::from_str(rt.alloc(), word).expect(rt, "memory")
-}
+use tool_runs::{is_lawful, run_past, source_of};
 
 /// The report that a run of the script writes, with status 0, its sessions on such threads and past this gate.
 pub fn report_past<G: Gate + Sync>(
@@ -53,12 +14,10 @@ pub fn report_past<G: Gate + Sync>(
     threads: RoundThreads,
     gate: &G,
 ) -> String {
-    let words = [word(rt, "run")];
-    let mut source = source_of(rt, script, Vec::new(rt.alloc()));
-    let mut sink = sink_of(rt, 100_000);
-    let status = status_of(rt, &words, &mut source, &mut sink, threads, gate);
-    assert!(rt; status == 0);
-    text_of(rt, &sink)
+    let mut source = source_of(rt.alloc(), script, &[]).expect(rt, "memory");
+    let run = run_past(rt, &["run"], &mut source, 100_000, threads, gate).expect(rt, "memory");
+    assert!(rt; run.status == 0);
+    run.written
 }
 
 /// What a report is, or has.
@@ -76,14 +35,6 @@ pub struct Row {
     pub name: &'static str,
     pub script: &'static str,
     pub told: Told,
-}
-
-/// Whether the checker calls the report lawful.
-fn is_lawful(rt: &(impl Abort + AllocGlobal), report: &str) -> bool {
-    let mut source = source_of(rt, report, Vec::new(rt.alloc()));
-    let mut sink = sink_of(rt, 100);
-    let status = check_tool(rt.alloc(), &mut source, &mut sink);
-    status == 0 && sink.held() == b"lawful\n".as_slice()
 }
 
 /// Whether each of these texts stands in a report behind the end of a line.
@@ -104,7 +55,8 @@ pub fn check_report(rt: &(impl Abort + AllocGlobal), row: &Row, report: &str) {
         Told::Either(one, other) => report == *one || report == *other,
         Told::Has(texts) => has_all(report, texts),
     };
-    let is_well = is_as_told && is_lawful(rt, report);
+    let is_lawful = is_lawful(rt.alloc(), report).expect(rt, "memory");
+    let is_well = is_as_told && is_lawful;
     assert!(rt; is_well, "{}: {report}", row.name);
 }
 

@@ -53,16 +53,14 @@ end
 fn a_second_run_goes_on_behind_the_first_in_its_banks(rt: HostRuntime) {
     for banks in ["1", "3", "16"] {
         clear(&rt, &rt, "again");
-        let (status, _) = run_in(&rt, rt, "again", FIRST);
-        assert!(rt; status == 0);
+        let first = run_in(&rt, rt, "again", FIRST);
+        assert!(rt; first.status == 0);
         let script = SECOND
             .replace(rt.alloc(), "BANKS", banks)
             .expect(&rt, "memory");
-        let (status, written) = run_in(&rt, rt, "again", script.as_str());
-        assert!(rt;
-            status == 0 && written.as_str() == NEXT,
-            "{banks}: {written}"
-        );
+        let run = run_in(&rt, rt, "again", script.as_str());
+        let is_well = run.status == 0 && run.written.as_str() == NEXT;
+        assert!(rt; is_well, "{banks}: {}", run.written);
     }
     clear(&rt, &rt, "again");
 }

@@ -1,48 +1,50 @@
 //! Runs over devices that fail: one volume passes so many calls, and then fails each. Opening a life makes eight calls on
 //! the log's volume, and each flush four.
-use crate::run_help::check_rows;
+use crate::rows::Fault::Behind;
+use crate::rows::Way::{Device, Report};
+use crate::rows::{NO_CRASH, Part, Row, check_rows};
+use disk_core::Which::{Log, Members, Offsets, Subtrans, Xact};
+use disk_fuse::Fails;
+use std::alloc::AllocGlobal;
+use std::process::Abort;
+use std::sync::Wait;
+use std::thread::Threads;
 
-const ROWS: &str = "=== a_life_is_not_opened_over_a_log_that_fails
+const ROWS: [Row; 7] = [
+    Row {
+        name: "a_life_is_not_opened_over_a_log_that_fails",
+        script: "a begin\n",
+        fault: Behind,
+        parts: &[Part(Log, (0, 7), NO_CRASH, &[Device])],
+    },
+    Row {
+        name: "a_life_is_not_opened_over_a_bank_that_fails",
+        script: "# A new cluster asks each bank of the four stores for its pages.
 a begin
---- log 0 0 7 5 report -
-device
-=== a_life_is_not_opened_over_a_bank_that_fails
-# A new cluster asks each bank of the four stores for its pages.
-a begin
---- xact 0 0 0 5 report -
-device
---- subtrans 0 0 0 5 report -
-device
---- offsets 0 0 0 5 report -
-device
---- members 0 0 0 5 report -
-device
---- xact 1 0 0 5 report -
-device
---- subtrans 1 0 0 5 report -
-device
---- offsets 1 0 0 5 report -
-device
---- members 1 0 0 5 report -
-device
---- xact 2 0 0 5 report -
-device
---- subtrans 2 0 0 5 report -
-device
---- offsets 2 0 0 5 report -
-device
---- members 2 0 0 5 report -
-device
---- xact 3 0 0 5 report -
-device
---- subtrans 3 0 0 5 report -
-device
---- offsets 3 0 0 5 report -
-device
---- members 3 0 0 5 report -
-device
-=== a_fault_of_the_log_leaves_the_commit_pending
-# Whichever of the four calls of its flush fails, the commit is pending, and the log is down for all others.
+",
+        fault: Behind,
+        parts: &[
+            Part(Xact(0), (0, 0), NO_CRASH, &[Device]),
+            Part(Subtrans(0), (0, 0), NO_CRASH, &[Device]),
+            Part(Offsets(0), (0, 0), NO_CRASH, &[Device]),
+            Part(Members(0), (0, 0), NO_CRASH, &[Device]),
+            Part(Xact(1), (0, 0), NO_CRASH, &[Device]),
+            Part(Subtrans(1), (0, 0), NO_CRASH, &[Device]),
+            Part(Offsets(1), (0, 0), NO_CRASH, &[Device]),
+            Part(Members(1), (0, 0), NO_CRASH, &[Device]),
+            Part(Xact(2), (0, 0), NO_CRASH, &[Device]),
+            Part(Subtrans(2), (0, 0), NO_CRASH, &[Device]),
+            Part(Offsets(2), (0, 0), NO_CRASH, &[Device]),
+            Part(Members(2), (0, 0), NO_CRASH, &[Device]),
+            Part(Xact(3), (0, 0), NO_CRASH, &[Device]),
+            Part(Subtrans(3), (0, 0), NO_CRASH, &[Device]),
+            Part(Offsets(3), (0, 0), NO_CRASH, &[Device]),
+            Part(Members(3), (0, 0), NO_CRASH, &[Device]),
+        ],
+    },
+    Row {
+        name: "a_fault_of_the_log_leaves_the_commit_pending",
+        script: "# Whichever of the four calls of its flush fails, the commit is pending, and the log is down for all others.
 a begin
 a write
 a commit
@@ -59,8 +61,14 @@ b commit
 b abort
 c snap s
 c see s 3
---- log 0 8 11 0 report -
-txid report 1
+",
+        fault: Behind,
+        parts: &[Part(
+            Log,
+            (8, 11),
+            NO_CRASH,
+            &[Report(
+                "txid report 1
 life 1 from 0 next 3 oldest 3 multi 1 offset 1 oldest-multi 1 oldest-offset 1
 round 1
 a 1 begin -> ok
@@ -89,8 +97,13 @@ log flushed 1 end 62
 0 checkpoint next 3 oldest 3 multi 1 offset 1 oldest-multi 1 oldest-offset 1
 1 commit 3
 end
-=== a_commit_before_the_fault_is_visible_behind_it
-# The commit before the fault stays, in the log and for all who look.
+",
+            )],
+        )],
+    },
+    Row {
+        name: "a_commit_before_the_fault_is_visible_behind_it",
+        script: "# The commit before the fault stays, in the log and for all who look.
 a begin
 a write
 a commit
@@ -102,8 +115,14 @@ a commit
 b snap s
 b see s 3
 b see s 4
---- log 0 12 15 0 report -
-txid report 1
+",
+        fault: Behind,
+        parts: &[Part(
+            Log,
+            (12, 15),
+            NO_CRASH,
+            &[Report(
+                "txid report 1
 life 1 from 0 next 3 oldest 3 multi 1 offset 1 oldest-multi 1 oldest-offset 1
 round 1
 a 1 begin -> ok
@@ -128,8 +147,13 @@ log flushed 2 end 80
 1 commit 3
 2 commit 4
 end
-=== an_abort_is_done_while_the_log_is_down
-# An abort needs no flush, so no fault of the log meets it; of a transaction with an id it leaves its record out
+",
+            )],
+        )],
+    },
+    Row {
+        name: "an_abort_is_done_while_the_log_is_down",
+        script: "# An abort needs no flush, so no fault of the log meets it; of a transaction with an id it leaves its record out
 # where the log is down.
 a begin
 a write
@@ -143,8 +167,14 @@ b save
 b write
 b undo
 b abort
---- log 0 8 8 0 report -
-txid report 1
+",
+        fault: Behind,
+        parts: &[Part(
+            Log,
+            (8, 8),
+            NO_CRASH,
+            &[Report(
+                "txid report 1
 life 1 from 0 next 3 oldest 3 multi 1 offset 1 oldest-multi 1 oldest-offset 1
 round 1
 a 1 begin -> ok
@@ -172,8 +202,13 @@ log flushed 1 end 62
 0 checkpoint next 3 oldest 3 multi 1 offset 1 oldest-multi 1 oldest-offset 1
 1 commit 3
 end
-=== a_multixact_is_pending_while_the_log_is_down
-# The first command takes a number and can't append the record; the second goes on with it, and no second number is
+",
+            )],
+        )],
+    },
+    Row {
+        name: "a_multixact_is_pending_while_the_log_is_down",
+        script: "# The first command takes a number and can't append the record; the second goes on with it, and no second number is
 # taken. Its offset doesn't stand, and a commit is pending.
 a begin
 a write
@@ -187,8 +222,14 @@ b multi 3:sh
 c snap s
 c seemulti s 1
 .checkpoint
---- log 0 8 11 0 report -
-txid report 1
+",
+        fault: Behind,
+        parts: &[Part(
+            Log,
+            (8, 11),
+            NO_CRASH,
+            &[Report(
+                "txid report 1
 life 1 from 0 next 3 oldest 3 multi 1 offset 1 oldest-multi 1 oldest-offset 1
 round 1
 a 1 begin -> ok
@@ -214,16 +255,28 @@ log flushed 1 end 62
 0 checkpoint next 3 oldest 3 multi 1 offset 1 oldest-multi 1 oldest-offset 1
 1 commit 3
 end
-=== a_dump_over_a_log_that_fails
-# A dump that met a fault doesn't put the log down: the commit behind it is told of a fault, and not that the
+",
+            )],
+        )],
+    },
+    Row {
+        name: "a_dump_over_a_log_that_fails",
+        script: "# A dump that met a fault doesn't put the log down: the commit behind it is told of a fault, and not that the
 # log is down.
 a begin
 a write
 .dump log 0 1
 a commit
 .dump log 0 1
---- log 0 8 8 0 report -
-txid report 1
+",
+        fault: Behind,
+        parts: &[
+            Part(
+                Log,
+                (8, 8),
+                NO_CRASH,
+                &[Report(
+                    "txid report 1
 life 1 from 0 next 3 oldest 3 multi 1 offset 1 oldest-multi 1 oldest-offset 1
 round 1
 a 1 begin -> ok
@@ -239,8 +292,15 @@ log flushed 1 end 62
 0 checkpoint next 3 oldest 3 multi 1 offset 1 oldest-multi 1 oldest-offset 1
 1 commit 3
 end
---- log 0 9 9 0 report -
-txid report 1
+",
+                )],
+            ),
+            Part(
+                Log,
+                (9, 9),
+                NO_CRASH,
+                &[Report(
+                    "txid report 1
 life 1 from 0 next 3 oldest 3 multi 1 offset 1 oldest-multi 1 oldest-offset 1
 round 1
 a 1 begin -> ok
@@ -256,17 +316,50 @@ log flushed 1 end 62
 0 checkpoint next 3 oldest 3 multi 1 offset 1 oldest-multi 1 oldest-offset 1
 1 commit 3
 end
-=== a_generated_script_over_a_log_that_fails
-gen 1 1
---- log 0 0 7 5 report -
-device
---- log 0 8 11 0 report -
-commands 15 ids 4 undone 2 commits 0 aborts 0 snaps 1 sees 1
---- log 0 12 13 0 report -
-commands 15 ids 4 undone 2 commits 1 aborts 0 snaps 1 sees 1
-";
+",
+                )],
+            ),
+        ],
+    },
+];
+
+/// a_generated_script_over_a_log_that_fails: what runs by the words `gen 1 1` write where the log's volume passes so many calls,
+/// from the first number to the last.
+const GENERATED: [(u64, u64, u8, &str); 3] = [
+    (0, 7, 5, "device\n"),
+    (
+        8,
+        11,
+        0,
+        "commands 15 ids 4 undone 2 commits 0 aborts 0 snaps 1 sees 1\n",
+    ),
+    (
+        12,
+        13,
+        0,
+        "commands 15 ids 4 undone 2 commits 1 aborts 0 snaps 1 sees 1\n",
+    ),
+];
+
+fn check_generated(
+    rt: &(impl Abort + AllocGlobal + Threads + Wait + Sync),
+    passes: u64,
+    status: u8,
+    text: &str,
+) {
+    let words = ["gen", "1", "1"];
+    let run = tool_runs::run_over(rt, &words, "", Log, Fails::Behind(passes), 1);
+    let run = run.expect(rt, "memory");
+    let is_well = run.status == status && run.written.as_str() == text;
+    assert!(rt; is_well, "{passes}: {} {}", run.status, run.written);
+}
 
 #[test]
 fn devices_that_fail(rt: HostRuntime) {
-    check_rows(&rt, ROWS);
+    check_rows(&rt, &ROWS);
+    for (first, last, status, text) in &GENERATED {
+        for passes in *first..=*last {
+            check_generated(&rt, passes, *status, text);
+        }
+    }
 }

@@ -3,7 +3,11 @@
 #![tactic(auto)]
 
 #[cfg(test)]
+mod again_rows;
+#[cfg(test)]
 mod again_tests;
+#[cfg(test)]
+mod bank_checkpoint_rows;
 #[cfg(test)]
 mod bank_fault_tests;
 #[cfg(test)]
@@ -17,10 +21,14 @@ mod fail_once_tests;
 #[cfg(test)]
 mod log_tests;
 #[cfg(test)]
-mod once_help;
+mod rows;
 #[cfg(test)]
 mod run_help;
 #[cfg(test)]
 mod stopped_tests;
 #[cfg(test)]
 mod thread_tests;
+#[cfg(test)]
+mod two_pages_rows;
+#[cfg(test)]
+mod whole_help;

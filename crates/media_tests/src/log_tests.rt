@@ -71,10 +71,10 @@ fn wanted(length: usize) -> (u8, &'static str) {
 #[test]
 fn a_log_that_is_cut_anywhere_is_gone_on_from_or_damaged_at_the_cut_batch(rt: HostRuntime) {
     for length in 0..188 {
-        let (found, written) = run_behind(&rt, rt, "cut_log", &LOG[..length], "a begin\n");
+        let run = run_behind(&rt, rt, "cut_log", &LOG[..length], "a begin\n");
         let (status, front) = wanted(length);
-        let is_well = found == status && written.starts_with(front);
-        assert!(rt; is_well, "{length}: {found} {written}");
+        let is_well = run.status == status && run.written.starts_with(front);
+        assert!(rt; is_well, "{length}: {} {}", run.status, run.written);
     }
     clear(&rt, &rt, "cut_log");
 }
@@ -106,9 +106,9 @@ const LOGS: [(&[u8], u8, &str); 6] = [
 #[test]
 fn logs_that_a_run_finds(rt: HostRuntime) {
     for (log, status, text) in &LOGS {
-        let (found, written) = run_behind(&rt, rt, "found_log", log, "a begin\n");
-        let is_well = found == *status && written.as_str() == *text;
-        assert!(rt; is_well, "{log:?}: {found} {written}");
+        let run = run_behind(&rt, rt, "found_log", log, "a begin\n");
+        let is_well = run.status == *status && run.written.as_str() == *text;
+        assert!(rt; is_well, "{log:?}: {} {}", run.status, run.written);
     }
     clear(&rt, &rt, "found_log");
 }
@@ -132,11 +132,9 @@ fn a_commit_of_an_earlier_life_is_visible(rt: HostRuntime) {
     let mut log = LOG;
     log[80] = 0;
     let script = "a snap s\na see s 3\n";
-    let (status, written) = run_behind(&rt, rt, "commit_log", &log[..81], script);
-    assert!(rt;
-        status == 0 && written.as_str() == BEHIND_A_COMMIT,
-        "{written}"
-    );
+    let run = run_behind(&rt, rt, "commit_log", &log[..81], script);
+    let is_well = run.status == 0 && run.written.as_str() == BEHIND_A_COMMIT;
+    assert!(rt; is_well, "{}", run.written);
     clear(&rt, &rt, "commit_log");
 }
 
@@ -159,10 +157,8 @@ end
 #[test]
 fn a_multixact_of_an_earlier_life_has_its_members(rt: HostRuntime) {
     let script = "a snap s\na seemulti s 1\n";
-    let (status, written) = run_behind(&rt, rt, "multi_log", &LOG, script);
-    assert!(rt;
-        status == 0 && written.as_str() == BEHIND_A_MULTIXACT,
-        "{written}"
-    );
+    let run = run_behind(&rt, rt, "multi_log", &LOG, script);
+    let is_well = run.status == 0 && run.written.as_str() == BEHIND_A_MULTIXACT;
+    assert!(rt; is_well, "{}", run.written);
     clear(&rt, &rt, "multi_log");
 }

@@ -1,90 +1,98 @@
 //! Rounds of many commands, so that threads run: whatever order they take, each session's lines and events stand in its
 //! order, each once.
-use crate::run_help::{run_fused, run_new};
+use crate::run_help::run_over;
 use disk_core::Which;
+use disk_fuse::Fails;
 use std::alloc::AllocGlobal;
 use std::process::Abort;
+use tool_runs::Ran;
 
 const SESSIONS: usize = 64;
 
 /// What each session asks in the round.
 const COMMANDS: [&str; 10] = [
-    "begin", "write", "save", "write", "undo", "save", "write", "commit", "snap s", "drop s",
+    "NAME begin\n",
+    "NAME write\n",
+    "NAME save\n",
+    "NAME write\n",
+    "NAME undo\n",
+    "NAME save\n",
+    "NAME write\n",
+    "NAME commit\n",
+    "NAME snap s\n",
+    "NAME drop s\n",
 ];
 
 /// Its lines, up to what follows `ok`.
-const LINES: [&str; 10] = [
-    "1 begin -> ok",
-    "2 write -> ok",
-    "3 save -> ok",
-    "4 write -> ok",
-    "5 undo -> ok",
-    "6 save -> ok",
-    "7 write -> ok",
-    "8 commit -> ok",
-    "9 snap s -> ok",
-    "10 drop s -> ok",
-];
+const LINES: &str = "NAME 1 begin -> ok
+NAME 2 write -> ok
+NAME 3 save -> ok
+NAME 4 write -> ok
+NAME 5 undo -> ok
+NAME 6 save -> ok
+NAME 7 write -> ok
+NAME 8 commit -> ok
+NAME 9 snap s -> ok
+NAME 10 drop s -> ok
+";
 
-/// The events of its commands: their kinds, and the commands' numbers.
-const EVENTS: [(&str, &str); 7] = [
-    ("id", "2 "),
-    ("sub", "4 "),
-    ("undo", "5 "),
-    ("sub", "7 "),
-    ("commit", "8 "),
-    ("snap", "9 "),
-    ("drop", "10 "),
-];
+/// The events of its commands, up to the space behind the command's number.
+const EVENTS: &str =
+    "id NAME 2 \nsub NAME 4 \nundo NAME 5 \nsub NAME 7 \ncommit NAME 8 \nsnap NAME 9 \ndrop NAME 10 \n";
+
+/// These lines once for each session, whose name stands for the word NAME.
+fn for_each_session(rt: &(impl Abort + AllocGlobal), lines: &str) -> String {
+    let mut text = String::new(rt.alloc());
+    for session in 0..SESSIONS {
+        let name = format!(in rt.alloc(); "s{session}").expect(rt, "memory");
+        let named = lines.replace(rt.alloc(), "NAME", name.as_str());
+        text.push_str(named.expect(rt, "memory").as_str())
+            .expect(rt, "memory");
+    }
+    text
+}
 
 /// One round of all sessions, command by command.
 fn one_round(rt: &(impl Abort + AllocGlobal), commands: &[&str]) -> String {
     let mut script = String::new(rt.alloc());
     for command in commands {
-        for session in 0..SESSIONS {
-            let line = format!(in rt.alloc(); "s{session} {command}\n").expect(rt, "memory");
-            script.push_str(line.as_str()).expect(rt, "memory");
-        }
+        let lines = for_each_session(rt, command);
+        script.push_str(lines.as_str()).expect(rt, "memory");
     }
     script
 }
 
-/// What stands in a text between two others.
-fn between<'a>(rt: &impl Abort, text: &'a str, first: &str, past: &str) -> &'a str {
-    let (_, behind) = text.split_once(first).expect(rt, "the first text");
-    let (found, _) = behind.split_once(past).expect(rt, "the text behind");
-    found
-}
-
-/// The lines are those of the sessions, one session after another, and each command is answered `ok`.
-fn check_lines(rt: &(impl Abort + AllocGlobal), lines: &str) {
-    let mut lines = lines.lines();
-    for session in 0..SESSIONS {
-        for line in LINES {
-            let wanted = format!(in rt.alloc(); "s{session} {line}").expect(rt, "memory");
-            let found = lines.next().unwrap_or("");
-            assert!(rt; found.starts_with(wanted.as_str()), "{found}");
-        }
-    }
-    assert!(rt; lines.next().is_none());
-}
-
-/// The events are those of the sessions' commands, each once and in its session's order.
-fn check_history(rt: &(impl Abort + AllocGlobal), history: &str) {
-    assert!(rt; history.lines().count() == SESSIONS * EVENTS.len());
+/// The lines that name a session, one session behind another.
+fn by_session(rt: &(impl Abort + AllocGlobal), lines: &str) -> String {
+    let mut text = String::new(rt.alloc());
     for session in 0..SESSIONS {
         let name = format!(in rt.alloc(); " s{session} ").expect(rt, "memory");
-        let mut count = 0usize;
-        for line in history.lines() {
-            let Some((kind, rest)) = line.split_once(name.as_str()) else {
-                continue;
-            };
-            let (wanted, number) = EVENTS.get(count).expect(rt, "an event too many");
-            assert!(rt; kind == *wanted && rest.starts_with(*number), "{line}");
-            count = count.saturating_add(1);
+        for line in lines.split_inclusive("\n") {
+            if line.contains(name.as_str()) {
+                text.push_str(line).expect(rt, "memory");
+            }
         }
-        assert!(rt; count == EVENTS.len(), "{name}");
     }
+    text
+}
+
+/// Whether there are as many lines, and each begins so.
+fn begin_so(lines: &str, fronts: &str) -> bool {
+    let mut lines = lines.lines();
+    for front in fronts.lines() {
+        match lines.next() {
+            Some(line) if line.starts_with(front) => {}
+            _ => return false,
+        }
+    }
+    lines.next().is_none()
+}
+
+/// What stands in a text between two others.
+fn between<'a>(text: &'a str, first: &str, past: &str) -> &'a str {
+    let (_, behind) = text.split_once(first).unwrap_or(("", ""));
+    let (found, _) = behind.split_once(past).unwrap_or(("", ""));
+    found
 }
 
 /// How many lines begin so and end so.
@@ -112,50 +120,74 @@ fn round_and_looks(rt: &(impl Abort + AllocGlobal)) -> String {
 /// What the second round writes first.
 const SNAP: &str = "s0 11 snap t -> ok xmin 195 xmax 195 xip - sub - overflow no\n";
 
-/// Each session was given three ids, of which one was undone.
+/// The lines of the round are those of the sessions, one session after another, and each command is answered `ok`. The events
+/// are those of the sessions' commands, each once and in its session's order. Each session was given three ids, of which one
+/// was undone.
+fn check_round(rt: &(impl Abort + AllocGlobal), run: &Ran) {
+    let report = run.written.as_str();
+    let lines = between(report, "\nround 1\n", "round 2\n");
+    let fronts = for_each_session(rt, LINES);
+    let are_lines = begin_so(lines, fronts.as_str());
+    assert!(rt; run.status == 0 && are_lines, "{report}");
+    let end = "snap s0 11 t\nmultis\nlog flushed 65 end ";
+    let history = between(report, "\nhistory\n", end);
+    let events = by_session(rt, history);
+    let fronts = for_each_session(rt, EVENTS);
+    let are_events = begin_so(events.as_str(), fronts.as_str());
+    assert!(rt; are_events && events.len() == history.len(), "{report}");
+    let looks = between(report, "\nround 2\n", "history\n");
+    let visible = count_lines(looks, "s0 ", "-> visible");
+    let hidden = count_lines(looks, "s0 ", "-> hidden");
+    let are_looks = looks.starts_with(SNAP) && visible == 128 && hidden == 64;
+    assert!(rt; are_looks, "{report}");
+}
+
 #[test]
 fn threads_tell_each_session_once_and_in_order(rt: HostRuntime) {
     let script = round_and_looks(&rt);
     for threads in [1, 4, 64] {
-        let (status, report) = run_new(&rt, script.as_str(), threads);
-        assert!(rt; status == 0);
-        let report = report.as_str();
-        check_lines(&rt, between(&rt, report, "\nround 1\n", "round 2\n"));
-        let end = "snap s0 11 t\nmultis\nlog flushed 65 end ";
-        check_history(&rt, between(&rt, report, "\nhistory\n", end));
-        let looks = between(&rt, report, "\nround 2\n", "history\n");
-        assert!(rt; looks.starts_with(SNAP));
-        assert!(rt; count_lines(looks, "s0 ", "-> visible") == 128);
-        assert!(rt; count_lines(looks, "s0 ", "-> hidden") == 64);
+        let run = run_over(&rt, script.as_str(), Which::Log, Fails::Never, threads);
+        check_round(&rt, &run);
     }
 }
 
 /// A round in which the log's volume fails while many commit.
 const COMMITS: [&str; 8] = [
-    "begin", "write", "commit", "save", "begin", "snap s", "see s 3", "drop s",
+    "NAME begin\n",
+    "NAME write\n",
+    "NAME commit\n",
+    "NAME save\n",
+    "NAME begin\n",
+    "NAME snap s\n",
+    "NAME see s 3\n",
+    "NAME drop s\n",
 ];
 
 /// One commit is told the fault, and the others that were too late that the log is down from the flushed number on. Those
 /// that were done are the flushed records behind the checkpoint.
-fn check_fault(rt: &(impl Abort + AllocGlobal), report: &str) {
-    let number = between(rt, report, "\nlog flushed ", " end ");
-    let flushed = number.parse::<usize>().ok().expect(rt, "a number");
+fn check_fault(rt: &(impl Abort + AllocGlobal), run: &Ran) {
+    let report = run.written.as_str();
+    let number = between(report, "\nlog flushed ", " end ");
+    let flushed = number.parse::<usize>().unwrap_or(0);
     let down = format!(in rt.alloc(); " 3 commit -> log-down {flushed}").expect(rt, "memory");
     let done = count_lines(report, "s", " 3 commit -> ok");
     let late = count_lines(report, "s", down.as_str());
-    assert!(rt; count_lines(report, "s", " 3 commit -> log-fault") == 1);
-    assert!(rt; done.saturating_add(1) == flushed);
-    assert!(rt; done.saturating_add(late).saturating_add(1) == SESSIONS);
-    let history = between(rt, report, "\nhistory\n", "\nmultis\n");
-    assert!(rt; count_lines(history, "commit ", "") == done);
+    let failed = count_lines(report, "s", " 3 commit -> log-fault");
+    let history = between(report, "\nhistory\n", "\nmultis\n");
+    let commits = count_lines(history, "commit ", "");
+    let is_well = run.status == 0
+        && failed == 1
+        && done.saturating_add(1) == flushed
+        && late.saturating_add(flushed) == SESSIONS
+        && commits == done;
+    assert!(rt; is_well, "{report}");
 }
 
 #[test]
 fn one_thread_is_told_the_fault_of_the_log(rt: HostRuntime) {
     let script = one_round(&rt, &COMMITS);
     for passes in 8..30 {
-        let (status, report) = run_fused(&rt, "run", script.as_str(), Which::Log, passes, 8);
-        assert!(rt; status == 0);
-        check_fault(&rt, report.as_str());
+        let run = run_over(&rt, script.as_str(), Which::Log, Fails::Behind(passes), 8);
+        check_fault(&rt, &run);
     }
 }

@@ -1,8 +1,11 @@
 //! Savepoints, snapshots and verdicts, command by command.
-use crate::test_help::check_rows;
+use crate::test_help::Told::{Has, Report};
+use crate::test_help::{Row, check_rows};
 
-const ROWS: &str = "=== undo_of_many_levels
-a begin
+const ROWS: [Row; 5] = [
+    Row {
+        name: "undo_of_many_levels",
+        script: "a begin
 a write
 a save
 a save
@@ -20,8 +23,9 @@ b see s 3
 b see s 4
 b see s 5
 b see s 6
---- report
-txid report 1
+",
+        told: Report(
+            "txid report 1
 life 1 from 0 next 3 oldest 3 multi 1 offset 1 oldest-multi 1 oldest-offset 1
 round 1
 a 1 begin -> ok
@@ -56,8 +60,12 @@ log flushed 2 end 80
 0 checkpoint next 3 oldest 3 multi 1 offset 1 oldest-multi 1 oldest-offset 1
 1 commit 3
 end
-=== snapshot_outlives_its_transaction
-a begin
+",
+        ),
+    },
+    Row {
+        name: "snapshot_outlives_its_transaction",
+        script: "a begin
 a write
 a snap s
 a save
@@ -73,8 +81,9 @@ a drop s
 a see s 3
 a snap s
 a see s 4
---- report
-txid report 1
+",
+        told: Report(
+            "txid report 1
 life 1 from 0 next 3 oldest 3 multi 1 offset 1 oldest-multi 1 oldest-offset 1
 round 1
 a 1 begin -> ok
@@ -107,15 +116,20 @@ log flushed 2 end 88
 0 checkpoint next 3 oldest 3 multi 1 offset 1 oldest-multi 1 oldest-offset 1
 1 commit 3 4
 end
-=== aborted_savepoint_is_hidden
-a begin
+",
+        ),
+    },
+    Row {
+        name: "aborted_savepoint_is_hidden",
+        script: "a begin
 a save
 a write
 a abort
 b snap s
 b see s 4
---- report
-txid report 1
+",
+        told: Report(
+            "txid report 1
 life 1 from 0 next 3 oldest 3 multi 1 offset 1 oldest-multi 1 oldest-offset 1
 round 1
 a 1 begin -> ok
@@ -134,27 +148,40 @@ log flushed 1 end 62
 0 checkpoint next 3 oldest 3 multi 1 offset 1 oldest-multi 1 oldest-offset 1
 1 abort 3 4
 end
-=== id_below_zero_is_too_old
-# The full id near the xmax that ends so would be below 0.
+",
+        ),
+    },
+    Row {
+        name: "id_below_zero_is_too_old",
+        script: "# The full id near the xmax that ends so would be below 0.
 .start 10
 a snap s
 a see s 4294967295
---- part
-a 1 snap s -> ok xmin 10 xmax 10 xip - sub - overflow no
+",
+        told: Has(&[
+            "a 1 snap s -> ok xmin 10 xmax 10 xip - sub - overflow no
 a 2 see s 4294967295 -> too-old 3
 history
-=== id_below_the_oldest_is_too_old
-.start 10
+",
+        ]),
+    },
+    Row {
+        name: "id_below_the_oldest_is_too_old",
+        script: ".start 10
 .oldest 10
 a snap s
 a see s 4
---- part
-a 1 snap s -> ok xmin 10 xmax 10 xip - sub - overflow no
+",
+        told: Has(&[
+            "a 1 snap s -> ok xmin 10 xmax 10 xip - sub - overflow no
 a 2 see s 4 -> too-old 10
 history
-";
+",
+        ]),
+    },
+];
 
 #[test]
 fn commands(rt: HostRuntime) {
-    check_rows(&rt, ROWS);
+    check_rows(&rt, &ROWS);
 }

@@ -1,75 +1,35 @@
 //! Gates: sessions that are held up in an order which no thread alone could take, and that each critical section passes.
-use crate::test_help::{is_lawful, report_past};
+use crate::test_help::Told::{Either, Has};
+use crate::test_help::{Row, check_report, report_past};
+use crate::turns::{A, B, Turn, Turned, check_turns};
 use engine_parts::Gate;
 use script_rounds::RoundThreads;
 use std::alloc::AllocGlobal;
 use std::process::Abort;
 use std::sync::Wait;
 use std::sync::atomic::{AtomicBool, AtomicU64, Ordering};
-use std::thread::{Threads, yield_now};
 
-/// So often a session looks whether another one came, before it goes on.
-const TURNS: u32 = 1_000_000;
+/// Two sessions that cross: the first one's command 2 waits until the second one comes with its command 3, and that until the
+/// first comes with its command 3.
+const CROSSING: [Turn; 2] = [(A, (2, 1), B, (3, 1)), (B, (3, 1), A, (3, 1))];
 
-/// Holds the first session's command 2 until the second one comes with its command 3, and that until the first comes with
-/// its command 3.
-#[derive(Drop)]
-struct Crossing {
-    first_came: AtomicBool,
-    second_came: AtomicBool,
-    /// Whether a session was held for all its turns.
-    ran_out: AtomicBool,
-}
-
-impl Crossing {
-    fn hold_until(&self, came: &AtomicBool) {
-        for _ in 0..TURNS {
-            if came.load(Ordering::SeqCst) || self.ran_out.load(Ordering::SeqCst) {
-                return;
-            }
-            yield_now();
-        }
-        self.ran_out.store(true, Ordering::SeqCst);
-    }
-}
-
-impl Gate for Crossing {
-    fn before<R: Wait>(&self, _rt: &R, session: u32, command: u64, _hold: u64) {
-        match (session, command) {
-            (0, 2) => self.hold_until(&self.second_came),
-            (0, 3) => self.first_came.store(true, Ordering::SeqCst),
-            (1, 3) => {
-                self.second_came.store(true, Ordering::SeqCst);
-                self.hold_until(&self.first_came);
-            }
-            _ => {}
-        }
-    }
-}
-
-/// The report of two sessions that cross at a gate, and whether one of them was held for all its turns.
-fn crossed(
-    rt: &(impl Abort + AllocGlobal + Threads + Wait + Sync),
-    threads: RoundThreads,
-) -> (String, bool) {
-    let gate = Crossing {
-        first_came: AtomicBool::new(false),
-        second_came: AtomicBool::new(false),
-        ran_out: AtomicBool::new(false),
-    };
-    let script = "a begin
+const CROSSED: &str = "a begin
 a write
 a snap s
 b begin
 b write
 b snap t
 ";
-    let report = report_past(rt, script, threads, &gate);
-    (report, gate.ran_out.load(Ordering::SeqCst))
-}
 
-/// The report up to the place where the events of its two snapshots stand, in either order.
-const HEAD: &str = "txid report 1
+/// The second session's id is the lower one, and each snapshot stands behind both: no id has ended, so each is at or past its
+/// xmax. Which of the two is first is open.
+const INTERLEAVED: Turned = Turned {
+    turns: &CROSSING,
+    row: Row {
+        name: "two_sessions_interleave",
+        script: CROSSED,
+        told: Either(
+            "txid report 1
 life 1 from 0 next 3 oldest 3 multi 1 offset 1 oldest-multi 1 oldest-offset 1
 round 1
 a 1 begin -> ok
@@ -81,37 +41,61 @@ b 3 snap t -> ok xmin 3 xmax 3 xip - sub - overflow no
 history
 id b 2 3
 id a 2 4
-";
-
-const TAIL: &str = "multis
+snap a 3 s
+snap b 3 t
+multis
 log flushed 1 end 62
 0 checkpoint next 3 oldest 3 multi 1 offset 1 oldest-multi 1 oldest-offset 1
 end
-";
+",
+            "txid report 1
+life 1 from 0 next 3 oldest 3 multi 1 offset 1 oldest-multi 1 oldest-offset 1
+round 1
+a 1 begin -> ok
+a 2 write -> ok 4
+a 3 snap s -> ok xmin 3 xmax 3 xip - sub - overflow no
+b 1 begin -> ok
+b 2 write -> ok 3
+b 3 snap t -> ok xmin 3 xmax 3 xip - sub - overflow no
+history
+id b 2 3
+id a 2 4
+snap b 3 t
+snap a 3 s
+multis
+log flushed 1 end 62
+0 checkpoint next 3 oldest 3 multi 1 offset 1 oldest-multi 1 oldest-offset 1
+end
+",
+        ),
+    },
+};
 
-/// The second session's id is the lower one, and each snapshot stands behind both: no id has ended, so each is at or past its
-/// xmax. Which of the two is first is open.
 #[test]
 fn two_sessions_interleave(rt: HostRuntime) {
-    let (report, ran_out) = crossed(&rt, RoundThreads::OneEach);
-    assert!(rt; !ran_out && is_lawful(&rt, report.as_str()), "{report}");
-    let text = report.as_str();
-    let behind = text.strip_prefix(HEAD).expect(&rt, "the head");
-    let snaps = behind.strip_suffix(TAIL).expect(&rt, "the tail");
-    let is_either = snaps == "snap a 3 s\nsnap b 3 t\n" || snaps == "snap b 3 t\nsnap a 3 s\n";
-    assert!(rt; is_either, "{report}");
+    check_turns(&rt, &INTERLEAVED, RoundThreads::OneEach, false);
 }
+
+const ON_ONE_THREAD: Turned = Turned {
+    turns: &CROSSING,
+    row: Row {
+        name: "sessions_on_one_thread_do_not_interleave",
+        script: CROSSED,
+        told: Has(&["a 2 write -> ok 3\n"]),
+    },
+};
 
 /// Where the sessions of a round run one after another, the first waits for the second in vain.
 #[test]
 fn sessions_on_one_thread_do_not_interleave(rt: HostRuntime) {
-    let (report, ran_out) = crossed(&rt, RoundThreads::AtMost(1));
-    assert!(rt; ran_out && report.contains("\na 2 write -> ok 3\n"));
+    check_turns(&rt, &ON_ONE_THREAD, RoundThreads::AtMost(1), true);
 }
 
 /// Twelve sessions that each write an order, and a line of it behind a savepoint, which every other one undoes; and a
 /// reader behind them.
-const ORDERS: &str = "o1 begin
+const ORDERS: Row = Row {
+    name: "gate_sees_every_section",
+    script: "o1 begin
 o1 write
 o1 save
 o1 write
@@ -211,7 +195,14 @@ r see s 25
 r see s 26
 r multi 3:keysh 4:sh
 r drop s
-";
+",
+    told: Has(&[
+        "r 1 snap s -> ok xmin 27 xmax 27 xip - sub - overflow no\n",
+        "r 26 multi 3:keysh 4:sh -> ok 1 1
+r 27 drop s -> ok
+",
+    ]),
+};
 
 /// Counts how often each of 13 sessions comes with each of its first 27 commands.
 #[derive(Drop)]
@@ -262,23 +253,30 @@ impl Gate for Recorder {
     }
 }
 
+/// The session came to the gate with this command.
+fn check_came(rt: &impl Abort, gate: &Recorder, session: u32, command: u64) {
+    assert!(rt; gate.has(session, command), "{session} {command}");
+}
+
 /// The ids are 3 to 26: of twelve transactions and of twelve savepoints, six of which are undone. Each command that enters
 /// a lock comes to the gate, with the numbers of its sections from 1 on.
 #[test]
 fn gate_sees_every_section(rt: HostRuntime) {
     let gate = Recorder::new(&rt);
-    let report = report_past(&rt, ORDERS, RoundThreads::OneEach, &gate);
-    assert!(rt; report.contains("r 1 snap s -> ok xmin 27 xmax 27 xip - sub - overflow no\n"));
+    let report = report_past(&rt, ORDERS.script, RoundThreads::OneEach, &gate);
+    check_report(&rt, &ORDERS, report.as_str());
     assert!(rt; report.matches(" -> visible\n").count() == 18);
     assert!(rt; report.matches(" -> hidden\n").count() == 6);
-    assert!(rt; report.contains("r 26 multi 3:keysh 4:sh -> ok 1 1\nr 27 drop s -> ok\n"));
-    assert!(rt; is_lawful(&rt, report.as_str()) && !gate.is_wrong.load(Ordering::SeqCst));
-    for session in 0..12 {
-        let has_all = gate.has(session, 2) && gate.has(session, 4) && gate.has(session, 6);
-        assert!(rt; has_all, "{session}");
-        assert!(rt; session % 2 == 0 || gate.has(session, 5), "{session} undo");
+    assert!(rt; !gate.is_wrong.load(Ordering::SeqCst));
+    for session in 0..12u32 {
+        check_came(&rt, &gate, session, 2);
+        check_came(&rt, &gate, session, 4);
+        check_came(&rt, &gate, session, 6);
+        if session % 2 == 1 {
+            check_came(&rt, &gate, session, 5);
+        }
     }
-    for command in 1..28 {
-        assert!(rt; gate.has(12, command), "r {command}");
+    for command in 1..28u64 {
+        check_came(&rt, &gate, 12, command);
     }
 }

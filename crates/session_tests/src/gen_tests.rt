@@ -1,12 +1,12 @@
 //! Runs of generated scripts: their lines are those that another program of the same format printed, and no source is
 //! read for them, nor for words that are refused.
-use crate::test_help::{sink_of, source_of, status_of, text_of, word};
 use engine_parts::OpenGate;
 use script_rounds::RoundThreads;
 use std::alloc::AllocGlobal;
 use std::process::Abort;
 use std::sync::Wait;
 use std::thread::Threads;
+use tool_runs::{Ran, run_past, source_of};
 use tx_io::Source;
 
 /// Rows of words, with the status and the line that is written.
@@ -62,48 +62,32 @@ const ROWS: [(&[&str], u8, &str); 21] = [
     (&["run", "now"], 2, "words\n"),
 ];
 
-/// Runs the tool with these words beside a source of eight bytes, of which it reads none. Answers the status and what was
-/// written.
+/// Runs the tool with these words beside a source of eight bytes, of which it reads none.
 fn run_beside_a_source(
     rt: &(impl Abort + AllocGlobal + Threads + Wait + Sync),
     words: &[&str],
-) -> (u8, String) {
-    let mut all = Vec::new(rt.alloc());
-    for each in words {
-        all.push(word(rt, each)).expect(rt, "memory");
-    }
-    let mut source = source_of(rt, "a begin\n", Vec::new(rt.alloc()));
-    let mut sink = sink_of(rt, 200);
+) -> Ran {
+    let mut source = source_of(rt.alloc(), "a begin\n", &[]).expect(rt, "memory");
     let threads = RoundThreads::AtMost(4);
-    let status = status_of(
-        rt,
-        all.as_slice(),
-        &mut source,
-        &mut sink,
-        threads,
-        &OpenGate,
-    );
-    assert!(rt;
-        matches!(source.read(&mut [0; 16]), Ok(8)),
-        "the source was read"
-    );
-    (status, text_of(rt, &sink))
+    let run = run_past(rt, words, &mut source, 200, threads, &OpenGate).expect(rt, "memory");
+    let left = source.read(&mut [0; 16]).ok();
+    assert!(rt; left == Some(8), "the source was read");
+    run
 }
 
 #[test]
 fn words_and_what_they_write(rt: HostRuntime) {
     for (words, status, line) in &ROWS {
-        let (found, written) = run_beside_a_source(&rt, words);
-        let wanted = *line;
-        let is_well = found == *status && written.as_str() == wanted;
-        assert!(rt; is_well, "not {wanted} but {found}: {written}");
+        let run = run_beside_a_source(&rt, words);
+        let is_well = run.status == *status && run.written.as_str() == *line;
+        assert!(rt; is_well, "not {line} but {}: {}", run.status, run.written);
     }
 }
 
 #[test]
 fn each_run_says_the_same(rt: HostRuntime) {
-    let (status, first) = run_beside_a_source(&rt, &["gen", "1", "2000"]);
-    let (again, second) = run_beside_a_source(&rt, &["gen", "1", "2000"]);
-    assert!(rt; status == 0 && again == 0);
-    assert!(rt; first.as_str() == second.as_str());
+    let first = run_beside_a_source(&rt, &["gen", "1", "2000"]);
+    let second = run_beside_a_source(&rt, &["gen", "1", "2000"]);
+    assert!(rt; first.status == 0 && second.status == 0);
+    assert!(rt; first.written.as_str() == second.written.as_str());
 }

@@ -35,3 +35,5 @@ mod stream_tests;
 mod test_help;
 #[cfg(test)]
 mod turn_tests;
+#[cfg(test)]
+mod turns;

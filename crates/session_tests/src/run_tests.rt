@@ -1,30 +1,40 @@
 //! The first worked runs, and how a run ends otherwise.
-use crate::test_help::{check_rows, sink_of, source_of, status_of, text_of, word};
+use crate::test_help::Told::Report;
+use crate::test_help::{Row, check_rows};
 use engine_parts::OpenGate;
 use script_rounds::RoundThreads;
 use std::alloc::AllocGlobal;
 use std::process::Abort;
 use std::sync::Wait;
 use std::thread::Threads;
+use tool_runs::{run_past, source_of};
 use tx_io::{Failed, Source};
 
-const ROWS: &str = "=== empty_script
---- report
-txid report 1
+const ROWS: [Row; 5] = [
+    Row {
+        name: "empty_script",
+        script: "",
+        told: Report(
+            "txid report 1
 life 1 from 0 next 3 oldest 3 multi 1 offset 1 oldest-multi 1 oldest-offset 1
 history
 multis
 log flushed 1 end 62
 0 checkpoint next 3 oldest 3 multi 1 offset 1 oldest-multi 1 oldest-offset 1
 end
-=== commit_is_visible
-a begin
+",
+        ),
+    },
+    Row {
+        name: "commit_is_visible",
+        script: "a begin
 a write
 a commit
 a snap s
 a see s 3
---- report
-txid report 1
+",
+        told: Report(
+            "txid report 1
 life 1 from 0 next 3 oldest 3 multi 1 offset 1 oldest-multi 1 oldest-offset 1
 round 1
 a 1 begin -> ok
@@ -41,14 +51,19 @@ log flushed 2 end 80
 0 checkpoint next 3 oldest 3 multi 1 offset 1 oldest-multi 1 oldest-offset 1
 1 commit 3
 end
-=== commit_after_snapshot_is_hidden
-a begin
+",
+        ),
+    },
+    Row {
+        name: "commit_after_snapshot_is_hidden",
+        script: "a begin
 a write
 a snap s
 a commit
 a see s 3
---- report
-txid report 1
+",
+        told: Report(
+            "txid report 1
 life 1 from 0 next 3 oldest 3 multi 1 offset 1 oldest-multi 1 oldest-offset 1
 round 1
 a 1 begin -> ok
@@ -65,13 +80,18 @@ log flushed 2 end 80
 0 checkpoint next 3 oldest 3 multi 1 offset 1 oldest-multi 1 oldest-offset 1
 1 commit 3
 end
-=== special_ids
-a snap s
+",
+        ),
+    },
+    Row {
+        name: "special_ids",
+        script: "a snap s
 a see s 0
 a see s 1
 a see s 2
---- report
-txid report 1
+",
+        told: Report(
+            "txid report 1
 life 1 from 0 next 3 oldest 3 multi 1 offset 1 oldest-multi 1 oldest-offset 1
 round 1
 a 1 snap s -> ok xmin 3 xmax 3 xip - sub - overflow no
@@ -84,8 +104,12 @@ multis
 log flushed 1 end 62
 0 checkpoint next 3 oldest 3 multi 1 offset 1 oldest-multi 1 oldest-offset 1
 end
-=== abort_records_wait_for_a_flush
-# An aborted transaction's record waits for the next flush: three aborts of 13 bytes and a commit in one batch.
+",
+        ),
+    },
+    Row {
+        name: "abort_records_wait_for_a_flush",
+        script: "# An aborted transaction's record waits for the next flush: three aborts of 13 bytes and a commit in one batch.
 a begin
 a write
 a abort
@@ -95,8 +119,9 @@ b commit
 c begin
 c write
 c abort
---- report
-txid report 1
+",
+        told: Report(
+            "txid report 1
 life 1 from 0 next 3 oldest 3 multi 1 offset 1 oldest-multi 1 oldest-offset 1
 round 1
 a 1 begin -> ok
@@ -122,11 +147,14 @@ log flushed 3 end 93
 2 commit 4
 3 abort 5
 end
-";
+",
+        ),
+    },
+];
 
 #[test]
 fn first_runs(rt: HostRuntime) {
-    check_rows(&rt, ROWS);
+    check_rows(&rt, &ROWS);
 }
 
 /// A run that ends otherwise: its script, the reads of its source that fail, how much room its sink has, the status, and the
@@ -179,18 +207,15 @@ const ENDINGS: [Ending; 4] = [
 
 /// A run of the script ends as the row says.
 fn check_ending(rt: &(impl Abort + AllocGlobal + Threads + Wait + Sync), row: &Ending) {
-    let failing = Vec::from_slice(rt.alloc(), row.failing).expect(rt, "memory");
-    let mut source = source_of(rt, row.script, failing);
-    let mut sink = sink_of(rt, row.room);
-    let words = [word(rt, "run")];
+    let mut source = source_of(rt.alloc(), row.script, row.failing).expect(rt, "memory");
     let threads = RoundThreads::AtMost(4);
-    let status = status_of(rt, &words, &mut source, &mut sink, threads, &OpenGate);
-    let written = text_of(rt, &sink);
+    let run = run_past(rt, &["run"], &mut source, row.room, threads, &OpenGate);
+    let run = run.expect(rt, "memory");
     let length = (row.text.len() as u64).min(row.room);
-    let is_well = status == row.status
-        && row.text.starts_with(written.as_str())
-        && written.len() as u64 == length;
-    assert!(rt; is_well, "{}: {status} {written}", row.name);
+    let is_well = run.status == row.status
+        && row.text.starts_with(run.written.as_str())
+        && run.written.len() as u64 == length;
+    assert!(rt; is_well, "{}: {} {}", row.name, run.status, run.written);
 }
 
 #[test]
@@ -226,9 +251,8 @@ impl Source for Endless {
 /// A run stops one byte past the limit of a script.
 #[test]
 fn script_past_the_limit_is_refused(rt: HostRuntime) {
-    let mut sink = sink_of(&rt, 100);
-    let words = [word(&rt, "run")];
     let threads = RoundThreads::AtMost(4);
-    let status = status_of(&rt, &words, &mut Endless, &mut sink, threads, &OpenGate);
-    assert!(rt; status == 1 && sink.held() == b"script 0 size\n".as_slice());
+    let run = run_past(&rt, &["run"], &mut Endless, 100, threads, &OpenGate);
+    let run = run.expect(&rt, "memory");
+    assert!(rt; run.status == 1 && run.written.as_str() == "script 0 size\n");
 }

@@ -1,0 +1,109 @@
+//! Sessions that wait for each other before critical sections that a row names.
+use crate::test_help::{Row, check_report, report_past, written_out};
+use engine_parts::Gate;
+use script_rounds::RoundThreads;
+use std::alloc::AllocGlobal;
+use std::process::Abort;
+use std::sync::Wait;
+use std::sync::atomic::{AtomicBool, AtomicU64, Ordering};
+use std::thread::{Threads, yield_now};
+
+/// So often a session looks whether another one came, before it goes on.
+const LOOKS: u32 = 1_000_000;
+
+/// No command of a row has as many critical sections.
+const MOST_SECTIONS: u64 = 1_000;
+
+/// A section: the number of its command, and its own in the command. Before it a session comes to the gate.
+pub type Section = (u64, u64);
+
+/// The place of a command's section among all sections of its session, in their order.
+fn place(section: Section) -> u64 {
+    let (command, section) = section;
+    command
+        .saturating_mul(MOST_SECTIONS)
+        .saturating_add(section)
+}
+
+/// A session waits before a section of its own until another one has come to a section of that one's, or past it. A row's
+/// sessions are A, B and C, in the order in which they first appear.
+pub type Turn = (u32, Section, u32, Section);
+
+pub const A: u32 = 0;
+
+pub const B: u32 = 1;
+
+pub const C: u32 = 2;
+
+/// Holds sessions up as a row's turns say.
+#[derive(Drop)]
+struct Turns {
+    turns: &'static [Turn],
+    /// The place to which each session has come.
+    came: [AtomicU64; 3],
+    /// Whether a session was held for all its looks.
+    ran_out: AtomicBool,
+}
+
+impl Turns {
+    fn of(turns: &'static [Turn]) -> Turns {
+        Turns {
+            turns,
+            came: [AtomicU64::new(0), AtomicU64::new(0), AtomicU64::new(0)],
+            ran_out: AtomicBool::new(false),
+        }
+    }
+
+    fn has_come(&self, session: u32, to: u64) -> bool {
+        match self.came.get(session as usize) {
+            Some(came) => came.load(Ordering::SeqCst) >= to,
+            None => false,
+        }
+    }
+
+    fn wait_for(&self, session: u32, until: u64) {
+        for _ in 0..LOOKS {
+            if self.has_come(session, until) || self.ran_out.load(Ordering::SeqCst) {
+                return;
+            }
+            yield_now();
+        }
+        self.ran_out.store(true, Ordering::SeqCst);
+    }
+}
+
+impl Gate for Turns {
+    fn before<R: Wait>(&self, _rt: &R, session: u32, command: u64, hold: u64) {
+        let here = place((command, hold));
+        if let Some(came) = self.came.get(session as usize) {
+            came.store(here, Ordering::SeqCst);
+        }
+        for (who, at, whom, until) in self.turns {
+            if *who == session && place(*at) == here {
+                self.wait_for(*whom, place(*until));
+            }
+        }
+    }
+}
+
+/// A row, and which of its sessions waits for which.
+#[derive(Drop)]
+pub struct Turned {
+    pub turns: &'static [Turn],
+    pub row: Row,
+}
+
+/// Runs the script of a row past its turns on such threads. Whether a session waits in vain is as it is told.
+pub fn check_turns(
+    rt: &(impl Abort + AllocGlobal + Threads + Wait + Sync),
+    turned: &Turned,
+    threads: RoundThreads,
+    waits_in_vain: bool,
+) {
+    let gate = Turns::of(turned.turns);
+    let script = written_out(rt, "", turned.row.script);
+    let report = report_past(rt, script.as_str(), threads, &gate);
+    check_report(rt, &turned.row, report.as_str());
+    let ran_out = gate.ran_out.load(Ordering::SeqCst);
+    assert!(rt; ran_out == waits_in_vain, "{}: {ran_out}", turned.row.name);
+}

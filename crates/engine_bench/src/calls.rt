@@ -27,10 +27,18 @@ pub enum Call {
     Commit,
     Snap,
     DropSnap,
-    See(u32),
+    See,
 }
 
-/// Runs a call of a session, whose snapshots have this name. Whether it is done, or answered with a verdict.
+/// Calls one after another, once, or once for each savepoint of a turn.
+#[derive(Clone, Copy)]
+pub struct Stretch {
+    pub calls: &'static [Call],
+    pub each_savepoint: bool,
+}
+
+/// Runs a call of a session, whose snapshots have this name, and which looks at the id asked for. Whether it is done, or
+/// answered with a verdict.
 pub fn run<R: Passing, L: LogDisk, P: PageDisk>(
     rt: &R,
     hall: &Hall<EngineLaw<L, P>>,
@@ -39,6 +47,7 @@ pub fn run<R: Passing, L: LogDisk, P: PageDisk>(
     alloc: Global,
     name: &Name,
     call: Call,
+    asked: u32,
 ) -> bool
     requires { MayRun hall.now banks caller.old }
     ensures { GoesOn hall.now banks (cond result 1 0) caller.old caller.new }
@@ -55,7 +64,7 @@ pub fn run<R: Passing, L: LogDisk, P: PageDisk>(
         Call::Commit => commit(rt, hall, caller, banks, alloc).is_ok(),
         Call::Snap => snap(rt, hall, caller, name).is_ok(),
         Call::DropSnap => drop_snap(rt, hall, caller, name).is_ok(),
-        Call::See(x) => see(rt, hall, caller, banks, name, Xid { number: x }).is_ok(),
+        Call::See => see(rt, hall, caller, banks, name, Xid { number: asked }).is_ok(),
     }
 }
 
@@ -69,7 +78,15 @@ fn one_more(done: u64, is_done: bool) -> u64
     }
 }
 
-/// Runs calls of a session, so often one after another. Answers how many of them were done.
+fn times_of(stretch: Stretch, savepoints: u32) -> u32 {
+    if stretch.each_savepoint {
+        savepoints
+    } else {
+        1
+    }
+}
+
+/// Runs a session's calls of a turn with so many savepoints. Answers how many of them were done.
 pub fn run_all<R: Passing, L: LogDisk, P: PageDisk>(
     rt: &R,
     hall: &Hall<EngineLaw<L, P>>,
@@ -77,16 +94,20 @@ pub fn run_all<R: Passing, L: LogDisk, P: PageDisk>(
     banks: u32,
     alloc: Global,
     name: &Name,
-    calls: &[Call],
-    times: u32,
+    steps: &[Stretch],
+    savepoints: u32,
+    asked: u32,
 ) -> u64
     requires { MayRun hall.now banks caller.old }
     ensures { GoesOn hall.now banks result caller.old caller.new }
 {
     let mut done = 0u64;
-    for _ in 0..times {
-        for call in calls {
-            done = one_more(done, run(rt, hall, caller, banks, alloc, name, *call));
+    for stretch in steps {
+        for _ in 0..times_of(*stretch, savepoints) {
+            for call in stretch.calls {
+                let is_done = run(rt, hall, caller, banks, alloc, name, *call, asked);
+                done = one_more(done, is_done);
+            }
         }
     }
     done

@@ -6,7 +6,9 @@ ghost use Rattle.engine_parts.specs.Calls.{MayRun};
 ghost use Rattle.engine_parts.specs.declared.session.Session.{Session};
 ghost use Rattle.engine_bench.specs.Crews.{AllWent, HaveGoneOn, MayWork, Worked, numbers_of};
 
-use crate::works::{Work, take_turn};
+use crate::calls::run_all;
+use crate::shapes::{Plan, Who};
+use crate::works::{asked_in, savepoints_of, steps_of};
 use disk_core::{LogDisk, PageDisk};
 use engine_host::{Host, admit, dismiss, new_session};
 use engine_parts::{Caller, EngineLaw, Gated, OpenGate};
@@ -24,13 +26,12 @@ pub struct Member<L: LogDisk, P: PageDisk> {
     pub done: u64,
 }
 
-/// What sessions of a crew do: those from the first number on up to one before the last, so many turns each.
-#[derive(Clone, Copy)]
-pub struct Plan {
-    pub from: u32,
-    pub to: u32,
-    pub work: Work,
-    pub turns: u32,
+fn is_one(who: Who, number: u32) -> bool {
+    match who {
+        Who::Only(only) => number == only,
+        Who::Below(end) => number < end,
+        Who::From(start) => start <= number,
+    }
 }
 
 /// A session works by the plan, where it is one of its sessions.
@@ -45,8 +46,9 @@ fn run_member<R: Wait, L: LogDisk, P: PageDisk>(
     requires { MayRun hall.now banks member.old.caller }
     ensures { Worked hall.now banks member.old member.new }
 {
-    let number = member.caller.number;
-    let turns = if plan.from <= number && number < plan.to {
+    let steps = steps_of(plan.work);
+    let savepoints = savepoints_of(plan.work);
+    let turns = if is_one(plan.who, member.caller.number) {
         plan.turns
     } else {
         0
@@ -57,8 +59,11 @@ fn run_member<R: Wait, L: LogDisk, P: PageDisk>(
         gate: &OpenGate,
     };
     for turn in 0..turns {
+        let asked = asked_in(plan.work, turn);
         let caller = &mut member.caller;
-        let done = take_turn(&gated, hall, caller, banks, alloc, &name, plan.work, turn);
+        let done = run_all(
+            &gated, hall, caller, banks, alloc, &name, steps, savepoints, asked,
+        );
         member.done = member.done.saturating_add(done);
     }
     let Gated { rt: _, gate: _ } = gated;

@@ -1,12 +1,13 @@
-//! What is measured: sessions of a new cluster that work by plans, of which the last one is timed.
+//! How it is measured: sessions of a new cluster work by plans, and then some do the work that is timed.
 ghost use Rattle.std.specs.Prelude.{ℕ, ◌<◌, ◌≤◌, []};
 ghost use Rattle.std.specs.List.{All};
 ghost use Rattle.engine_host.specs.Hosts.{HoldsAllBut, IsHost, IsNewSession, IsParked};
 ghost use Rattle.engine_parts.specs.declared.session.Session.{Session};
 ghost use Rattle.engine_bench.specs.Crews.{HaveGoneOn, MayWork};
 
-use crate::crew::{Member, Plan, let_in, new_crew, take_back, work, work_through};
+use crate::crew::{Member, let_in, new_crew, take_back, work, work_through};
 use crate::opening::{close_table, new_cluster, open_table};
+use crate::shapes::{Plan, Shape};
 use disk_core::{MemLog, MemPages};
 use engine_host::Host;
 use engine_parts::EngineLaw;
@@ -19,19 +20,6 @@ use std::time::Instant;
 
 // How many banks each store has.
 const BANKS: u32 = 4;
-
-/// So many sessions, at most 64, do what the plans say, one after another, and the last plan is timed.
-#[derive(Clone, Copy)]
-pub struct Shape<'a> {
-    pub name: &'a str,
-    pub sessions: u32,
-    pub before: &'a [Plan],
-    pub timed: Plan,
-    /// How many of what is told there are in a turn.
-    pub units: u32,
-    /// What a PostgreSQL 15 server did a second on four such processors.
-    pub target: &'a str,
-}
 
 /// What a run of a shape came to.
 #[derive(Clone, Copy)]
@@ -59,14 +47,20 @@ fn work_timed<R: Threads + Wait + Sync>(
     members: &mut Vec<Member<MemLog, MemPages>>,
     banks: u32,
     alloc: Global,
-    shape: &Shape<'_>,
+    shape: &Shape,
+    turns: u32,
 ) -> Option<u128>
     requires { All (MayWork hall.now banks) members.old.items }
     ensures { HaveGoneOn hall.now banks members.old.items members.new.items }
 {
     work_through(rt, hall, members, banks, alloc, shape.before);
+    let timed = Plan {
+        who: shape.who,
+        work: shape.work,
+        turns,
+    };
     let start = Instant::now(host);
-    work(rt, hall, members, banks, alloc, shape.timed, 64);
+    work(rt, hall, members, banks, alloc, timed, 64);
     micros_since(host, start)
 }
 
@@ -77,7 +71,8 @@ fn run_opened<R: Threads + Wait + Sync>(
     alloc: Global,
     hall: Hall<EngineLaw<MemLog, MemPages>>,
     postmaster: Host<MemLog, MemPages>,
-    shape: &Shape<'_>,
+    shape: &Shape,
+    turns: u32,
 ) -> Option<Outcome>
     requires host { IsHost hall postmaster }
     requires names { HoldsAllBut postmaster [] }
@@ -93,7 +88,7 @@ fn run_opened<R: Threads + Wait + Sync>(
     };
     let_in(&hall, alloc, &mut postmaster, &mut members);
     let banks = postmaster.cluster.banks;
-    let time = work_timed(host, rt, &hall, &mut members, banks, alloc, shape);
+    let time = work_timed(host, rt, &hall, &mut members, banks, alloc, shape, turns);
     let done = take_back(&hall, &mut postmaster, &mut members);
     members.destroy_empty();
     let events = close_table(hall, postmaster);
@@ -107,15 +102,19 @@ fn at_most_64(sessions: u32) -> u32
     if sessions < 64 { sessions } else { 64 }
 }
 
-/// Runs a shape. None for want of memory.
+/// Runs a shape, where so many sessions take so many turns each in the time that is told. There are at most 64 sessions in
+/// all. None for want of memory.
 pub fn run_shape<R: Threads + Wait + Sync>(
     host: &HostRuntime,
     rt: &R,
     alloc: Global,
-    shape: &Shape<'_>,
+    shape: &Shape,
+    sessions: u32,
+    turns: u32,
 ) -> Option<Outcome> {
-    match open_table(alloc, new_cluster(BANKS, at_most_64(shape.sessions))) {
-        Some((hall, postmaster)) => run_opened(host, rt, alloc, hall, postmaster, shape),
+    let all = at_most_64(shape.aside.saturating_add(sessions));
+    match open_table(alloc, new_cluster(BANKS, all)) {
+        Some((hall, postmaster)) => run_opened(host, rt, alloc, hall, postmaster, shape, turns),
         None => None,
     }
 }

@@ -1,13 +1,5 @@
 //! What a session does turn after turn.
-ghost use Rattle.engine_parts.specs.Calls.{MayRun};
-ghost use Rattle.engine_bench.specs.Going.{GoesOn};
-
-use crate::calls::{Call, run_all};
-use disk_core::{LogDisk, PageDisk};
-use engine_parts::{Caller, EngineLaw, Passing};
-use hall::Hall;
-use std::alloc::Global;
-use tx_events::Name;
+use crate::calls::{Call, Stretch};
 
 /// What a session does in a turn.
 #[derive(Clone, Copy)]
@@ -30,78 +22,92 @@ pub enum Work {
     Look { first: u32, step: u32, ids: u32 },
 }
 
-/// The id that is asked for in a turn.
-fn id_of(first: u32, step: u32, ids: u32, turn: u32) -> u32 {
-    let place = turn % ids.max(1);
-    first.wrapping_add(place.wrapping_mul(step))
-}
+const TRANSACTION: [Stretch; 1] = [Stretch {
+    calls: &[Call::Begin, Call::Write, Call::Commit],
+    each_savepoint: false,
+}];
 
-/// A transaction begins and gets its id, and then these calls are run, so often, and those behind them. Answers how many
-/// were done.
-fn run_opened<R: Passing, L: LogDisk, P: PageDisk>(
-    rt: &R,
-    hall: &Hall<EngineLaw<L, P>>,
-    caller: &mut Caller<L, P>,
-    banks: u32,
-    alloc: Global,
-    name: &Name,
-    body: &[Call],
-    times: u32,
-    behind: &[Call],
-) -> u64
-    requires { MayRun hall.now banks caller.old }
-    ensures { GoesOn hall.now banks result caller.old caller.new }
-{
-    let head = [Call::Begin, Call::Write];
-    let begun = run_all(rt, hall, caller, banks, alloc, name, &head, 1);
-    let gone_on = run_all(rt, hall, caller, banks, alloc, name, body, times);
-    let ended = run_all(rt, hall, caller, banks, alloc, name, behind, 1);
-    begun.saturating_add(gone_on).saturating_add(ended)
-}
+const NESTED: [Stretch; 3] = [
+    Stretch {
+        calls: &[Call::Begin, Call::Write],
+        each_savepoint: false,
+    },
+    Stretch {
+        calls: &[Call::Save, Call::Write],
+        each_savepoint: true,
+    },
+    Stretch {
+        calls: &[Call::Commit],
+        each_savepoint: false,
+    },
+];
 
-/// A session's turn. Answers how many calls were done.
-pub fn take_turn<R: Passing, L: LogDisk, P: PageDisk>(
-    rt: &R,
-    hall: &Hall<EngineLaw<L, P>>,
-    caller: &mut Caller<L, P>,
-    banks: u32,
-    alloc: Global,
-    name: &Name,
-    work: Work,
-    turn: u32,
-) -> u64
-    requires { MayRun hall.now banks caller.old }
-    ensures { GoesOn hall.now banks result caller.old caller.new }
-{
+const OPEN: [Stretch; 2] = [
+    Stretch {
+        calls: &[Call::Begin, Call::Write],
+        each_savepoint: false,
+    },
+    Stretch {
+        calls: &[Call::Save, Call::Write, Call::Release],
+        each_savepoint: true,
+    },
+];
+
+const UNDONE: [Stretch; 1] = [Stretch {
+    calls: &[Call::Save, Call::Write, Call::Undo],
+    each_savepoint: false,
+}];
+
+const COMMIT: [Stretch; 1] = [Stretch {
+    calls: &[Call::Commit],
+    each_savepoint: false,
+}];
+
+const SNAPSHOT: [Stretch; 1] = [Stretch {
+    calls: &[Call::Snap, Call::DropSnap],
+    each_savepoint: false,
+}];
+
+const KEEP: [Stretch; 1] = [Stretch {
+    calls: &[Call::Snap],
+    each_savepoint: false,
+}];
+
+const LOOK: [Stretch; 1] = [Stretch {
+    calls: &[Call::See],
+    each_savepoint: false,
+}];
+
+/// The calls of a turn.
+pub fn steps_of(work: Work) -> &'static [Stretch] {
     match work {
-        Work::Transaction => {
-            let calls = [Call::Begin, Call::Write, Call::Commit];
-            run_all(rt, hall, caller, banks, alloc, name, &calls, 1)
-        }
-        Work::Nested { savepoints } => {
-            let body = [Call::Save, Call::Write];
-            let behind = [Call::Commit];
-            run_opened(
-                rt, hall, caller, banks, alloc, name, &body, savepoints, &behind,
-            )
-        }
-        Work::Open { savepoints } => {
-            let body = [Call::Save, Call::Write, Call::Release];
-            run_opened(rt, hall, caller, banks, alloc, name, &body, savepoints, &[])
-        }
-        Work::Undone => {
-            let calls = [Call::Save, Call::Write, Call::Undo];
-            run_all(rt, hall, caller, banks, alloc, name, &calls, 1)
-        }
-        Work::Commit => run_all(rt, hall, caller, banks, alloc, name, &[Call::Commit], 1),
-        Work::Snapshot => {
-            let calls = [Call::Snap, Call::DropSnap];
-            run_all(rt, hall, caller, banks, alloc, name, &calls, 1)
-        }
-        Work::Keep => run_all(rt, hall, caller, banks, alloc, name, &[Call::Snap], 1),
+        Work::Transaction => &TRANSACTION,
+        Work::Nested { .. } => &NESTED,
+        Work::Open { .. } => &OPEN,
+        Work::Undone => &UNDONE,
+        Work::Commit => &COMMIT,
+        Work::Snapshot => &SNAPSHOT,
+        Work::Keep => &KEEP,
+        Work::Look { .. } => &LOOK,
+    }
+}
+
+/// How many savepoints a turn has.
+pub fn savepoints_of(work: Work) -> u32 {
+    match work {
+        Work::Nested { savepoints } => savepoints,
+        Work::Open { savepoints } => savepoints,
+        _ => 0,
+    }
+}
+
+/// The id that is asked for in a turn.
+pub fn asked_in(work: Work, turn: u32) -> u32 {
+    match work {
         Work::Look { first, step, ids } => {
-            let call = Call::See(id_of(first, step, ids, turn));
-            run_all(rt, hall, caller, banks, alloc, name, &[call], 1)
+            let place = turn % ids.max(1);
+            first.wrapping_add(place.wrapping_mul(step))
         }
+        _ => 0,
     }
 }

@@ -1,5 +1,0 @@
-use Rattle.hall_bench.specs.Plain.{opening}
-use Rattle.hall_bench.proofs.turns.table.Given as goal
-
-abbrev pub ghost-by : goal.ghost-by
-ghost-by a = opening a._about.now.0 a._about.now.1

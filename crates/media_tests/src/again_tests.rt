@@ -1,5 +1,6 @@
 //! A media that is handed to a second run, which goes on behind the records of the first.
-use crate::run_help::{clear, run_in};
+use crate::folder_help::clear;
+use crate::runs::run_in;
 
 const FIRST: &str = ".banks 3
 a begin

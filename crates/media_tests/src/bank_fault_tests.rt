@@ -2,7 +2,7 @@
 use crate::rows::Fault::Behind;
 use crate::rows::Way::{Device, Has};
 use crate::rows::{NO_CRASH, Part, Row, check_rows};
-use crate::run_help::run_over;
+use crate::runs::run_over;
 use disk_core::Which::{Subtrans, Xact};
 use disk_fuse::Fails;
 use std::alloc::AllocGlobal;

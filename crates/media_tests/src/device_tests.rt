@@ -3,6 +3,7 @@
 use crate::rows::Fault::Behind;
 use crate::rows::Way::{Device, Report};
 use crate::rows::{NO_CRASH, Part, Row, check_rows};
+use crate::runs::{run_words, text_from};
 use disk_core::Which::{Log, Members, Offsets, Subtrans, Xact};
 use disk_fuse::Fails;
 use std::alloc::AllocGlobal;
@@ -347,9 +348,8 @@ fn check_generated(
     status: u8,
     text: &str,
 ) {
-    let words = ["gen", "1", "1"];
-    let run = tool_runs::run_over(rt, &words, "", Log, Fails::Behind(passes), 1);
-    let run = run.expect(rt, "memory");
+    let words = [text_from(rt, "gen"), text_from(rt, "1"), text_from(rt, "1")];
+    let run = run_words(rt, &words, "", Log, Fails::Behind(passes), 1);
     let is_well = run.status == status && run.written.as_str() == text;
     assert!(rt; is_well, "{passes}: {} {}", run.status, run.written);
 }

@@ -19,11 +19,13 @@ mod device_tests;
 #[cfg(test)]
 mod fail_once_tests;
 #[cfg(test)]
+mod folder_help;
+#[cfg(test)]
 mod log_tests;
 #[cfg(test)]
 mod rows;
 #[cfg(test)]
-mod run_help;
+mod runs;
 #[cfg(test)]
 mod stopped_tests;
 #[cfg(test)]

@@ -1,5 +1,5 @@
 //! Logs that a run finds on its media: those of an earlier life, damaged ones, and new ones.
-use crate::run_help::{clear, run_behind};
+use crate::folder_help::{clear, run_behind};
 
 /// Four batches of a record each: the checkpoint of a new log, the commit of 3, the multixact 1 of 3 and 4 at member offset
 /// 1, and a checkpoint of what these come to. The last byte is the closed gate behind them.

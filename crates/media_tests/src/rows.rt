@@ -1,12 +1,11 @@
 //! Rows of scripts, and what their runs write where calls of a volume fail.
-use crate::run_help::{is_lawful, run_over};
+use crate::runs::{Ran, is_lawful, run_over};
 use disk_core::Which;
 use disk_fuse::Fails;
 use std::alloc::AllocGlobal;
 use std::process::Abort;
 use std::sync::Wait;
 use std::thread::Threads;
-use tool_runs::Ran;
 
 /// Which calls a volume fails.
 #[derive(Drop)]

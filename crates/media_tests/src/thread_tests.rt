@@ -1,11 +1,10 @@
 //! Rounds of many commands, so that threads run: whatever order they take, each session's lines and events stand in its
 //! order, each once.
-use crate::run_help::run_over;
+use crate::runs::{Ran, run_over};
 use disk_core::Which;
 use disk_fuse::Fails;
 use std::alloc::AllocGlobal;
 use std::process::Abort;
-use tool_runs::Ran;
 
 const SESSIONS: usize = 64;
 

@@ -1,12 +1,11 @@
 //! Runs over a volume that fails any call, behind which a transaction has committed whole or not at all.
-use crate::run_help::{is_lawful, run_over};
+use crate::runs::{Ran, is_lawful, run_over};
 use disk_core::Which;
 use disk_fuse::Fails;
 use std::alloc::AllocGlobal;
 use std::process::Abort;
 use std::sync::Wait;
 use std::thread::Threads;
-use tool_runs::Ran;
 
 /// The reply to a command that was asked last, by the front of its line.
 fn last_reply<'a>(report: &'a str, front: &str) -> Option<&'a str> {

@@ -1,12 +1,12 @@
 //! Runs of generated scripts: their lines are those that another program of the same format printed, and no source is
 //! read for them, nor for words that are refused.
+use crate::runs::{Ran, run_past, source_of};
 use engine_parts::OpenGate;
 use script_rounds::RoundThreads;
 use std::alloc::AllocGlobal;
 use std::process::Abort;
 use std::sync::Wait;
 use std::thread::Threads;
-use tool_runs::{Ran, run_past, source_of};
 use tx_io::Source;
 
 /// Rows of words, with the status and the line that is written.
@@ -67,9 +67,9 @@ fn run_beside_a_source(
     rt: &(impl Abort + AllocGlobal + Threads + Wait + Sync),
     words: &[&str],
 ) -> Ran {
-    let mut source = source_of(rt.alloc(), "a begin\n", &[]).expect(rt, "memory");
+    let mut source = source_of(rt, "a begin\n", &[]);
     let threads = RoundThreads::AtMost(4);
-    let run = run_past(rt, words, &mut source, 200, threads, &OpenGate).expect(rt, "memory");
+    let run = run_past(rt, words, &mut source, 200, threads, &OpenGate);
     let left = source.read(&mut [0; 16]).ok();
     assert!(rt; left == Some(8), "the source was read");
     run

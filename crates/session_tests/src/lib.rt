@@ -28,6 +28,8 @@ mod round_tests;
 #[cfg(test)]
 mod run_tests;
 #[cfg(test)]
+mod runs;
+#[cfg(test)]
 mod status_tests;
 #[cfg(test)]
 mod stream_tests;

@@ -1,4 +1,5 @@
 //! The first worked runs, and how a run ends otherwise.
+use crate::runs::{run_past, source_of};
 use crate::test_help::Told::Report;
 use crate::test_help::{Row, check_rows};
 use engine_parts::OpenGate;
@@ -7,7 +8,6 @@ use std::alloc::AllocGlobal;
 use std::process::Abort;
 use std::sync::Wait;
 use std::thread::Threads;
-use tool_runs::{run_past, source_of};
 use tx_io::{Failed, Source};
 
 const ROWS: [Row; 5] = [
@@ -207,10 +207,9 @@ const ENDINGS: [Ending; 4] = [
 
 /// A run of the script ends as the row says.
 fn check_ending(rt: &(impl Abort + AllocGlobal + Threads + Wait + Sync), row: &Ending) {
-    let mut source = source_of(rt.alloc(), row.script, row.failing).expect(rt, "memory");
+    let mut source = source_of(rt, row.script, row.failing);
     let threads = RoundThreads::AtMost(4);
     let run = run_past(rt, &["run"], &mut source, row.room, threads, &OpenGate);
-    let run = run.expect(rt, "memory");
     let length = (row.text.len() as u64).min(row.room);
     let is_well = run.status == row.status
         && row.text.starts_with(run.written.as_str())
@@ -253,6 +252,5 @@ impl Source for Endless {
 fn script_past_the_limit_is_refused(rt: HostRuntime) {
     let threads = RoundThreads::AtMost(4);
     let run = run_past(&rt, &["run"], &mut Endless, 100, threads, &OpenGate);
-    let run = run.expect(&rt, "memory");
     assert!(rt; run.status == 1 && run.written.as_str() == "script 0 size\n");
 }

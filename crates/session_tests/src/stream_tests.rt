@@ -1,6 +1,6 @@
 //! Sources and sinks in memory fail at the planned calls alone.
+use crate::runs::source_of;
 use std::process::Abort;
-use tool_runs::source_of;
 use tx_io::{MemSink, Memory, Sink, Source, StdSink, StdSource};
 
 /// A read into two bytes answers so many, or that it failed, and behind it they are these.
@@ -23,7 +23,7 @@ fn check_write<K: Sink>(rt: &impl Abort, sink: &mut K, bytes: &[u8], wanted: Opt
 
 #[test]
 fn source_fails_at_the_planned_read_alone(rt: HostRuntime) {
-    let mut source = source_of(rt.alloc(), "abc", &[2]).expect(&rt, "memory");
+    let mut source = source_of(&rt, "abc", &[2]);
     let mut into = [0; 2];
     check_read(&rt, &mut source, &mut into, Some(2), b"ab");
     check_read(&rt, &mut source, &mut into, None, b"ab");

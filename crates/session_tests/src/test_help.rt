@@ -1,11 +1,11 @@
 //! What the tests share: runs of the tool on a script in memory, and rows that their reports are held against.
+use crate::runs::{is_lawful, run_past, source_of};
 use engine_parts::{Gate, OpenGate};
 use script_rounds::RoundThreads;
 use std::alloc::AllocGlobal;
 use std::process::Abort;
 use std::sync::Wait;
 use std::thread::Threads;
-use tool_runs::{is_lawful, run_past, source_of};
 
 /// The report that a run of the script writes, with status 0, its sessions on such threads and past this gate.
 pub fn report_past<G: Gate + Sync>(
@@ -14,8 +14,8 @@ pub fn report_past<G: Gate + Sync>(
     threads: RoundThreads,
     gate: &G,
 ) -> String {
-    let mut source = source_of(rt.alloc(), script, &[]).expect(rt, "memory");
-    let run = run_past(rt, &["run"], &mut source, 100_000, threads, gate).expect(rt, "memory");
+    let mut source = source_of(rt, script, &[]);
+    let run = run_past(rt, &["run"], &mut source, 100_000, threads, gate);
     assert!(rt; run.status == 0);
     run.written
 }
@@ -55,8 +55,7 @@ pub fn check_report(rt: &(impl Abort + AllocGlobal), row: &Row, report: &str) {
         Told::Either(one, other) => report == *one || report == *other,
         Told::Has(texts) => has_all(report, texts),
     };
-    let is_lawful = is_lawful(rt.alloc(), report).expect(rt, "memory");
-    let is_well = is_as_told && is_lawful;
+    let is_well = is_as_told && is_lawful(rt, report);
     assert!(rt; is_well, "{}: {report}", row.name);
 }
 

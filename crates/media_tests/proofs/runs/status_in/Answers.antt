@@ -2,7 +2,7 @@ use Rattle.std.proofs.Common.{refl, subst}
 use Rattle.disk_folder.specs.FolderViews.{given_by}
 use Rattle.session_run.specs.Unknown.{no_log}
 use Rattle.session_run.proofs.Handed.{silent_may_begin}
-use Rattle.tool_runs.proofs.runs.status_in.Goals as goal
+use Rattle.media_tests.proofs.runs.status_in.Goals as goal
 
 pub run_tool-requires-clause-may : goal.run_tool-requires-clause-may
 run_tool-requires-clause-may g c κs within = λ banks v mounted.

@@ -1,38 +1,10 @@
-//! Runs of the tool, and folders of logs.
-use disk_core::Which;
-use disk_fuse::Fails;
+//! Folders that a log is put into.
+use crate::runs::{Ran, run_in};
 use std::alloc::AllocGlobal;
 use std::process::Abort;
 use std::sync::Wait;
 use std::thread::Threads;
 use std::{fs, io};
-use tool_runs::Ran;
-
-/// Runs a script over a media of which this volume fails such calls, the sessions of a round on at most so many threads.
-pub fn run_over(
-    rt: &(impl Abort + AllocGlobal + Threads + Wait + Sync),
-    script: &str,
-    at: Which,
-    fails: Fails,
-    threads: usize,
-) -> Ran {
-    tool_runs::run_over(rt, &["run"], script, at, fails, threads).expect(rt, "memory")
-}
-
-/// Runs a script over a folder.
-pub fn run_in(
-    rt: &(impl Abort + AllocGlobal + Threads + Wait + Sync),
-    files: HostRuntime,
-    folder: &str,
-    script: &str,
-) -> Ran {
-    tool_runs::run_in(rt, files, folder, script).expect(rt, "memory")
-}
-
-/// Whether the checker calls the report lawful.
-pub fn is_lawful(rt: &(impl Abort + AllocGlobal), report: &str) -> bool {
-    tool_runs::is_lawful(rt.alloc(), report).expect(rt, "memory")
-}
 
 /// Takes away a folder that an earlier run of a test left.
 pub fn clear(rt: &impl Abort, files: &HostRuntime, path: &str) {

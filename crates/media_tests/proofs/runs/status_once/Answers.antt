@@ -5,8 +5,8 @@ use Rattle.disk_core.specs.MemMediaViews.{first_log, is_new}
 use Rattle.disk_fuse.specs.FuseMedia.{fuse_is_new}
 use Rattle.session_run.specs.Unknown.{no_log}
 use Rattle.session_run.proofs.Handed.{new_may_begin}
-use Rattle.tool_runs.proofs.FusedRuns.{none_within}
-use Rattle.tool_runs.proofs.runs.status_once.Goals as goal
+use Rattle.media_tests.proofs.FusedRuns.{none_within}
+use Rattle.media_tests.proofs.runs.status_once.Goals as goal
 
 pub run_tool-requires-clause-idle : goal.run_tool-requires-clause-idle
 run_tool-requires-clause-idle g c κs within = subst (λ (b : Bool). IsTrue (not b)) (sym c.new-media.ensures.idle) refl

@@ -1,6 +1,6 @@
 use Rattle.session_run.specs.Unknown.{no_log}
 use Rattle.session_run.proofs.Handed.{mem_may_begin}
-use Rattle.tool_runs.proofs.runs.status_past.Goals as goal
+use Rattle.session_tests.proofs.runs.status_past.Goals as goal
 
 pub run_tool-requires-clause-may : goal.run_tool-requires-clause-may
 run_tool-requires-clause-may g c κs within =

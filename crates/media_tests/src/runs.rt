@@ -1,0 +1,159 @@
+//! Runs of the tool on a script in memory, over a media of which calls fail or over a folder.
+use disk_core::{MemMedia, Which};
+use disk_folder::FolderMedia;
+use disk_fuse::{FailOnce, Fails, Fuse};
+use engine_parts::OpenGate;
+use report_check::check_tool;
+use script_rounds::RoundThreads;
+use session_run::run_tool;
+use std::alloc::AllocGlobal;
+use std::process::Abort;
+use std::sync::Wait;
+use std::thread::Threads;
+use tx_io::{MemSink, MemSource};
+
+/// The status of a run, and what it wrote.
+#[derive(Drop)]
+pub struct Ran {
+    pub status: u8,
+    pub written: String,
+}
+
+/// What a run has room for.
+const ROOM: u64 = 4_000_000;
+
+/// The tool over a new media in memory of which this volume passes so many calls, without its contract, so that a test proves
+/// no more than that it is safe.
+fn status_fused(
+    rt: &(impl AllocGlobal + Threads + Wait + Sync),
+    words: &[String],
+    source: &mut MemSource,
+    sink: &mut MemSink,
+    at: Which,
+    passes: u64,
+    threads: RoundThreads,
+) -> u8 {
+    let alloc = rt.alloc();
+    let inner = MemMedia::new(alloc);
+    let mut media = Fuse::new(alloc, inner, at, passes);
+    run_tool(
+        rt, alloc, words, source, sink, &mut media, threads, &OpenGate,
+    )
+}
+
+/// The same over one of which the volume fails the call of this number.
+fn status_once(
+    rt: &(impl AllocGlobal + Threads + Wait + Sync),
+    words: &[String],
+    source: &mut MemSource,
+    sink: &mut MemSink,
+    at: Which,
+    call: u64,
+    threads: RoundThreads,
+) -> u8 {
+    let alloc = rt.alloc();
+    let inner = MemMedia::new(alloc);
+    let mut media = FailOnce::new(alloc, inner, at, call);
+    run_tool(
+        rt, alloc, words, source, sink, &mut media, threads, &OpenGate,
+    )
+}
+
+/// The same over a folder.
+fn status_in(
+    rt: &(impl AllocGlobal + Threads + Wait + Sync),
+    files: HostRuntime,
+    folder: String,
+    words: &[String],
+    source: &mut MemSource,
+    sink: &mut MemSink,
+    threads: RoundThreads,
+) -> u8 {
+    let alloc = rt.alloc();
+    let mut media = FolderMedia::new(files, alloc, folder);
+    run_tool(
+        rt, alloc, words, source, sink, &mut media, threads, &OpenGate,
+    )
+}
+
+/// A source of these bytes.
+fn source_of(rt: &(impl Abort + AllocGlobal), script: &str) -> MemSource {
+    let bytes = Vec::from_slice(rt.alloc(), script.as_bytes()).expect(rt, "memory");
+    MemSource::new(bytes, Vec::new(rt.alloc()))
+}
+
+/// A sink with so much room.
+fn sink_of(rt: &(impl Abort + AllocGlobal), room: u64) -> MemSink {
+    let alloc = rt.alloc();
+    MemSink::new(alloc, room, Vec::new(alloc)).expect(rt, "memory")
+}
+
+/// What a sink holds, as text.
+fn text_of(rt: &(impl Abort + AllocGlobal), sink: &MemSink) -> String {
+    let held = Vec::from_slice(rt.alloc(), sink.held()).expect(rt, "memory");
+    String::from_utf8(held).ok().expect(rt, "text is written")
+}
+
+pub fn text_from(rt: &(impl Abort + AllocGlobal), text: &str) -> String {
+    String::from_str(rt.alloc(), text).expect(rt, "memory")
+}
+
+/// Runs the tool with these words over a media of which this volume fails such calls, the sessions of a round on at most so
+/// many threads.
+pub fn run_words(
+    rt: &(impl Abort + AllocGlobal + Threads + Wait + Sync),
+    words: &[String],
+    script: &str,
+    at: Which,
+    fails: Fails,
+    threads: usize,
+) -> Ran {
+    let mut source = source_of(rt, script);
+    let mut sink = sink_of(rt, ROOM);
+    let threads = RoundThreads::AtMost(threads);
+    let status = match fails {
+        Fails::At(call) => status_once(rt, words, &mut source, &mut sink, at, call, threads),
+        Fails::Behind(passes) => {
+            status_fused(rt, words, &mut source, &mut sink, at, passes, threads)
+        }
+        Fails::Never => status_fused(rt, words, &mut source, &mut sink, at, u64::MAX, threads),
+    };
+    let written = text_of(rt, &sink);
+    Ran { status, written }
+}
+
+/// Runs a script so.
+pub fn run_over(
+    rt: &(impl Abort + AllocGlobal + Threads + Wait + Sync),
+    script: &str,
+    at: Which,
+    fails: Fails,
+    threads: usize,
+) -> Ran {
+    run_words(rt, &[text_from(rt, "run")], script, at, fails, threads)
+}
+
+/// Runs a script over a folder.
+pub fn run_in(
+    rt: &(impl Abort + AllocGlobal + Threads + Wait + Sync),
+    files: HostRuntime,
+    folder: &str,
+    script: &str,
+) -> Ran {
+    let words = [text_from(rt, "run")];
+    let mut source = source_of(rt, script);
+    let mut sink = sink_of(rt, ROOM);
+    let threads = RoundThreads::AtMost(2);
+    let folder = text_from(rt, folder);
+    let status = status_in(rt, files, folder, &words, &mut source, &mut sink, threads);
+    let written = text_of(rt, &sink);
+    Ran { status, written }
+}
+
+/// Whether the checker calls the report lawful.
+pub fn is_lawful(rt: &(impl Abort + AllocGlobal), report: &str) -> bool {
+    let mut source = source_of(rt, report);
+    let mut sink = sink_of(rt, 100);
+    let status = check_tool(rt.alloc(), &mut source, &mut sink);
+    status == 0 && sink.held() == b"lawful\n".as_slice()
+}

@@ -150,12 +150,10 @@ fn ask(rt: &(impl Abort + AllocGlobal), open: &mut Started<TestDisk>, call: Call
     match call {
         Call::Append(record) => {
             let rec = rec_of(rt, record);
-            if !log.may_append(&rec) {
-                return Answer::MayNot;
-            }
-            match log.append(&rec) {
-                Ok(number) => Answer::Given(number),
-                Err(refusal) => Answer::Refused(refusal),
+            if log.may_append(&rec) {
+                given(log.append(&rec))
+            } else {
+                Answer::MayNot
             }
         }
         Call::MayAppend(record) => Answer::Is(log.may_append(&rec_of(rt, record))),
@@ -179,11 +177,18 @@ fn ask(rt: &(impl Abort + AllocGlobal), open: &mut Started<TestDisk>, call: Call
         Call::IsLog => {
             let mut bytes = [7; 100];
             match log.dump(0, &mut bytes) {
-                Ok(count) => Answer::Is(&bytes[..count] == LOG.as_slice()),
+                Ok(count) => Answer::Is(bytes.get(..count) == Some(LOG.as_slice())),
                 Err(refusal) => Answer::Refused(refusal),
             }
         }
         _ => Answer::MayNot,
+    }
+}
+
+fn given(came: Result<u64, LogRefusal>) -> Answer {
+    match came {
+        Ok(number) => Answer::Given(number),
+        Err(refusal) => Answer::Refused(refusal),
     }
 }
 

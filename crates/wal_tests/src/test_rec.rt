@@ -35,12 +35,9 @@ fn ids_of(rt: &(impl Abort + AllocGlobal), numbers: &[u64]) -> IdList {
 fn members_of(rt: &(impl Abort + AllocGlobal), groups: &[(Mode, u64, usize)]) -> MemberList {
     let mut list = MemberList::new(rt.alloc());
     for (mode, number, count) in groups {
-        let member = Member {
-            id: id_of(rt, *number),
-            mode: *mode,
-        };
+        let id = id_of(rt, *number);
         for _ in 0..*count {
-            assert!(rt; list.push(member).is_ok());
+            assert!(rt; list.push(Member { id, mode: *mode }).is_ok());
         }
     }
     list

@@ -7,7 +7,7 @@ use Rattle.disk_core.specs.Pages.{Pages, zero_page}
 use Rattle.tx_events.specs.Pages.{id_at}
 use Rattle.slru_bank.proofs.ZeroBytes.{zero_byte}
 use Rattle.slru_bank.specs.Crash.{IsMixture, IsMixtureOrGone, byte_at}
-use Rattle.multi_members.specs.Changes.{TrimsMembers}
+use Rattle.bank_stores.specs.Changes.{TrimsMembers}
 use Rattle.recoverable.specs.Bytes.{HasZeroTails, ImageHasZeroTails}
 use Rattle.bank_follows.specs.Tails.{KeepsTails, MapKeepsTails}
 use Rattle.bank_follows.proofs.Moments.{at_first, then_call}

@@ -4,7 +4,7 @@ use Rattle.tx_events.specs.Ids.{low_half}
 use Rattle.store_pages.specs.Layouts.{member_page_of}
 use Rattle.tx_events.specs.Pages.{member_place}
 use Rattle.slru_bank.specs.Changes.{SetsStates, ShareAPage}
-use Rattle.multi_members.specs.Changes.{SetsMember}
+use Rattle.bank_stores.specs.Changes.{SetsMember}
 use Rattle.tx_events.specs.Modes.{mode_number}
 use Rattle.tx_events.specs.declared.event.By.{By}
 use Rattle.tx_events.specs.declared.multi.Member.{Member}

@@ -5,7 +5,7 @@ use Rattle.tx_events.specs.Pages.{members_per_page}
 use Rattle.slru_bank.specs.Bank.{PutsPage}
 use Rattle.slru_bank.specs.Crash.{CrashLeaves, IsMixture, IsMixtureOrGone, SameMap}
 use Rattle.slru_bank.specs.Removal.{MayDrop}
-use Rattle.multi_members.specs.Changes.{SetsMember, TrimsMembers}
+use Rattle.bank_stores.specs.Changes.{SetsMember, TrimsMembers}
 use Rattle.recoverable.specs.Bytes.{HasZeroTails, ImageHasZeroTails}
 use Rattle.bank_follows.specs.Moments.{Throughout}
 

@@ -11,3 +11,7 @@ pub mod Unlinking
 pub mod Visiting
 pub mod Faulting
 pub mod Nearing
+pub mod Reaching
+pub mod StatesCut
+pub mod ParentsCut
+pub mod Cutting

@@ -33,7 +33,7 @@ use Rattle.tx_core.proofs.Asking.{sub_of, upheld_has}
 use Rattle.tx_core.proofs.PageShowing.{parents_show}
 use Rattle.tx_core.proofs.Reading.{last_has}
 use Rattle.tx_events.specs.declared.order.Xid.{Xid}
-use Rattle.subtrans_log.specs.Parents.{parent_of}
+use Rattle.bank_stores.specs.Parents.{parent_of}
 use Rattle.bank_sections.specs.Reads.{IsParentNear, IsParentOf, IsParentRead}
 use Rattle.bank_sections.proofs.Given.{filter_map_has, given_full}
 use Rattle.engine_parts.specs.Parts.{IsSubtransOf}

@@ -4,3 +4,4 @@ pub mod Reads
 pub mod Sets
 pub mod Faults
 pub mod Parents
+pub mod Cuts

@@ -18,6 +18,7 @@ ghost use Rattle.bank_sections.specs.Sections.{BankSection, IsSubtransCut};
 
 use crate::entries::zeroed_note;
 use crate::refused::leave_refused;
+use bank_stores::{parent as stored_parent, set_parent};
 use disk_core::{LogDisk, PageDisk};
 use engine_parts::{
     Caller, EngineLaw, Part, Passing, command_of, enter_subtrans, fault_note, leave_looked,
@@ -26,7 +27,6 @@ use engine_parts::{
 use hall::{Hall, Note};
 use slru_bank::BankRefusal;
 use store_pages::subtrans_page;
-use subtrans_log::{parent as stored_parent, set_parent};
 use tx_core::Entry;
 use tx_events::{By, FullXid, Xid, near, subtrans_page_in_full};
 

@@ -1,14 +1,15 @@
 //! The calls of the four stores.
 use crate::lines::{next_named, next_number, told};
+use bank_stores::{
+    climb_ends, offset, parent, read_member, set_offset, set_parent, trim_members, trim_offsets,
+    write_member,
+};
 use disk_core::MemPages;
-use multi_members::{read_member, trim_members, write_member};
-use multi_offsets::{offset, set_offset, trim_offsets};
 use slru_bank::{SlruBank, State, plan_step, set_states, state, trim_after};
 use std::alloc::Global;
 use std::str::SplitWhitespace;
 use std::test::Fail;
 use store_pages::{MemberPages, OffsetPages, SubtransPages, XactPages};
-use subtrans_log::{climb_ends, parent, set_parent};
 use tx_events::{FullMulti, FullXid, Mode, MultiId, Xid};
 
 #[derive(Clone, Copy)]

@@ -2,8 +2,7 @@
 use crate::events::MultiAct::{self, Gen, Hold, Unhold};
 use crate::events::multi;
 use crate::multi_lives::places_of;
-use held_rules::{LimitAt, held_limits};
-use multi_gens::gen_place;
+use multi_rules::{LimitAt, gen_place, held_limits};
 use std::process::Abort;
 use tx_events::Mode::Sh;
 

@@ -3,7 +3,7 @@ use crate::events::Act::{Commit, Id, Sub, Undo};
 use crate::events::{id, multi};
 use crate::lives::{Places, places_of};
 use dump_rules::cuts_of;
-use life_marks::{IdMark, id_marks, was_running};
+use history_places::{IdMark, id_marks, was_running};
 use std::collections::BTreeSet;
 use std::process::Abort;
 use tx_events::Rec;

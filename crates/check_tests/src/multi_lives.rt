@@ -1,7 +1,7 @@
 // Lives with multixacts, by the events of a test.
 use crate::events::{MultiAct, NEW_LOG, Start, counters, multi_event_of};
-use multi_check::{add_multi, first_illegal_multi};
-use multi_places::MultiPlaces;
+use history_check::{add_multi, first_illegal_multi};
+use history_places::MultiPlaces;
 use multi_store::MultiGen;
 use std::process::Abort;
 use tx_events::is_base;

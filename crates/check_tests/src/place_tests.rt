@@ -1,8 +1,7 @@
 // What the places of a history tell.
 use crate::events::{Act, MultiAct, id};
 use crate::{lives, multi_lives};
-use own_places::{Own, own_places};
-use place_columns::column_of;
+use place_columns::{Own, column_of, own_places};
 use tx_events::{By, Mode};
 
 #[test]

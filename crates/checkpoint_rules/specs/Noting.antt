@@ -11,7 +11,7 @@ use Rattle.report_law.specs.Steps.{Judged}
 use Rattle.checkpoint_rules.specs.Behind.{AreCheckpoints, AreMultiCounters, Walked}
 use Rattle.checkpoint_rules.specs.declared.counted.Checkpoints.{Checkpoints}
 use Rattle.tx_events.specs.declared.record.Counters.{Counters}
-use Rattle.legal_fronts.specs.Fronts.{IsFront}
+use Rattle.event_rules.specs.Fronts.{IsFront}
 use Rattle.checkpoint_rules.specs.declared.checkpoints.Point.{Point}
 
 -- a life with its steps so far, and the first of its multixact events, which are legal

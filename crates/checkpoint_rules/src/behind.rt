@@ -4,8 +4,7 @@ ghost use Rattle.tx_events.specs.declared.multi.MultiEvent.{MultiEvent};
 ghost use Rattle.report_law.specs.Checkpoints.{counters_after};
 ghost use Rattle.checkpoint_rules.specs.Behind.{AreMultiCounters, IsSmall, counters_with};
 
-use history_places::HistoryPlaces;
-use multi_places::MultiPlaces;
+use history_places::{HistoryPlaces, MultiPlaces};
 use std::alloc::Global;
 use tx_events::{Counters, Memory, MultiEvent};
 

@@ -13,8 +13,8 @@ use Rattle.tx_events.proofs.Membership.{contains_has, has_map, has_place}
 use Rattle.store_pages.specs.Layouts.{word_place_of}
 use Rattle.tx_events.specs.Pages.{member_page, offset_page}
 use Rattle.report_law.specs.Dumps.{HasWord}
-use Rattle.life_marks.specs.declared.mark.IdMark.{IdMark}
-use Rattle.life_marks.specs.IdMarks.{AreMarks, IsMissing, mark_ids}
+use Rattle.history_places.specs.declared.mark.IdMark.{IdMark}
+use Rattle.history_places.specs.IdMarks.{AreMarks, IsMissing, mark_ids}
 use Rattle.dump_rules.specs.declared.gens.GenMark.{GenMark}
 use Rattle.dump_rules.specs.Gens.{AreGens, IsGenMark, mark_of}
 use Rattle.dump_rules.specs.Gens as gens

@@ -7,7 +7,7 @@ ghost use Rattle.tx_events.specs.Multis.{multi_by};
 ghost use Rattle.dump_rules.specs.declared.gens.GenMark.{GenMark};
 ghost use Rattle.dump_rules.specs.Gens.{AreGens, Gave, IsMissing, IsPlaceOf, Rise, marked};
 
-use multi_places::MultiPlaces;
+use history_places::MultiPlaces;
 use std::alloc::Global;
 use tx_events::{Memory, MultiEvent};
 

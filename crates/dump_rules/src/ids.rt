@@ -6,13 +6,12 @@ ghost use Rattle.tx_events.specs.History.{IsLegal};
 ghost use Rattle.tx_events.specs.Ids.{IsFullId, low_half};
 ghost use Rattle.store_pages.specs.Layouts.{word_place_of};
 ghost use Rattle.tx_events.specs.Pages.{subtrans_page, xact_page};
-ghost use Rattle.life_marks.specs.IdMarks.{AreMarks, IsMissing, IsPlaceOf, mark_ids};
+ghost use Rattle.history_places.specs.IdMarks.{AreMarks, IsMissing, IsPlaceOf, mark_ids};
 ghost use Rattle.report_law.specs.Dumps.{HasBits, HasWord, parent_or_none, state_number};
 ghost use Rattle.dump_rules.specs.Shown.{ShowsParent, ShowsState};
 
 use crate::bytes::{has_bits, has_word};
-use history_places::HistoryPlaces;
-use life_marks::{IdMark, was_running};
+use history_places::{HistoryPlaces, IdMark, was_running};
 use store_pages::{subtrans_page, subtrans_place, xact_page};
 use tx_events::FullXid;
 

@@ -2,7 +2,7 @@
 ghost use Rattle.std.specs.Prelude.{◌≡◌, ◌↔◌, ◌+◌, ◌*◌, ◌<◌, ◌≤◌, ◌^◌, ◌/◌, ℕ, IsTrue, Contains, length, min, take};
 ghost use Rattle.std.specs.List.{AllByRecursion};
 ghost use Rattle.tx_events.specs.Events.{given};
-ghost use Rattle.life_marks.specs.IdMarks.{AreMarks};
+ghost use Rattle.history_places.specs.IdMarks.{AreMarks};
 ghost use Rattle.place_columns.specs.declared.span.Span.{Span};
 ghost use Rattle.dump_rules.specs.declared.gens.GenMark.{GenMark};
 ghost use Rattle.dump_rules.specs.Gens.{AreGens, Rise};
@@ -11,9 +11,7 @@ ghost use Rattle.dump_rules.specs.Shown.{AreEpochs, Behind, ShowsLow, ShowsNumbe
 use crate::gens::GenMark;
 use crate::ids::{legal, shows_parent, shows_state};
 use crate::multis::{shows_member, shows_offset};
-use history_places::HistoryPlaces;
-use life_marks::IdMark;
-use multi_places::MultiPlaces;
+use history_places::{HistoryPlaces, IdMark, MultiPlaces};
 use place_columns::Span;
 use tx_model::DumpOf;
 

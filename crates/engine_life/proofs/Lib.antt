@@ -9,3 +9,6 @@ mod SetsInRoom
 mod MembersTails
 mod MultisFollowed
 mod Finding
+pub mod Sections
+pub mod Through
+pub mod MultisThrough

@@ -3,3 +3,5 @@ pub mod Lives
 pub mod Reopening
 pub mod NextLives
 pub mod FirstLives
+pub mod Sections
+pub mod Courses

@@ -5,6 +5,9 @@
 mod begun;
 mod closed;
 mod ending;
+/// What a crash leaves of all volumes fits the log while a critical section runs, too. The functions do nothing; their
+/// contracts are the laws.
+pub mod fits;
 pub mod laws;
 mod life;
 mod old_life;

@@ -15,7 +15,7 @@ use Rattle.tx_events.specs.Modes.{mode_number, mode_of}
 use Rattle.tx_events.proofs.ListSteps.{eqb-refl}
 use Rattle.tx_events.proofs.ModeNumbers.{mode_again}
 use Rattle.tx_events.proofs.Names.{same_name_equal, same_name_refl}
-use Rattle.own_events.proofs.Numbering.{same_is, same_self}
+use Rattle.place_columns.proofs.Numbering.{same_is, same_self}
 use Rattle.event_rules.specs.Same.{same_event, same_member, same_members, same_multi}
 
 both : (a b : Bool) → a ≡ true → b ≡ true → (a && b) ≡ true

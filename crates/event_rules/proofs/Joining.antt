@@ -9,7 +9,7 @@ use Rattle.tx_events.specs.declared.event.Event.{Event}
 use Rattle.tx_events.specs.declared.multi.MultiEvent.{MultiEvent}
 use Rattle.tx_events.specs.Events.{by_of, events_of}
 use Rattle.tx_events.specs.Multis.{multi_by}
-use Rattle.own_events.specs.Lined.{Numbered, lines_from}
+use Rattle.place_columns.specs.Lined.{Numbered, lines_from}
 use Rattle.report_law.specs.Events.{IsCommitLogged, StandsAt, lines_before}
 use Rattle.report_law.specs.Places.{IsNotLate}
 use Rattle.report_law.specs.Steps.{HasFirst, Judged, lines_of}

@@ -8,10 +8,10 @@ use Rattle.std.proofs.lemmas.List.Sums.{sum_by-cons}
 use Rattle.tx_events.specs.declared.event.By.{By}
 use Rattle.tx_events.specs.Events.{same_by}
 use Rattle.tx_model.specs.declared.report.Line.{Line}
-use Rattle.own_events.specs.declared.lines.LineAt.{LineAt}
-use Rattle.own_events.specs.Lined.{Numbered, bys_of, line_by, lines_from, most_of, number_of, numbered}
-use Rattle.own_events.proofs.Counting.{all_upto, count_none, most_upto}
-use Rattle.own_events.proofs.LineSteps.{bys_are}
+use Rattle.place_columns.specs.declared.lines.LineAt.{LineAt}
+use Rattle.place_columns.specs.Lined.{Numbered, bys_of, line_by, lines_from, most_of, number_of, numbered}
+use Rattle.place_columns.proofs.CountingLines.{all_upto, count_none, most_upto}
+use Rattle.place_columns.proofs.LineSteps.{bys_are}
 use Rattle.report_law.specs.Steps.{Judged, lines_of}
 use Rattle.event_rules.specs.Lined.{AreBelow}
 

@@ -5,3 +5,5 @@ pub mod Named
 pub mod Standing
 pub mod Stepping
 pub mod Telling
+pub mod Fronting
+pub mod MultiFronting

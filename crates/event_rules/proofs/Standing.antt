@@ -9,10 +9,10 @@ use Rattle.tx_events.specs.Events.{same_by}
 use Rattle.tx_model.specs.declared.report.Line.{Line}
 use Rattle.tx_model.specs.declared.report.Step.{Step}
 use Rattle.tx_model.specs.Rounds.{lines_in}
-use Rattle.own_events.specs.declared.lines.LineAt.{LineAt}
-use Rattle.own_events.specs.Lined.{AreInOrder, bys_of, line_by, lines_from, number_of}
-use Rattle.own_events.proofs.LineSteps.{bys_are}
-use Rattle.own_events.proofs.Numbering.{by_at_number, number_is, same_self}
+use Rattle.place_columns.specs.declared.lines.LineAt.{LineAt}
+use Rattle.place_columns.specs.Lined.{AreInOrder, bys_of, line_by, lines_from, number_of}
+use Rattle.place_columns.proofs.LineSteps.{bys_are}
+use Rattle.place_columns.proofs.Numbering.{by_at_number, number_is, same_self}
 use Rattle.report_law.specs.Events.{StandsAt}
 use Rattle.report_law.specs.Steps.{Judged, lines_of}
 use Rattle.event_rules.specs.Lined.{AreLinesInOrder, number_at}

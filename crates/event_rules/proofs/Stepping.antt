@@ -8,9 +8,9 @@ use Rattle.tx_events.specs.Events.{same_by}
 use Rattle.tx_model.specs.declared.report.Line.{Line}
 use Rattle.tx_model.specs.declared.report.Step.{Step}
 use Rattle.tx_model.specs.Rounds.{lines_in}
-use Rattle.own_events.specs.declared.lines.LineAt.{LineAt}
-use Rattle.own_events.specs.Lined.{Numbered, line_at, lines_from, most_of, number_of, numbered, step_at}
-use Rattle.own_events.proofs.Counting.{all_upto, most_upto}
+use Rattle.place_columns.specs.declared.lines.LineAt.{LineAt}
+use Rattle.place_columns.specs.Lined.{Numbered, line_at, lines_from, most_of, number_of, numbered, step_at}
+use Rattle.place_columns.proofs.CountingLines.{all_upto, most_upto}
 use Rattle.report_law.specs.Places.{IsNotLate, is_by, step_of}
 
 -- the step of the first line of the command

@@ -8,9 +8,9 @@ use Rattle.std.proofs.lemmas.Option.{none-some, same_Some, slice_get_within}
 use Rattle.std.proofs.lemmas.List.Sums.{length-filter, sum_by-cons}
 use Rattle.tx_events.specs.declared.event.By.{By}
 use Rattle.tx_events.specs.Events.{same_by}
-use Rattle.own_events.specs.declared.lines.LineAt.{LineAt}
-use Rattle.own_events.specs.Lined.{AreInOrder, bys_of, number_of}
-use Rattle.own_events.proofs.Numbering.{number_is as number_of_is, number_tells}
+use Rattle.place_columns.specs.declared.lines.LineAt.{LineAt}
+use Rattle.place_columns.specs.Lined.{AreInOrder, bys_of, number_of}
+use Rattle.place_columns.proofs.Numbering.{number_is as number_of_is, number_tells}
 use Rattle.event_rules.specs.Told.{IsLongest, IsTold, IsToldIn}
 
 -- ---- in its turn

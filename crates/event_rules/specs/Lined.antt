@@ -8,7 +8,7 @@ use Rattle.tx_events.specs.Events.{by_of}
 use Rattle.tx_events.specs.Multis.{multi_by}
 use Rattle.tx_model.specs.declared.report.Line.{Line}
 use Rattle.tx_model.specs.Lines.{has_line}
-use Rattle.own_events.specs.Lined.{AreInOrder, Numbered, line_by, lines_from, numbered}
+use Rattle.place_columns.specs.Lined.{AreInOrder, Numbered, line_by, lines_from, numbered}
 use Rattle.report_law.specs.Events.{StandsAt, rounds_before}
 use Rattle.report_law.specs.Places.{has_multi_line}
 use Rattle.report_law.specs.Steps.{Judged, lines_of}

@@ -5,7 +5,7 @@ use Rattle.tx_events.specs.declared.snapshot.SnapData.{SnapData}
 use Rattle.tx_model.specs.declared.reply.Reply.{Reply}
 use Rattle.tx_model.specs.declared.reply.Reply.TheVariants as replies
 use Rattle.tx_model.specs.declared.report.Line.{Line}
-use Rattle.own_events.specs.Lined.{lines_from, number_of}
+use Rattle.place_columns.specs.Lined.{lines_from, number_of}
 use Rattle.report_law.specs.Steps.{Judged, lines_of}
 
 -- what the reply to a command tells of a snapshot

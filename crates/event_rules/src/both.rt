@@ -1,14 +1,14 @@
 //! What the rules of both histories ask alike.
 ghost use Rattle.std.specs.Prelude.{◌≡◌, ◌<◌, ◌↔◌, List, IsTrue, Some, length, map, take, slice_get};
 ghost use Rattle.tx_model.specs.declared.report.Step.{Step};
-ghost use Rattle.own_events.specs.Lined.{lines_from, numbered};
+ghost use Rattle.place_columns.specs.Lined.{lines_from, numbered};
 ghost use Rattle.report_law.specs.Events.{StandsAt};
 ghost use Rattle.report_law.specs.Places.{IsNotLate};
 ghost use Rattle.report_law.specs.Steps.{Judged};
 ghost use Rattle.event_rules.specs.Told.{IsToldIn};
 
 use crate::same::Same;
-use own_events::{LineTable, OwnEvents, Owned};
+use place_columns::{LineTable, OwnEvents, Owned};
 use tx_events::By;
 
 /// Whether the command has a line.

@@ -4,14 +4,14 @@ ghost use Rattle.std.specs.BTreeSet.{contains};
 ghost use Rattle.std.specs.List.{list_any};
 ghost use Rattle.std.specs.Ordering.{nat_cmp};
 ghost use Rattle.life_law.specs.Pending.{is_commit_of};
-ghost use Rattle.own_events.specs.Lined.{lines_from};
+ghost use Rattle.place_columns.specs.Lined.{lines_from};
 ghost use Rattle.report_law.specs.Events.{IsCommitLogged};
 ghost use Rattle.report_law.specs.Steps.{Judged, lines_of};
 ghost use Rattle.event_rules.specs.Lined.{AreLinesInOrder, events_in};
 ghost use Rattle.event_rules.specs.Told.{AreToldEvents, IsItsEvent};
 
 use crate::both::{is_in_time, is_told_in, stands};
-use own_events::{LineTable, OwnEvents, Owned};
+use place_columns::{LineTable, OwnEvents, Owned};
 use std::collections::BTreeSet;
 use tx_events::Event;
 

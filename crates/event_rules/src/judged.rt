@@ -6,7 +6,7 @@ ghost use Rattle.report_law.specs.Places.{has_multi_line};
 ghost use Rattle.report_law.specs.Steps.{Judged, lines_of};
 ghost use Rattle.event_rules.specs.Lined.{AreBelow, AreMultisTheirs, AreTheirs, events_in, multis_in};
 
-use own_events::OwnEvents;
+use place_columns::OwnEvents;
 
 /// How many events are of the life's first lines, so many: where the round behind them begins in the history.
 pub fn count_of_events(own: &OwnEvents, lines: u64) -> u64

@@ -2,14 +2,14 @@
 ghost use Rattle.std.specs.Prelude.{◌≡◌, ◌<◌, ◌↔◌, IsTrue, Some, length, slice_get};
 ghost use Rattle.tx_events.specs.declared.multi.MultiEvent.{MultiEvent};
 ghost use Rattle.tx_events.specs.Multis.{multi_by};
-ghost use Rattle.own_events.specs.Lined.{lines_from};
+ghost use Rattle.place_columns.specs.Lined.{lines_from};
 ghost use Rattle.report_law.specs.Events.{StandsAt};
 ghost use Rattle.report_law.specs.Steps.{Judged};
 ghost use Rattle.event_rules.specs.Lined.{multis_in};
 ghost use Rattle.event_rules.specs.Told.{IsItsMulti, IsToldMulti};
 
 use crate::both::{is_in_time, stands};
-use own_events::{LineTable, OwnEvents, Owned};
+use place_columns::{LineTable, OwnEvents, Owned};
 use tx_events::MultiEvent;
 
 /// Whether the multixact event at this place is of a command of the life, of no earlier step than one before it, and the one

@@ -3,7 +3,7 @@ ghost use Rattle.std.specs.Prelude.{◌≡◌, ◌↔◌, ◌==◌, IsTrue, List
 ghost use Rattle.tx_events.specs.Events.{same_by, same_name};
 ghost use Rattle.event_rules.specs.Same.{same_event, same_member, same_members, same_multi};
 
-use own_events::Owned;
+use place_columns::Owned;
 use tx_events::{By, Event, Member, MultiEvent, Name};
 
 /// An event that can be compared with another one.

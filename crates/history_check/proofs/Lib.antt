@@ -10,3 +10,5 @@ pub mod OldestBounds
 pub mod Seeing
 pub mod AddLemmas
 pub mod ReplaySteps
+pub mod Nearby
+pub mod MultiSteps

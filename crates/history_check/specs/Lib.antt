@@ -1,3 +1,4 @@
 pub mod GivenIds
 pub mod Opened
 pub mod Replays
+pub mod MultiReplays

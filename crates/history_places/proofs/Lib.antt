@@ -1,2 +1,14 @@
 pub mod Rising
 pub mod PlaceSteps
+pub mod SameData
+pub mod Noting
+pub mod Noted
+pub mod NotedSteps
+pub mod Families
+pub mod Closings
+pub mod BaseIds
+pub mod Stays
+pub mod StartFound
+pub mod Beginning
+pub mod MultiRising
+pub mod Along

@@ -1,1 +1,5 @@
 pub mod Told
+pub mod IdMarks
+pub mod SnapMarks
+pub mod Starts
+pub mod MultiTold

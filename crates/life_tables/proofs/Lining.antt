@@ -13,12 +13,12 @@ use Rattle.tx_events.specs.Multis.{multi_by}
 use Rattle.tx_model.specs.declared.report.Line.{Line}
 use Rattle.life_tables.specs.Numbered.{IsFew}
 use Rattle.life_tables.specs.Numbered as numbered
-use Rattle.legal_fronts.specs.Fronts.{AreTold, list_at}
-use Rattle.own_events.specs.declared.lines.LineAt.{LineAt}
-use Rattle.own_events.specs.Lined.{AreInOrder, bys_of, line_by, lines_from, number_of}
-use Rattle.own_events.proofs.LineSteps.{bys_are}
-use Rattle.own_events.proofs.Numbering.{by_at_number, number_is, same_is, same_self}
-use Rattle.multi_gens.proofs.GenPlaces.{bound_at}
+use Rattle.event_rules.specs.Fronts.{AreTold, list_at}
+use Rattle.place_columns.specs.declared.lines.LineAt.{LineAt}
+use Rattle.place_columns.specs.Lined.{AreInOrder, bys_of, line_by, lines_from, number_of}
+use Rattle.place_columns.proofs.LineSteps.{bys_are}
+use Rattle.place_columns.proofs.Numbering.{by_at_number, number_is, same_is, same_self}
+use Rattle.multi_rules.proofs.GenPlaces.{bound_at}
 use Rattle.report_law.specs.Steps.{Judged, gave_multi, lines_of}
 use Rattle.event_rules.specs.SnapsTold.{told_by, told_lists}
 use Rattle.life_tables.specs.Lives.{is_multi_reply}

@@ -4,8 +4,8 @@ use Rattle.std.specs.Global.{Vec}
 use Rattle.std.specs.List.{All, slice_get}
 use Rattle.tx_events.proofs.ListSteps.{eqb-refl}
 use Rattle.tx_events.specs.declared.event.By.{By}
-use Rattle.own_places.specs.declared.own.Own.{Own}
-use Rattle.own_places.specs.Owned.{AreAllOwn, AreInTurn, own_from}
+use Rattle.place_columns.specs.declared.own.Own.{Own}
+use Rattle.place_columns.specs.Owned.{AreAllOwn, AreInTurn, own_from}
 use Rattle.life_tables.specs.Lives.{RisesFrom}
 
 lower : (m n : ℕ) (own : List Own) → m ≤ n → RisesFrom n own → RisesFrom m own

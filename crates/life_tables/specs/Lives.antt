@@ -3,7 +3,7 @@ use Rattle.std.specs.Prelude.{ℕ, ◌≤◌, Bool, true, false, List, [], ◌�
 use Rattle.tx_model.specs.declared.reply.Reply.{Reply}
 use Rattle.tx_model.specs.declared.reply.Reply.TheVariants as replies
 use Rattle.tx_model.specs.declared.report.LifeReport.{LifeReport}
-use Rattle.own_places.specs.declared.own.Own.{Own}
+use Rattle.place_columns.specs.declared.own.Own.{Own}
 use Rattle.report_law.specs.Begun.{Begun}
 use Rattle.report_law.specs.Steps.{Judged}
 

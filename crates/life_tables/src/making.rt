@@ -13,16 +13,16 @@ ghost use Rattle.tx_events.specs.Multis.{multi_by};
 ghost use Rattle.tx_model.specs.declared.report.Line.{Line};
 ghost use Rattle.life_tables.specs.Numbered.{IsNumbered};
 ghost use Rattle.life_law.specs.DidCommit.{IsRecorded};
-ghost use Rattle.life_marks.specs.SnapMarks.{AreSnapMarks};
-ghost use Rattle.given_counts.specs.Counted.{AreCounts};
-ghost use Rattle.legal_fronts.specs.Fronts.{IsFront, IsMultiFront};
-ghost use Rattle.multi_gens.specs.Gens.{is_ok_gen};
-ghost use Rattle.multi_places.specs.Starts.{FitsBase};
-ghost use Rattle.multi_verdicts.specs.Snapped.{AreTakenByLines, LifeEvents};
-ghost use Rattle.open_counts.specs.Opens.{AreOpenCounts};
-ghost use Rattle.own_events.specs.Lined.{AreInOrder, bys_of, lines_from, numbered};
-ghost use Rattle.own_places.specs.declared.own.Own.{Own};
-ghost use Rattle.own_places.specs.Owned.{AreAllOwn, AreInTurn};
+ghost use Rattle.history_places.specs.SnapMarks.{AreSnapMarks};
+ghost use Rattle.place_columns.specs.Counted.{AreCounts};
+ghost use Rattle.event_rules.specs.Fronts.{IsFront, IsMultiFront};
+ghost use Rattle.multi_rules.specs.Gens.{is_ok_gen};
+ghost use Rattle.history_places.specs.Starts.{FitsBase};
+ghost use Rattle.multi_rules.specs.Snapped.{AreTakenByLines, LifeEvents};
+ghost use Rattle.place_rules.specs.Opens.{AreOpenCounts};
+ghost use Rattle.place_columns.specs.Lined.{AreInOrder, bys_of, lines_from, numbered};
+ghost use Rattle.place_columns.specs.declared.own.Own.{Own};
+ghost use Rattle.place_columns.specs.Owned.{AreAllOwn, AreInTurn};
 ghost use Rattle.reply_rules.specs.Ends.{IsLogEnd};
 ghost use Rattle.reply_rules.specs.Logs.{AreLogs};
 ghost use Rattle.report_law.specs.Steps.{Judged, gave_multi, lines_of};
@@ -30,16 +30,13 @@ ghost use Rattle.event_rules.specs.SnapsTold.{told_by, told_lists};
 ghost use Rattle.life_tables.specs.Lives.{LifeAt, RisesFrom, judged_life};
 
 use crate::committed::add_all_committed;
-use given_counts::{GivenCounts, given_counts};
-use history_places::HistoryPlaces;
-use legal_fronts::{HistoryFront, history_front, multi_front};
-use life_marks::SnapMark;
-use multi_gens::late_multis;
-use multi_places::{MultiPlaces, Start};
-use multi_verdicts::{Taken, taken_by_lines};
-use open_counts::open_counts;
-use own_events::{LineTable, OwnEvents, Owned, bys_of};
-use own_places::{Own, own_places};
+use event_rules::{HistoryFront, history_front, multi_front};
+use history_places::{HistoryPlaces, MultiPlaces, SnapMark, Start};
+use multi_rules::{Taken, late_multis, taken_by_lines};
+use place_columns::{
+    GivenCounts, LineTable, Own, OwnEvents, Owned, bys_of, given_counts, own_places,
+};
+use place_rules::open_counts;
 use reply_rules::{
     LogEnd, Logs, are_log_faults, commit_tops, is_any_stray, recorded_multis, room_of, truncations,
 };

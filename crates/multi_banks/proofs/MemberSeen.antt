@@ -10,10 +10,10 @@ use Rattle.store_pages.specs.Layouts.{member_page_of, member_place_of, mode_plac
 use Rattle.tx_events.specs.Pages.{id_at, member_page_in_full, mode_at}
 use Rattle.slru_bank.specs.declared.bank.SlruBank.{SlruBank}
 use Rattle.slru_bank.specs.Calls.{pages_of}
-use Rattle.multi_members.specs.declared.slot.Slot.{Slot}
-use Rattle.multi_members.specs.declared.slot.Slot.TheVariants as found
-use Rattle.multi_members.specs.Runs.{slots_on}
-use Rattle.multi_members.specs.Slots.{slot_of, used_slot}
+use Rattle.bank_stores.specs.declared.slot.Slot.{Slot}
+use Rattle.bank_stores.specs.declared.slot.Slot.TheVariants as found
+use Rattle.bank_stores.specs.Runs.{slots_on}
+use Rattle.bank_stores.specs.Slots.{slot_of, used_slot}
 use Rattle.tx_events.proofs.Membership.{Has, all_at, contains_has, has_contains, has_filter_map, has_flat_map, place_has}
 use Rattle.tx_events.specs.After.{ids_of}
 use Rattle.tx_events.specs.Base.{IsBase}

@@ -8,8 +8,8 @@ use Rattle.store_pages.specs.Layouts.{member_page_of, member_place_of, mode_plac
 use Rattle.tx_events.specs.Pages.{id_at, member_page_in_full, mode_at}
 use Rattle.slru_bank.specs.declared.bank.SlruBank.{SlruBank}
 use Rattle.slru_bank.specs.Calls.{CrashKeeps, cutoff_of, last_page, pages_of}
-use Rattle.multi_members.specs.Changes.{SameSlot}
-use Rattle.multi_members.specs.Runs.{SetsMembers}
+use Rattle.bank_stores.specs.Changes.{SameSlot}
+use Rattle.bank_stores.specs.Runs.{SetsMembers}
 use Rattle.tx_events.specs.Ids.{low_half}
 use Rattle.tx_events.specs.Modes.{mode_number}
 use Rattle.tx_events.specs.declared.event.By.{By}

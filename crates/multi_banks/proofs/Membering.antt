@@ -8,7 +8,7 @@ use Rattle.slru_bank.specs.declared.refusal.BankRefusal.{BankRefusal}
 use Rattle.slru_bank.specs.declared.refusal.BankRefusal.TheVariants as refused
 use Rattle.slru_bank.specs.Calls.{CrashKeeps, CrashMayLack, cutoff_of, faults_of, last_page, pages_of}
 use Rattle.slru_bank.specs.Removal.{MayDrop, later_cutoff}
-use Rattle.multi_members.specs.Runs.{SetsMembers}
+use Rattle.bank_stores.specs.Runs.{SetsMembers}
 use Rattle.tx_events.proofs.ListSteps.{le_or_over}
 use Rattle.tx_events.specs.Base.{IsBase}
 use Rattle.tx_events.specs.Ids.{low_half}

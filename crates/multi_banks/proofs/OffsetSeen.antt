@@ -9,7 +9,7 @@ use Rattle.store_pages.specs.declared.page_rule.PageRule as rules
 use Rattle.store_pages.specs.Layouts.{number_in, word_page_of, word_place_of}
 use Rattle.slru_bank.specs.declared.bank.SlruBank.{SlruBank}
 use Rattle.slru_bank.specs.Calls.{pages_of}
-use Rattle.multi_offsets.specs.Offsets.{offset_of}
+use Rattle.bank_stores.specs.Offsets.{offset_of}
 use Rattle.tx_events.proofs.ListSteps.{le_or_over}
 use Rattle.tx_events.proofs.Membership.{Has, all_at, contains_has, has_contains, has_filter_map, has_flat_map}
 use Rattle.tx_events.specs.Base.{IsBase}

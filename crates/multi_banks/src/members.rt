@@ -1,7 +1,7 @@
 //! Pages of members are made, and members are set and read, page by page.
 ghost use Rattle.std.specs.Prelude.{◌≡◌, ℕ, ◌+◌, ◌*◌, ◌<◌, ◌≤◌, ◌++◌, [], Err, IsTrue, List, OnErr, OnOk, Some, length, slice_get, vec_capacity};
 ghost use Rattle.hall.specs.Calls.{view, IsOf, start_of};
-ghost use Rattle.multi_members.specs.declared.slot.Slot.{Slot};
+ghost use Rattle.bank_stores.specs.declared.slot.Slot.{Slot};
 ghost use Rattle.notes.specs.Lists.{at};
 ghost use Rattle.slru_bank.specs.declared.refusal.BankRefusal.TheVariants.{Cut, DiskFault};
 ghost use Rattle.store_pages.specs.Layouts.{member_page_of};
@@ -23,13 +23,13 @@ ghost use Rattle.multi_banks.specs.Sections.{BankSection, IsMemberCut};
 use crate::entries::zeroed_note;
 use crate::refused::leave_refused;
 use crate::stored::low_offset;
+use bank_stores::{Slot, read_members as stored_members, write_members};
 use disk_core::{LogDisk, PageDisk};
 use engine_parts::{
     Caller, EngineLaw, Part, Passing, command_of, enter_members, fault_note, leave_looked,
     leave_quiet,
 };
 use hall::{Hall, Note};
-use multi_members::{Slot, read_members as stored_members, write_members};
 use slru_bank::BankRefusal;
 use store_pages::{member_page, member_page_in_full};
 use tx_core::Entry;

@@ -22,13 +22,13 @@ ghost use Rattle.multi_banks.specs.Sections.{BankSection, IsOffsetCut};
 use crate::entries::zeroed_note;
 use crate::refused::leave_refused;
 use crate::stored::low_offset;
+use bank_stores::{offset as stored_offset, set_offset};
 use disk_core::{LogDisk, PageDisk};
 use engine_parts::{
     Caller, EngineLaw, Part, Passing, command_of, enter_offsets, fault_note, leave_looked,
     leave_quiet,
 };
 use hall::{Hall, Note};
-use multi_offsets::{offset as stored_offset, set_offset};
 use slru_bank::BankRefusal;
 use store_pages::{offset_page, offset_page_in_full};
 use tx_core::Entry;

@@ -6,7 +6,7 @@ use Rattle.tx_events.specs.declared.record.Counters.{Counters}
 use Rattle.tx_model.specs.Replies.{RoundSpan}
 use Rattle.place_columns.specs.declared.span.Span.{Span}
 use Rattle.place_columns.specs.Columns.{IsWhere}
-use Rattle.multi_places.specs.MultiTold.{first_in, member_stop_in, next_in, oldest_in, stop_in}
+use Rattle.history_places.specs.MultiTold.{first_in, member_stop_in, next_in, oldest_in, stop_in}
 use Rattle.report_law.specs.MultiLines.{IsMemberStop, IsMultiBackward, IsMultiStop}
 use Rattle.multi_rules.specs.declared.reading.MultiReading.{MultiReading}
 use Rattle.multi_rules.specs.MultiReadings.{IsMultiReading}

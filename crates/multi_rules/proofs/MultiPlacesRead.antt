@@ -5,8 +5,8 @@ use Rattle.std.proofs.lemmas.List.{drop-map, take-map}
 use Rattle.tx_events.specs.declared.event.By.{By}
 use Rattle.tx_events.specs.declared.multi.MultiEvent.{MultiEvent}
 use Rattle.tx_events.specs.Multis.{multi_by}
-use Rattle.own_places.specs.Owned.{AreLater, IsReadFrom}
-use Rattle.own_places.proofs.ReadFrom.{all_between}
+use Rattle.place_columns.specs.Owned.{AreLater, IsReadFrom}
+use Rattle.place_columns.proofs.ReadFrom.{all_between}
 use Rattle.report_law.specs.Places.{MayReadMultis}
 use Rattle.multi_rules.specs.MultiReadings.{IsMultiReading, span_of}
 

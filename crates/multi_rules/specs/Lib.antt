@@ -1,1 +1,7 @@
 pub mod MultiReadings
+pub mod Own
+pub mod Limits
+pub mod Gens
+pub mod Stored
+pub mod Snapped
+pub mod Telling

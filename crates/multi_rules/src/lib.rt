@@ -1,9 +1,36 @@
 //! The rules of replies on multixacts that go by some place of a command's round: which numbers were true where the
-//! command may read. See docs/SCRIPT-AND-REPORT.md.
+//! command may read, where a multixact was given, what held an oldest one back, and the verdicts on members. See
+//! docs/SCRIPT-AND-REPORT.md and docs/CHECKER.md.
 #![tactic(auto)]
 
+mod held;
+mod homes;
+mod late;
+mod limits;
+mod made;
+mod meaning;
+mod nearby;
+mod not_yet;
+mod one;
+mod own;
+mod pins;
 mod reading;
 mod rules;
+mod taken;
+mod verdicts;
+mod visible;
+mod warned;
 
+pub use held::is_held_back;
+pub use homes::Home;
+pub use late::late_multis;
+pub use limits::{LimitAt, held_limits};
+pub use made::gen_place;
+pub use meaning::{is_multi_future_at, is_multi_too_old_at};
+pub use not_yet::is_not_yet;
+pub use own::is_pinned_or_next;
 pub use reading::{MultiReading, multi_reading_of};
 pub use rules::{is_member_stop_at, is_multi_backward_at, is_multi_stop_at};
+pub use taken::{Taken, taken_by_lines};
+pub use verdicts::are_verdicts;
+pub use warned::is_multi_warned;

@@ -2,10 +2,10 @@
 ghost use Rattle.std.specs.Prelude.{◌≡◌, ◌≤◌, List, map};
 ghost use Rattle.tx_events.specs.declared.multi.MultiEvent.{MultiEvent};
 ghost use Rattle.tx_events.specs.Multis.{multi_by};
-ghost use Rattle.own_places.specs.Owned.{AreInTurn, own_of};
+ghost use Rattle.place_columns.specs.Owned.{AreInTurn, own_of};
 ghost use Rattle.multi_rules.specs.MultiReadings.{IsMultiReading, span_of};
 
-use own_places::{Own, read_from};
+use place_columns::{Own, read_from};
 use tx_events::By;
 
 /// The places from `from` to `to`, where a command may read.

@@ -4,7 +4,7 @@ ghost use Rattle.report_law.specs.MultiLines.{IsMemberStop, IsMultiBackward, IsM
 ghost use Rattle.multi_rules.specs.MultiReadings.{IsMultiReading, MultiAsked};
 
 use crate::reading::MultiReading;
-use multi_places::MultiPlaces;
+use history_places::MultiPlaces;
 use tx_events::FullMulti;
 
 /// Whether multixacts had stopped where the command may read: the next one was `next`, at or past `stop`.

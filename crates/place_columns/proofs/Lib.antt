@@ -1,3 +1,14 @@
 pub mod ColumnSteps
 pub mod Parting
 pub mod PlaceLists
+pub mod Entries
+pub mod Filling
+pub mod ReadFrom
+pub mod Copying
+pub mod CountingLines
+pub mod LinePlaces
+pub mod LineSteps
+pub mod Making
+pub mod Numbering
+pub mod Placing
+pub mod Counting

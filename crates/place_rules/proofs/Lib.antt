@@ -1,3 +1,13 @@
 pub mod Places
 pub mod Announced
 pub mod Answering
+pub mod Looking
+pub mod SnapsRead
+pub mod Bounds
+pub mod Snaps
+pub mod Refusing
+pub mod SeenRules
+pub mod Apart
+pub mod Earlier
+pub mod Counting
+pub mod Growing

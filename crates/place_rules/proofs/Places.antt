@@ -7,8 +7,8 @@ use Rattle.tx_events.specs.declared.event.By.{By}
 use Rattle.tx_events.specs.declared.event.Event.{Event}
 use Rattle.tx_events.specs.Events.{by_of}
 use Rattle.tx_model.specs.Replies.{RoundSpan}
-use Rattle.own_places.specs.Owned.{AreLater, IsReadFrom}
-use Rattle.own_places.proofs.ReadFrom.{all_between}
+use Rattle.place_columns.specs.Owned.{AreLater, IsReadFrom}
+use Rattle.place_columns.proofs.ReadFrom.{all_between}
 use Rattle.report_law.specs.Places.{MayReadIn}
 use Rattle.place_rules.specs.declared.reading.Reading.{Reading}
 use Rattle.place_rules.specs.Readings.{IsReading, MayFindHorizon, span_of}

@@ -1,1 +1,4 @@
 pub mod Readings
+pub mod Runs
+pub mod Members
+pub mod Opens

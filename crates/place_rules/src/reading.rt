@@ -2,10 +2,10 @@
 ghost use Rattle.std.specs.Prelude.{◌≡◌, ◌≤◌, List, length, map};
 ghost use Rattle.tx_events.specs.declared.event.Event.{Event};
 ghost use Rattle.tx_events.specs.Events.{by_of};
-ghost use Rattle.own_places.specs.Owned.{AreInTurn, own_of};
+ghost use Rattle.place_columns.specs.Owned.{AreInTurn, own_of};
 ghost use Rattle.place_rules.specs.Readings.{IsReading, span_of};
 
-use own_places::{Own, read_from};
+use place_columns::{Own, read_from};
 use tx_events::By;
 
 /// The places from `from` to `to`, where a command may read. A horizon may be that of one place earlier.

@@ -7,3 +7,8 @@ pub mod OpenAtEnd
 pub mod Sums
 pub mod Recorded
 pub mod Replaying
+pub mod Lasting
+pub mod Kept
+pub mod Given
+pub mod Recording
+pub mod Walking

@@ -1,8 +1,7 @@
 // The multixacts of a cluster of two banks.
 use crate::cluster::{bank_over, id, put_back, take_out};
+use bank_stores::{Slot, offset, read_member, set_offset, write_member};
 use disk_core::PageDisk;
-use multi_members::{Slot, read_member, write_member};
-use multi_offsets::{offset, set_offset};
 use std::alloc::AllocGlobal;
 use std::process::Abort;
 use store_pages::{MemberPages, OffsetPages};

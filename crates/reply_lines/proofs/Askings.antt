@@ -7,19 +7,19 @@ use Rattle.std.proofs.lemmas.List.Elements.{All-contains}
 use Rattle.tx_events.specs.declared.event.By.{By}
 use Rattle.tx_model.specs.declared.report.Line.{Line}
 use Rattle.tx_events.proofs.Membership.{has_contains}
-use Rattle.own_events.specs.Lined.{Numbered, bys_of, line_by, lines_from, numbered}
-use Rattle.own_events.proofs.LineSteps.{bys_are}
-use Rattle.own_places.specs.declared.own.Own.{Own}
-use Rattle.own_places.specs.Owned.{AreAllOwn, own_of}
+use Rattle.place_columns.specs.Lined.{Numbered, bys_of, line_by, lines_from, numbered}
+use Rattle.place_columns.proofs.LineSteps.{bys_are}
+use Rattle.place_columns.specs.declared.own.Own.{Own}
+use Rattle.place_columns.specs.Owned.{AreAllOwn, own_of}
 use Rattle.place_rules.specs.declared.reading.Reading.{Reading}
 use Rattle.place_rules.specs.Readings.{IsReading, span_of}
 use Rattle.multi_rules.specs.declared.reading.MultiReading.{MultiReading}
 use Rattle.multi_rules.specs.MultiReadings.{IsMultiReading}
 use Rattle.report_law.specs.Steps.{lines_of}
-use Rattle.own_events.proofs.Numbering.{number_is}
+use Rattle.place_columns.proofs.Numbering.{number_is}
 use Rattle.event_rules.proofs.Standing.{at_number, in_order, within}
 use Rattle.event_rules.proofs.Judging.{few_steps}
-use Rattle.open_counts.proofs.Earlier.{has_there}
+use Rattle.place_rules.proofs.Earlier.{has_there}
 use Rattle.reply_lines.specs.At.{AtLine, IsAsking, IsRoundAt, StandsThere, lines_at, multi_span_at, rounds_at, span_at}
 use Rattle.event_rules.specs.SnapsTold.{told_by, told_in, told_lists}
 use Rattle.reply_lines.specs.Known.{IsKnown}

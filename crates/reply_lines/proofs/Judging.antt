@@ -15,21 +15,21 @@ use Rattle.tx_events.specs.Multis.{AreLegalMultis, BaseOffset, MultiMayCome, mul
 use Rattle.tx_model.specs.declared.report.Line.{Line}
 use Rattle.tx_model.specs.Lines.{has_line}
 use Rattle.history_check.specs.Replays.{Replayed}
-use Rattle.multi_places.specs.declared.start.Start.{Start}
-use Rattle.multi_places.specs.MultiTold.{MultiReplayed}
-use Rattle.multi_places.specs.Starts.{BeginsAs, start_of}
+use Rattle.history_places.specs.declared.start.Start.{Start}
+use Rattle.history_places.specs.MultiTold.{MultiReplayed}
+use Rattle.history_places.specs.Starts.{BeginsAs, start_of}
 use Rattle.report_law.specs.MultiLines.{of_records}
 use Rattle.report_law.specs.Places.{AreMultisJudged, IsJudged, has_multi_line}
 use Rattle.report_law.specs.Steps.{Judged, lines_of}
 use Rattle.event_rules.specs.Lined.{AreMultisTheirs, AreTheirs}
 use Rattle.report_law.proofs.Fronts.{got, taken}
-use Rattle.open_counts.proofs.Earlier.{there_is}
-use Rattle.multi_told.specs.Reached.{IsReach, span}
-use Rattle.multi_told.specs.declared.reach.Reach.{Reach}
+use Rattle.place_rules.proofs.Earlier.{there_is}
+use Rattle.command_events.specs.Reached.{IsReach, span}
+use Rattle.command_events.specs.declared.reach.Reach.{Reach}
 use Rattle.reply_lines.specs.At.{IsRoundAt}
 use Rattle.reply_lines.specs.Known.{IsKnown}
 use Rattle.reply_lines.specs.declared.known.Known.{Known}
-use Rattle.legal_fronts.specs.Fronts.{IsFront, IsMultiFront}
+use Rattle.event_rules.specs.Fronts.{IsFront, IsMultiFront}
 
 pub count_few : {X : Type 0} (p : X → Bool) (xs : List X) → count_by p xs ≤ length xs
 count_few {X} p [] = omega arith

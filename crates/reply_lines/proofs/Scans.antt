@@ -4,10 +4,10 @@ use Rattle.std.specs.List.{slice_index_or}
 use Rattle.std.proofs.lemmas.Bool.{cases_lt}
 use Rattle.std.proofs.lemmas.Bool.Decides.{nat_tests}
 use Rattle.tx_events.specs.declared.event.By.{By}
-use Rattle.own_places.specs.declared.own.Own.{Own}
-use Rattle.own_places.specs.Owned.{IsReadFrom, is_upto, own_of}
-use Rattle.own_places.proofs.Entries.{places_rise}
-use Rattle.own_places.proofs.ReadFrom.{before_all, last_of, read_is}
+use Rattle.place_columns.specs.declared.own.Own.{Own}
+use Rattle.place_columns.specs.Owned.{IsReadFrom, is_upto, own_of}
+use Rattle.place_columns.proofs.Entries.{places_rise}
+use Rattle.place_columns.proofs.ReadFrom.{before_all, last_of, read_is}
 
 lower : (p q to : ℕ) → p ≤ q → nat_lt q to ≡ true → nat_lt p to ≡ true
 lower p q to l e = grind (arith, nat_tests)

@@ -13,18 +13,18 @@ use Rattle.tx_model.specs.declared.report.Line.{Line}
 use Rattle.tx_model.specs.declared.report.Step.{Step}
 use Rattle.tx_model.specs.Replies.{taken_by}
 use Rattle.tx_model.specs.Rounds.{lines_in}
-use Rattle.own_events.specs.declared.lines.LineAt.{LineAt}
-use Rattle.own_events.specs.Lined.{Numbered, bys_of, line_by, lines_from, number_of, numbered, places_of}
-use Rattle.own_events.proofs.LineSteps.{bys_are}
-use Rattle.own_events.proofs.Numbering.{number_is}
-use Rattle.own_events.proofs.LinePlaces.{its_places}
-use Rattle.life_marks.specs.IdMarks.{AreMarks}
-use Rattle.life_marks.specs.SnapMarks.{AreSnapMarks}
-use Rattle.life_marks.specs.declared.mark.IdMark.{IdMark}
-use Rattle.life_marks.specs.declared.snaps.SnapMark.{SnapMark}
+use Rattle.place_columns.specs.declared.lines.LineAt.{LineAt}
+use Rattle.place_columns.specs.Lined.{Numbered, bys_of, line_by, lines_from, number_of, numbered, places_of}
+use Rattle.place_columns.proofs.LineSteps.{bys_are}
+use Rattle.place_columns.proofs.Numbering.{number_is}
+use Rattle.place_columns.proofs.LinePlaces.{its_places}
+use Rattle.history_places.specs.IdMarks.{AreMarks}
+use Rattle.history_places.specs.SnapMarks.{AreSnapMarks}
+use Rattle.history_places.specs.declared.mark.IdMark.{IdMark}
+use Rattle.history_places.specs.declared.snaps.SnapMark.{SnapMark}
 use Rattle.place_rules.specs.Readings.{IsReading}
 use Rattle.multi_rules.specs.MultiReadings.{IsMultiReading}
-use Rattle.multi_answers.specs.Own.{AreReadMultis}
+use Rattle.multi_rules.specs.Own.{AreReadMultis}
 use Rattle.place_columns.specs.OwnPlaces.{ArePlacesOf}
 use Rattle.report_law.specs.Steps.{lines_of}
 use Rattle.event_rules.proofs.Judging.{few_steps}
@@ -34,7 +34,7 @@ use Rattle.report_law.proofs.FrontsOfMultis.{AreMultisWithin}
 use Rattle.report_law.proofs.Theirs.{multis_within, theirs_within}
 use Rattle.reply_lines.specs.At.{IsAsking, IsLineOfSnap, IsSnapAsked, IsSpot, SnapSpot, Spot, base_of, history_of, lines_at, multi_round_of, multis_of_life, round_of, rounds_at}
 use Rattle.event_rules.specs.SnapsTold.{told_by}
-use Rattle.seen_rules.specs.Runs.{AreItsPlaces, AreReadPlaces}
+use Rattle.place_rules.specs.Runs.{AreItsPlaces, AreReadPlaces}
 use Rattle.reply_lines.specs.declared.known.Known.{Known}
 use Rattle.reply_lines.specs.declared.reading.Asking.{Asking}
 

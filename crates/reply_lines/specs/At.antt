@@ -23,11 +23,11 @@ use Rattle.standing_rules.specs.Sessions.{Lived}
 use Rattle.report_law.specs.Kinds.{IsSnapAt}
 use Rattle.report_law.specs.Places.{multi_span}
 use Rattle.report_law.specs.Steps.{AreJudged, IsLawfulByHistory, IsLawfulReply, Judged, by_members}
-use Rattle.multi_told.specs.Reached.{IsReach}
+use Rattle.command_events.specs.Reached.{IsReach}
 use Rattle.multi_rules.specs.declared.reading.MultiReading.{MultiReading}
 use Rattle.multi_rules.specs.MultiReadings.{IsMultiReading}
 use Rattle.place_rules.specs.Readings.{IsReading}
-use Rattle.own_events.specs.Lined.{bys_of, lines_from}
+use Rattle.place_columns.specs.Lined.{bys_of, lines_from}
 use Rattle.reply_lines.specs.Known.{IsKnown}
 use Rattle.reply_lines.specs.declared.known.Known.{Known}
 use Rattle.reply_lines.specs.declared.rounds.RoundAt.{RoundAt}

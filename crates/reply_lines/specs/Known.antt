@@ -12,24 +12,24 @@ use Rattle.tx_events.specs.Multis.{multi_by}
 use Rattle.tx_model.specs.declared.report.LifeReport.{LifeReport}
 use Rattle.life_law.specs.DidCommit.{IsRecorded}
 use Rattle.life_law.specs.Pending.{is_commit_of}
-use Rattle.life_marks.specs.IdMarks.{AreMarks}
-use Rattle.life_marks.specs.SnapMarks.{AreSnapMarks}
-use Rattle.given_counts.specs.Counted.{AreCounts}
-use Rattle.multi_places.specs.Starts.{start_of}
-use Rattle.own_events.specs.Lined.{bys_of, line_by, lines_from}
-use Rattle.own_places.specs.Owned.{AreAllOwn, AreInTurn}
-use Rattle.open_counts.specs.Opens.{AreOpenCounts}
+use Rattle.history_places.specs.IdMarks.{AreMarks}
+use Rattle.history_places.specs.SnapMarks.{AreSnapMarks}
+use Rattle.place_columns.specs.Counted.{AreCounts}
+use Rattle.history_places.specs.Starts.{start_of}
+use Rattle.place_columns.specs.Lined.{bys_of, line_by, lines_from}
+use Rattle.place_columns.specs.Owned.{AreAllOwn, AreInTurn}
+use Rattle.place_rules.specs.Opens.{AreOpenCounts}
 use Rattle.reply_rules.specs.Ends.{IsLogEnd}
 use Rattle.reply_rules.specs.Logs.{AreLogs}
 use Rattle.report_law.specs.Begun.{Begun}
 use Rattle.report_law.specs.Steps.{Judged, gave_multi, lines_of}
 use Rattle.event_rules.specs.Lined.{AreLinesInOrder, events_in, multis_in}
 use Rattle.event_rules.specs.SnapsTold.{told_by}
-use Rattle.legal_fronts.specs.Fronts.{IsFront, IsMultiFront}
-use Rattle.multi_gens.specs.Gens.{AreStartsOf, is_ok_gen}
-use Rattle.held_rules.specs.Limits.{AreHeldLimits}
-use Rattle.multi_verdicts.specs.Snapped.{AreTakenByLines}
-use Rattle.multi_verdicts.specs.Stored.{AreHomes}
+use Rattle.event_rules.specs.Fronts.{IsFront, IsMultiFront}
+use Rattle.multi_rules.specs.Gens.{AreStartsOf, is_ok_gen}
+use Rattle.multi_rules.specs.Limits.{AreHeldLimits}
+use Rattle.multi_rules.specs.Snapped.{AreTakenByLines}
+use Rattle.multi_rules.specs.Stored.{AreHomes}
 use Rattle.reply_lines.specs.declared.known.Known.{Known}
 use Rattle.reply_lines.specs.declared.known.Kept.{Kept}
 

@@ -9,8 +9,9 @@ ghost use Rattle.reply_lines.specs.At.{IsSpot, Spot, base_of, history_of, round_
 use crate::known::Known;
 use crate::reading::Asking;
 use history_places::HistoryPlaces;
-use place_rules::{is_backward_at, is_horizon_at, is_stopped_at, is_too_new_at, may_carry};
-use seen_rules::is_warned;
+use place_rules::{
+    is_backward_at, is_horizon_at, is_stopped_at, is_too_new_at, is_warned, may_carry,
+};
 use tx_events::FullXid;
 
 /// Whether writes had stopped where the command may read.

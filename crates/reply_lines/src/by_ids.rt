@@ -8,7 +8,7 @@ ghost use Rattle.event_rules.specs.SnapsTold.{told_by};
 use crate::by_events::is_carried;
 use crate::known::{Kept, Known};
 use crate::reading::Asking;
-use seen_rules::{
+use place_rules::{
     is_did_at, is_did_too_old, is_future_at, is_not_given, is_old_member, is_seen, is_snapped,
     is_status_at, is_too_old_for,
 };

@@ -9,11 +9,11 @@ ghost use Rattle.reply_lines.specs.Known.{IsKept};
 use crate::by_ids::line_of;
 use crate::known::{Kept, Known};
 use crate::reading::{Asking, multi_reading_at};
-use held_rules::is_held_back;
-use multi_answers::{is_multi_future_at, is_multi_too_old_at, is_multi_warned, is_pinned_or_next};
-use multi_gens::is_not_yet;
-use multi_rules::{MultiReading, is_member_stop_at, is_multi_backward_at, is_multi_stop_at};
-use multi_verdicts::are_verdicts;
+use multi_rules::{
+    MultiReading, are_verdicts, is_held_back, is_member_stop_at, is_multi_backward_at,
+    is_multi_future_at, is_multi_stop_at, is_multi_too_old_at, is_multi_warned, is_not_yet,
+    is_pinned_or_next,
+};
 use tx_events::{By, FullMulti, MultiEvent, MultiId};
 use tx_model::{LifeReport, MemberVerdict};
 

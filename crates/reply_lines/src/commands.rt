@@ -19,9 +19,8 @@ use crate::known::{Kept, Known};
 use crate::own::{events_at, multis_at};
 use crate::replies::is_lawful_reply;
 use crate::rounds::RoundAt;
-use command_events::told_events;
+use command_events::{has_first_multis, told_events};
 use line_stances::top_of;
-use multi_told::has_first_multis;
 use reply_rules::is_logged;
 use standing_rules::{
     Session, add_line, by_members, is_refused_by_members, is_refused_by_standing,

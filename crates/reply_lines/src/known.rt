@@ -1,12 +1,7 @@
 //! What is known of a life before its lines are judged.
-use given_counts::GivenCounts;
-use held_rules::LimitAt;
-use history_places::HistoryPlaces;
-use life_marks::{IdMark, SnapMark};
-use multi_places::{MultiPlaces, Start};
-use multi_verdicts::{Home, Taken};
-use own_events::{LineTable, OwnEvents};
-use own_places::Own;
+use history_places::{HistoryPlaces, IdMark, MultiPlaces, SnapMark, Start};
+use multi_rules::{Home, LimitAt, Taken};
+use place_columns::{GivenCounts, LineTable, Own, OwnEvents};
 use reply_rules::{LogEnd, Logs};
 use std::collections::BTreeSet;
 

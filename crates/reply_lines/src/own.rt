@@ -3,11 +3,11 @@ ghost use Rattle.std.specs.Prelude.{◌≡◌, ◌≤◌, List, Some, IfOk, leng
 ghost use Rattle.tx_events.specs.declared.event.By.{By};
 ghost use Rattle.tx_events.specs.Events.{by_of, events_of};
 ghost use Rattle.tx_events.specs.Multis.{multi_by};
-ghost use Rattle.own_events.specs.declared.lines.LineAt.{LineAt};
-ghost use Rattle.own_events.specs.Lined.{AreInOrder, bys_of, numbered};
+ghost use Rattle.place_columns.specs.declared.lines.LineAt.{LineAt};
+ghost use Rattle.place_columns.specs.Lined.{AreInOrder, bys_of, numbered};
 ghost use Rattle.report_law.specs.Places.{multis_of};
 
-use own_events::OwnEvents;
+use place_columns::OwnEvents;
 use std::alloc::Global;
 use tx_events::{Copied, Event, Memory, MultiEvent};
 

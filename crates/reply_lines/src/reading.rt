@@ -2,7 +2,7 @@
 ghost use Rattle.std.specs.Prelude.{◌≡◌, ◌<◌, ◌≤◌, IsTrue, List, nat_lt};
 ghost use Rattle.tx_events.specs.declared.event.By.{By};
 ghost use Rattle.tx_model.specs.declared.report.Line.{Line};
-ghost use Rattle.own_places.specs.Owned.{IsReadFrom, is_upto, own_of};
+ghost use Rattle.place_columns.specs.Owned.{IsReadFrom, is_upto, own_of};
 ghost use Rattle.multi_rules.specs.MultiReadings.{IsMultiReading};
 ghost use Rattle.place_rules.specs.Readings.{IsReading, span_of};
 ghost use Rattle.reply_lines.specs.At.{AtKnown, IsAsking, IsRoundAt, StandsThere, lines_at, rounds_at};
@@ -11,7 +11,7 @@ ghost use Rattle.reply_lines.specs.Known.{IsKnown};
 use crate::known::Known;
 use crate::rounds::RoundAt;
 use multi_rules::{MultiReading, multi_reading_of};
-use own_places::Own;
+use place_columns::Own;
 use place_rules::{Reading, reading_of};
 use tx_events::By;
 

@@ -15,7 +15,7 @@ use crate::known::{Kept, Known};
 use crate::reading::asking_of;
 use crate::rounds::RoundAt;
 use line_stances::Standing;
-use open_counts::open_before;
+use place_rules::open_before;
 use reply_rules::{
     goes_by_places, is_by_log, is_lawful_full_commit, is_lawful_refusal, is_plain_reply,
 };

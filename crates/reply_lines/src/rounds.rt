@@ -10,9 +10,10 @@ ghost use Rattle.reply_lines.specs.Known.{IsKnown};
 
 use crate::both::{all_three, both};
 use crate::known::Known;
-use event_rules::{are_multis_theirs, are_theirs, count_of_events, count_of_multis};
-use legal_fronts::{are_legal_to, is_legal_to};
-use multi_told::{Reach, reach_of};
+use command_events::{Reach, reach_of};
+use event_rules::{
+    are_legal_to, are_multis_theirs, are_theirs, count_of_events, count_of_multis, is_legal_to,
+};
 
 /// Where a round stands: behind the first `from` events and among the first `to`, and so among the multixact events; which
 /// ids a member may mean that is written in it; and whether what goes by the histories is judged in it.

@@ -17,9 +17,9 @@ use Rattle.multi_store.proofs.LegalSound.{legal_rises, legal_sound}
 use Rattle.multi_store.proofs.MadeSteps.{at_cases, at_new, at_old, made_at_quiet, oldest_offset_push, oldest_push}
 use Rattle.multi_store.proofs.Numbers.{first_from}
 use Rattle.multi_store.proofs.Soundness.{IsSound}
-use Rattle.multi_places.specs.declared.start.Start.{Start}
-use Rattle.multi_places.specs.Starts.{BeginsAs, FitsBase, start_of}
-use Rattle.multi_places.proofs.Beginning.{in_base}
+use Rattle.history_places.specs.declared.start.Start.{Start}
+use Rattle.history_places.specs.Starts.{BeginsAs, FitsBase, start_of}
+use Rattle.history_places.proofs.Beginning.{in_base}
 
 -- ---- one rule for another
 

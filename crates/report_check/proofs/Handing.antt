@@ -5,11 +5,11 @@ use Rattle.tx_events.specs.IdLists.{Ascending}
 use Rattle.tx_events.specs.declared.multi.Member.{Member}
 use Rattle.tx_events.proofs.Membership.{contains_has, has_contains, has_map}
 use Rattle.tx_model.specs.declared.report.LifeReport.{LifeReport}
-use Rattle.multi_gens.specs.Gens.{AreStartsOf}
-use Rattle.multi_places.specs.declared.start.Start.{Start}
-use Rattle.multi_places.specs.Starts.{start_of}
-use Rattle.multi_verdicts.specs.declared.homes.Home.{Home}
-use Rattle.multi_verdicts.specs.Stored.{IsHome}
+use Rattle.multi_rules.specs.Gens.{AreStartsOf}
+use Rattle.history_places.specs.declared.start.Start.{Start}
+use Rattle.history_places.specs.Starts.{start_of}
+use Rattle.multi_rules.specs.declared.homes.Home.{Home}
+use Rattle.multi_rules.specs.Stored.{IsHome}
 use Rattle.report_law.specs.Begun.{Begun}
 use Rattle.reply_lines.specs.Known.{IsKept}
 use Rattle.reply_lines.specs.declared.known.Kept.{Kept}

@@ -9,8 +9,8 @@ use Rattle.tx_events.specs.declared.multi.MultiEvent.{MultiEvent}
 use Rattle.tx_events.specs.declared.multi.MultiEvent.TheVariants as events
 use Rattle.tx_events.specs.declared.record.Rec.{Rec}
 use Rattle.report_law.specs.Records.{is_same_multi}
-use Rattle.multi_places.specs.declared.start.Start.{Start}
-use Rattle.multi_verdicts.specs.declared.homes.Home.{Home}
+use Rattle.history_places.specs.declared.start.Start.{Start}
+use Rattle.multi_rules.specs.declared.homes.Home.{Home}
 use Rattle.report_check.specs.Keeping.{kept_home, kept_homes, kept_start, start_at}
 
 pub start_home : (recs : List Rec) (life place : ℕ) (e : MultiEvent) → kept_start recs e ≡ option_map start_at (kept_home recs life place e)

@@ -7,13 +7,13 @@ use Rattle.std.proofs.lemmas.List.{get_or-set_other, get_or-set_same, length-rep
 use Rattle.std.proofs.lemmas.Option.{slice_get-get_or, slice_get_within}
 use Rattle.tx_events.proofs.ListSteps.{eqb-refl}
 use Rattle.tx_events.specs.declared.multi.Member.{Member}
-use Rattle.multi_places.specs.declared.start.Start.{Start}
-use Rattle.multi_places.specs.Starts.{BeginsAs, start_of}
+use Rattle.history_places.specs.declared.start.Start.{Start}
+use Rattle.history_places.specs.Starts.{BeginsAs, start_of}
 use Rattle.tx_events.specs.declared.event.Event.{Event}
 use Rattle.tx_events.specs.declared.multi.MultiEvent.{MultiEvent}
 use Rattle.tx_events.specs.History.{ComesInTurn, IsLegal, MayCome}
 use Rattle.tx_events.specs.Multis.{AreLegalMultis, MultiMayCome, multi_by}
-use Rattle.legal_fronts.proofs.Fronting.{all_taken, one_got, taken}
+use Rattle.event_rules.proofs.Fronting.{all_taken, one_got, taken}
 use Rattle.report_check.proofs.Walks.{placed_length}
 use Rattle.report_law.specs.Events.{IsLawfulEvent, IsLawfulMulti}
 use Rattle.report_law.specs.MultiLines.{of_records}

@@ -22,13 +22,13 @@ use Rattle.tx_events.proofs.PlaceLemmas.{slice_get-grows}
 use Rattle.tx_model.specs.declared.report.Life.{Life}
 use Rattle.tx_model.specs.declared.report.LifeReport.{LifeReport}
 use Rattle.tx_model.specs.Rounds.{lines_in}
-use Rattle.legal_fronts.proofs.Fronting.{one_more}
+use Rattle.event_rules.proofs.Fronting.{one_more}
 use Rattle.multi_store.proofs.MadeSteps.{oldest_offset_push, oldest_push}
-use Rattle.multi_places.specs.declared.start.Start.{Start}
-use Rattle.multi_places.specs.Starts.{BeginsAs}
-use Rattle.multi_verdicts.specs.declared.homes.Home.{Home}
-use Rattle.life_starts.specs.Behind.{AreBases}
-use Rattle.life_starts.proofs.Lasting.{later_is}
+use Rattle.history_places.specs.declared.start.Start.{Start}
+use Rattle.history_places.specs.Starts.{BeginsAs}
+use Rattle.multi_rules.specs.declared.homes.Home.{Home}
+use Rattle.record_rules.specs.Behind.{AreBases}
+use Rattle.record_rules.proofs.Lasting.{later_is}
 use Rattle.report_check.proofs.Walks.{lives_append}
 use Rattle.report_law.specs.Begun.{Begun, BeginsRight, IsLawfulStart, begun_after, begun_from, committed_by, last_life, recorded_by}
 use Rattle.report_law.specs.MultiLines.{of_records}

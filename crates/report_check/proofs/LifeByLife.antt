@@ -10,7 +10,7 @@ use Rattle.life_tables.specs.Numbered.{IsNumbered}
 use Rattle.report_check.specs.Walk.{IsFirstBroken}
 use Rattle.report_check.proofs.Sections.{lives_broken}
 use Rattle.report_check.proofs.Walks.{lives_append}
-use Rattle.legal_fronts.proofs.Fronting.{all_taken, one_more}
+use Rattle.event_rules.proofs.Fronting.{all_taken, one_more}
 use Rattle.report_check.specs.Found.{IsTextJudgedAs}
 use Rattle.report_check.specs.Judgement.{IsFirstUnlawful, IsLawfulText}
 use Rattle.report_check.specs.Keeping.{IsLeft, IsLeftBefore, IsNothingKept}

@@ -5,9 +5,9 @@ use Rattle.std.proofs.Math.Seq.{take-length}
 use Rattle.tx_events.specs.declared.multi.Member.{Member}
 use Rattle.tx_events.specs.declared.multi.MultiEvent.{MultiEvent}
 use Rattle.tx_events.specs.Multis.{AreLegalMultis}
-use Rattle.multi_places.specs.MultiTold.{MultiReplayed}
-use Rattle.multi_places.specs.Starts.{BeginsAs, start_of}
-use Rattle.legal_fronts.specs.Fronts.{IsMultiFront}
+use Rattle.history_places.specs.MultiTold.{MultiReplayed}
+use Rattle.history_places.specs.Starts.{BeginsAs, start_of}
+use Rattle.event_rules.specs.Fronts.{IsMultiFront}
 use Rattle.report_check.proofs.Sections.{placed_next}
 use Rattle.reply_lines.proofs.Judging.{multi_front_reaches}
 use Rattle.report_law.specs.MultiLines.{of_records}

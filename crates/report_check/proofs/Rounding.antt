@@ -10,7 +10,7 @@ use Rattle.tx_events.proofs.PlaceLemmas.{slice_get-grows}
 use Rattle.tx_model.specs.declared.report.Line.{Line}
 use Rattle.tx_model.specs.declared.report.Step.{Step}
 use Rattle.tx_model.specs.Rounds.{lines_in}
-use Rattle.own_events.specs.Lined.{line_by}
+use Rattle.place_columns.specs.Lined.{line_by}
 use Rattle.event_rules.specs.Told.{AreToldEvents}
 use Rattle.report_law.specs.Steps.{Judged, is_ok_trim, lines_of}
 use Rattle.standing_rules.specs.Sessions.{AreBehind, Lived, with_line}

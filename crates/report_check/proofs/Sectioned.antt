@@ -18,9 +18,9 @@ use Rattle.tx_model.specs.declared.report.Life.{Life}
 use Rattle.tx_model.specs.declared.report.LifeReport.{LifeReport}
 use Rattle.tx_model.specs.Lines.{has_line}
 use Rattle.tx_model.specs.Rounds.{lines_in}
-use Rattle.legal_fronts.proofs.Fronting.{all_taken, legal_to}
-use Rattle.legal_fronts.proofs.MultiFronting.{multis_legal_to}
-use Rattle.multi_places.specs.Starts.{BeginsAs}
+use Rattle.event_rules.proofs.Fronting.{all_taken, legal_to}
+use Rattle.event_rules.proofs.MultiFronting.{multis_legal_to}
+use Rattle.history_places.specs.Starts.{BeginsAs}
 use Rattle.report_law.specs.Begun.{Begun, IsLawfulStart, begun_from}
 use Rattle.report_law.specs.Records.{IsLawfulLog}
 use Rattle.report_law.specs.MultiLines.{of_records}

@@ -22,8 +22,8 @@ use Rattle.tx_events.proofs.Membership.{Has, all_at, all_from, any_has, by_end, 
 use Rattle.tx_events.proofs.ListSteps.{eqb-refl}
 use Rattle.tx_events.proofs.PlaceLemmas.{each_place_last, each_place_start}
 use Rattle.multi_store.proofs.Numbers.{next_above}
-use Rattle.multi_places.specs.declared.start.Start.{Start}
-use Rattle.multi_places.specs.Starts.{BeginsAs, FitsBase, start_of}
+use Rattle.history_places.specs.declared.start.Start.{Start}
+use Rattle.history_places.specs.Starts.{BeginsAs, FitsBase, start_of}
 use Rattle.report_law.specs.Begun.{Begun, Recorded, begun_after, recorded_by}
 use Rattle.report_law.specs.Records.{is_same_multi}
 use Rattle.report_check.specs.Keeping.{AreStarts, kept_start}

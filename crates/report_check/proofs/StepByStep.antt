@@ -10,8 +10,8 @@ use Rattle.tx_events.specs.declared.record.Counters.{Counters}
 use Rattle.tx_model.specs.declared.report.Line.{Line}
 use Rattle.tx_model.specs.declared.report.Step.{Step}
 use Rattle.tx_model.specs.Rounds.{lines_in}
-use Rattle.legal_fronts.proofs.Fronting.{one_more}
-use Rattle.own_events.specs.Lined.{line_by}
+use Rattle.event_rules.proofs.Fronting.{one_more}
+use Rattle.place_columns.specs.Lined.{line_by}
 use Rattle.report_law.specs.ReportLines.{IsLawfulAt, ReportLine, plain, step_lines, steps_lines}
 use Rattle.history_check.specs.Replays.{Replayed}
 use Rattle.checkpoint_rules.specs.declared.counted.Checkpoints.{Checkpoints}

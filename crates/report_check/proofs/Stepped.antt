@@ -12,8 +12,8 @@ use Rattle.tx_model.specs.declared.report.Line.{Line}
 use Rattle.tx_model.specs.declared.report.Step.{Step}
 use Rattle.tx_model.specs.Lines.{has_line}
 use Rattle.tx_model.specs.Rounds.{lines_in}
-use Rattle.own_events.specs.declared.lines.LineAt.{LineAt}
-use Rattle.own_events.specs.Lined.{line_at, lines_from}
+use Rattle.place_columns.specs.declared.lines.LineAt.{LineAt}
+use Rattle.place_columns.specs.Lined.{line_at, lines_from}
 
 left_of : {X : Type 0} (xs ys : List X) (i : ℕ) → i < length xs → slice_get (xs ++ ys) i ≡ slice_get xs i
 left_of [] ys i l = absurd (omega arith)

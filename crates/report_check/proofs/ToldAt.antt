@@ -16,12 +16,12 @@ use Rattle.event_rules.specs.Lined.{AreLinesInOrder, multis_in, number_at}
 use Rattle.event_rules.specs.Told.{IsToldMulti}
 use Rattle.event_rules.proofs.Standing.{at_number, in_order, number_stands}
 use Rattle.event_rules.proofs.Telling.{rank_counts}
-use Rattle.multi_told.specs.Reached.{span}
+use Rattle.command_events.specs.Reached.{span}
 use Rattle.place_columns.specs.OwnPlaces.{ArePlacesOf}
-use Rattle.own_events.specs.declared.lines.LineAt.{LineAt}
-use Rattle.own_events.specs.Lined.{bys_of, line_at, line_by, lines_from, number_of, places_of}
-use Rattle.own_events.proofs.LinePlaces.{its_places}
-use Rattle.own_events.proofs.LineSteps.{bys_are}
+use Rattle.place_columns.specs.declared.lines.LineAt.{LineAt}
+use Rattle.place_columns.specs.Lined.{bys_of, line_at, line_by, lines_from, number_of, places_of}
+use Rattle.place_columns.proofs.LinePlaces.{its_places}
+use Rattle.place_columns.proofs.LineSteps.{bys_are}
 use Rattle.report_law.specs.Events.{StandsAt, rounds_before}
 use Rattle.report_law.specs.Places.{multis_of}
 use Rattle.report_law.specs.Steps.{HasFirstMultis, Judged, lines_of}

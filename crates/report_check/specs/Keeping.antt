@@ -12,10 +12,10 @@ use Rattle.tx_events.specs.Base.{IsBase}
 use Rattle.tx_model.specs.declared.report.LifeReport.{LifeReport}
 use Rattle.report_law.specs.Begun.{Begun, begun_from, committed_by}
 use Rattle.report_law.specs.Records.{is_same_multi}
-use Rattle.multi_places.specs.declared.start.Start.{Start}
-use Rattle.multi_places.specs.Starts.{FitsBase, start_of}
-use Rattle.multi_verdicts.specs.declared.homes.Home.{Home}
-use Rattle.multi_verdicts.specs.Stored.{IsHome}
+use Rattle.history_places.specs.declared.start.Start.{Start}
+use Rattle.history_places.specs.Starts.{FitsBase, start_of}
+use Rattle.multi_rules.specs.declared.homes.Home.{Home}
+use Rattle.multi_rules.specs.Stored.{IsHome}
 use Rattle.reply_lines.specs.declared.known.Kept.{Kept}
 
 -- where the multixacts begin that the log has recorded

@@ -14,9 +14,8 @@ ghost use Rattle.report_check.specs.Walked.{AreLatest, IsWalked};
 
 use crate::told_multis::is_told_multi_at;
 use crate::walked::Walked;
-use event_rules::{is_its_event, is_its_multi};
-use legal_fronts::{may_come_at, multi_may_come_at};
-use own_events::Owned;
+use event_rules::{is_its_event, is_its_multi, may_come_at, multi_may_come_at};
+use place_columns::Owned;
 use reply_lines::Known;
 use std::alloc::Global;
 use tx_events::{Event, Memory, MultiEvent};

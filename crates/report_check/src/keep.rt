@@ -3,16 +3,16 @@ ghost use Rattle.std.specs.Prelude.{◌≡◌, ◌++◌, ◌∷◌, ◌↔◌, [
 ghost use Rattle.std.specs.List.{AllByRecursion, cons_option, filter_map};
 ghost use Rattle.tx_events.specs.declared.record.Rec.{Rec};
 ghost use Rattle.tx_model.specs.declared.report.LifeReport.{LifeReport};
-ghost use Rattle.life_starts.specs.Behind.{AreBases};
+ghost use Rattle.record_rules.specs.Behind.{AreBases};
 ghost use Rattle.report_law.specs.Begun.{IsLawfulStart, begun_from};
 ghost use Rattle.report_law.specs.ReportLines.{IsLawfulAt, lives_lines};
 ghost use Rattle.reply_rules.specs.Logs.{AreRecordedMultis};
 ghost use Rattle.report_check.specs.Keeping.{HasGrown, IsLeft, IsLeftBefore, IsNothingKept, kept_home, kept_homes, kept_start};
 
-use life_starts::{begins_behind, begins_log, starts_go_by_the_last};
+use history_places::Start;
 use life_tables::add_all_committed;
-use multi_places::Start;
-use multi_verdicts::Home;
+use multi_rules::Home;
+use record_rules::{begins_behind, begins_log, starts_go_by_the_last};
 use reply_lines::Kept;
 use reply_rules::recorded_multis;
 use std::alloc::Global;

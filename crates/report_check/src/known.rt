@@ -2,18 +2,17 @@
 ghost use Rattle.std.specs.Prelude.{◌≡◌, ℕ, ◌↔◌, List, Contains, IfOk};
 ghost use Rattle.tx_events.specs.declared.multi.Member.{Member};
 ghost use Rattle.tx_events.specs.Base.{IsBase};
-ghost use Rattle.multi_places.specs.Starts.{FitsBase, start_of};
+ghost use Rattle.history_places.specs.Starts.{FitsBase, start_of};
 ghost use Rattle.life_tables.specs.Numbered.{IsNumbered};
 ghost use Rattle.reply_lines.specs.Known.{IsKnown};
 ghost use Rattle.life_tables.specs.Lives.{LifeAt, judged_life};
 
-use held_rules::held_limits;
-use life_marks::id_marks;
+use history_places::{Start, id_marks};
 use life_tables::{
     are_in_turn, copied, counts_in, front_of, gave_by_lines, late_of, lists_by_lines, log_end_of,
     logs_of, multi_front_of, oks_of, opened_of, owned, recorded_in, table_of, taken_of, turns_of,
 };
-use multi_places::Start;
+use multi_rules::held_limits;
 use reply_lines::Known;
 use reply_rules::commit_tops;
 use std::alloc::Global;

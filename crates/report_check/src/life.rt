@@ -21,7 +21,7 @@ use crate::known::known_of;
 use crate::records::walk_records;
 use crate::steps::{SoFar, Walk, behind_plain, walk_steps};
 use crate::walked::{Walked, plus};
-use life_starts::is_lawful_log;
+use record_rules::is_lawful_log;
 use reply_lines::{Kept, Known};
 use std::alloc::Global;
 use tx_model::{LifeReport, Memory};

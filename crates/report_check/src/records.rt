@@ -14,7 +14,7 @@ ghost use Rattle.report_check.specs.Walked.{IsWalked};
 
 use crate::walked::Walked;
 use checkpoint_rules::Checkpoints;
-use record_lines::first_unlawful_record;
+use record_rules::first_unlawful_record;
 use reply_lines::Known;
 use std::alloc::Global;
 use tx_events::Memory;

@@ -4,3 +4,8 @@ pub mod Fronts
 pub mod FrontsAtEvents
 pub mod FrontsOfMultis
 pub mod Theirs
+pub mod Staying
+pub mod OneLog
+pub mod GoingOn
+pub mod Told
+pub mod Wrong

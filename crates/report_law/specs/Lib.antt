@@ -12,3 +12,6 @@ pub mod Records
 pub mod ReportLines
 pub mod Worked
 pub mod Tops
+pub mod Lives
+pub mod Laws
+pub mod WorkedMultis

@@ -3,4 +3,9 @@
 //! multixacts, checkpoints and truncations. See docs/SCRIPT-AND-REPORT.md.
 #![tactic(auto)]
 
+/// Worked reports, lawful and not. The functions of these modules do nothing; their contracts are the laws.
 pub mod laws;
+/// The lives of a run, one behind a crash of the other.
+pub mod lives;
+/// A life with multixacts that is told right, and wrong.
+pub mod multis;

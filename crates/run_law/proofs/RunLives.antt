@@ -5,8 +5,8 @@ use Rattle.tx_events.proofs.ListSteps.{all_push}
 use Rattle.tx_model.specs.declared.report.LifeReport.{LifeReport}
 use Rattle.tx_model.specs.declared.report.Report.{Report}
 use Rattle.life_law.specs.LawfulLife.{IsLawfulLife}
-use Rattle.lives_law.specs.Lives.{GoesBehind}
-use Rattle.lives_law.proofs.GoingOn.{go_on_push}
+use Rattle.report_law.specs.Lives.{GoesBehind}
+use Rattle.report_law.proofs.GoingOn.{go_on_push}
 use Rattle.report_text.specs.ReportText.{end_text, life_line, life_text, lives_text, report_text, rest_text, step_text, title_text}
 use Rattle.session_lang.specs.Rounds.{asked_of}
 use Rattle.run_law.specs.Lives.{AreLivesOf, AreRunLives, BeginRun, BeginsRun, BeginsWithBase, IsFrontOf, LifePart, RunStart, last_text, life_rest, text_so_far}

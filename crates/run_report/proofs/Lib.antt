@@ -11,3 +11,12 @@ pub mod Readings
 pub mod Asking
 pub mod LivesTold
 pub mod Scripts
+pub mod Replies
+pub mod Goes
+pub mod Running
+pub mod Walk
+pub mod Once
+pub mod FewIds
+pub mod Wide
+pub mod EventKinds
+pub mod Whole

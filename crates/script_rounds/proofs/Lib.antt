@@ -3,3 +3,5 @@ pub mod ItemLemmas
 pub mod RoundLemmas
 pub mod PlanLemmas
 pub mod Counting
+mod StreamLemmas
+mod RunLemmas

@@ -1,18 +1,25 @@
-//! The lives and rounds of a script: which commands of a round are whose, what was told of them, and what is kept
-//! of that; and on how many threads a round runs.
+//! A script from its source to its end: it is read, its lives and rounds tell which commands are whose, what was told of
+//! them and what is kept of that, on how many threads a round runs; and a life's text is written. See
+//! `docs/GUARANTEES.md`.
 #![tactic(auto)]
 
 mod keeper;
+mod life_text;
 mod places;
 mod plan;
 mod round_threads;
+mod script;
+mod source;
 mod tally;
 mod told;
 mod turns;
 
 pub use keeper::LineKeeper;
+pub use life_text::{LifeText, front_of, have_full_multis, put_life};
 pub use plan::Plan;
 pub use round_threads::RoundThreads;
+pub use script::NoScript;
+pub use source::take_script;
 pub use tally::Tally;
 pub use told::ToldLines;
 pub use turns::{command_at, next_part, next_round};

@@ -9,8 +9,8 @@ use Rattle.disk_core.specs.Media.{HasBanks}
 use Rattle.tx_model.specs.declared.report.How.{How}
 use Rattle.tx_model.specs.declared.report.LifeReport.{LifeReport}
 use Rattle.life_law.specs.LawfulLife.{IsLawfulLife}
-use Rattle.lives_law.specs.Lives.{GoOn, GoesBehind}
-use Rattle.lives_law.proofs.GoingOn.{behind_push}
+use Rattle.report_law.specs.Lives.{GoOn, GoesBehind}
+use Rattle.report_law.proofs.GoingOn.{behind_push}
 use Rattle.session_lang.specs.Rounds.{asked_of}
 use Rattle.run_law.specs.Lives.{AreLivesOf, LifePart, parts_of}
 use Rattle.engine_life.specs.Lives.{FitsLog}

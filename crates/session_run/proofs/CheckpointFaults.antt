@@ -1,7 +1,7 @@
 -- Each fault that a checkpoint tells of was counted by its volume.
 use Rattle.std.proofs.Common.{Bool, IfSome, List, None, Option, Some, [], ap, append-nil, append_assoc, arith, cond, eqb-true, false, min, refl, subst, sym, true, ℕ, ◌++◌, ◌+◌, ◌-◌, ◌==◌, ◌^◌, ◌∙◌, ◌∷◌, ◌≡◌, ◌≤◌}
 use Rattle.disk_core.specs.Faults.{HasRisen}
-use Rattle.engine_checkpoints.specs.Made.{IsBuilt}
+use Rattle.host_calls.specs.Made.{IsBuilt}
 use Rattle.engine_parts.proofs.Leaving.{grows_then}
 use Rattle.notes.specs.Lists.{Grows, at}
 use Rattle.run_law.proofs.PartSums.{count_push}

@@ -27,9 +27,9 @@ use Rattle.engine_parts.specs.declared.session.Session.{Session}
 use Rattle.engine_host.specs.declared.cluster.Cluster.{Cluster}
 use Rattle.engine_host.specs.declared.host.Host.{Host}
 use Rattle.engine_host.specs.Hosts.{HasSeenNothing, HoldsAllBut, IsHost, IsNewSession, IsParked}
-use Rattle.engine_checkpoints.specs.Made.{HasFailed}
+use Rattle.host_calls.specs.Made.{HasFailed}
 use Rattle.engine_host.specs.Homes.{IsHome, StaysHome}
-use Rattle.engine_dumps.specs.Dumps.{IsAnswered}
+use Rattle.host_calls.specs.Dumps.{IsAnswered}
 use Rattle.session_promise.specs.Causes.{failed_volume}
 use Rattle.session_promise.specs.Checkpoints.{AreCheckpointsTold, WentCheckpoint}
 use Rattle.session_promise.specs.Dumps.{AreDumpsTold, IsStepTold}

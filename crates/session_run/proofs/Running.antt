@@ -32,7 +32,7 @@ use Rattle.engine_life.specs.Lives.{number_of, volumes_left}
 use Rattle.session_run.specs.OneLife.{HasRunLife, life_of}
 use Rattle.session_run.specs.Parts.{report_of}
 use Rattle.session_run.specs.Records.{BankHolds}
-use Rattle.script_source.specs.declared.life_text.LifeText.{LifeText}
+use Rattle.script_rounds.specs.declared.life_text.LifeText.{LifeText}
 use Rattle.session_run.specs.Going.{IsPartTold, IsRunning, IsToldLife, part_of}
 use Rattle.session_run.specs.Leaves.{LeavesVolumes}
 use Rattle.session_run.specs.Lives.{ComesTo, HasEndedOn, HasFallen}

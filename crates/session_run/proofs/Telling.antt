@@ -19,7 +19,7 @@ use Rattle.multi_store.specs.declared.answers.MultiGiven.{MultiGiven}
 use Rattle.engine_parts.specs.declared.session.Stage.{Stage}
 use Rattle.engine_parts.specs.Answers.{MayAnswerAny, reply_of}
 use Rattle.multi_makes.specs.Makes.{IsMade, given_reply}
-use Rattle.multi_freezes.specs.Trims.{HasTrimmed as HasCut}
+use Rattle.xact_freezes.specs.Trims.{HasTrimmed as HasCut}
 use Rattle.session_promise.specs.Promise.{HasTrimmed, IsMadeFor, IsRaisedAsTold, IsRecordedIn}
 
 -- whether a command makes a multixact

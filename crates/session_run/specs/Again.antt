@@ -6,7 +6,7 @@ use Rattle.disk_core.specs.declared.media.Crash.{Crash}
 use Rattle.disk_core.specs.declared.media.Volumes.{Volumes}
 use Rattle.tx_model.specs.declared.report.LifeReport.{LifeReport}
 use Rattle.tx_model.specs.declared.report.Report.{Report}
-use Rattle.lives_law.specs.Lives.{GoOn}
+use Rattle.report_law.specs.Lives.{GoOn}
 use Rattle.session_lang.specs.declared.script.Script.{Script}
 use Rattle.run_law.specs.Lives.{BeginsRun, RunStart}
 use Rattle.run_law.specs.Tool.{IsReportOf}

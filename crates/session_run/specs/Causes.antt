@@ -14,7 +14,7 @@ use Rattle.tx_core.specs.declared.entry.Start.{Start}
 use Rattle.tx_core.specs.EngineInvariant.{EngineInvariant}
 use Rattle.tx_core.specs.FaultsRise.{faults_at, faults_told}
 use Rattle.tx_core.specs.Locks.{log_lock, members_lock, offsets_lock, subtrans_lock, xact_lock}
-use Rattle.engine_checkpoints.specs.Made.{IsBuilt}
+use Rattle.host_calls.specs.Made.{IsBuilt}
 use Rattle.session_promise.specs.Causes.{HasRisenBy, failed_volume, faults_in, is_behind}
 use Rattle.session_promise.specs.Told.{lines_by}
 

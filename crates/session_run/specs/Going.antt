@@ -13,7 +13,7 @@ use Rattle.tx_model.specs.declared.report.Life.{Life}
 use Rattle.tx_model.specs.declared.report.LifeReport.{LifeReport}
 use Rattle.tx_model.specs.declared.report.Step.{Step}
 use Rattle.life_law.specs.LawfulLife.{IsLawfulLife}
-use Rattle.lives_law.specs.Lives.{GoesBehind, base_of}
+use Rattle.report_law.specs.Lives.{GoesBehind, base_of}
 use Rattle.session_lang.specs.declared.script.Item.{Item}
 use Rattle.session_lang.specs.declared.script.Script.{Script}
 use Rattle.session_lang.specs.Rounds.{asked_of}
@@ -35,7 +35,7 @@ use Rattle.session_run.specs.declared.run.PartEnd.{PartEnd}
 use Rattle.session_run.specs.declared.run.PartEnd.TheVariants as ends
 use Rattle.session_run.specs.declared.stop.Stopped.{Stopped}
 use Rattle.session_run.specs.declared.stop.Stopped.TheVariants as stops
-use Rattle.script_source.specs.declared.life_text.LifeText.{LifeText}
+use Rattle.script_rounds.specs.declared.life_text.LifeText.{LifeText}
 use Rattle.session_run.specs.Leaves.{HasLeftLast}
 use Rattle.session_run.specs.Lives.{ComesTo, HasFallen}
 use Rattle.session_run.specs.Starts.{OpensFor}

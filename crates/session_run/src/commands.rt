@@ -13,14 +13,13 @@ ghost use Rattle.session_run.specs.Turns.{AreToldBy, IsMade, IsRaised, IsTrimmed
 use disk_core::{LogDisk, PageDisk};
 use engine_parts::{Caller, EngineLaw, Passing};
 use hall::Hall;
-use multi_freezes::{multi_freeze, trim};
 use multi_makes::multi;
 use multi_store::MultiGiven;
 use std::alloc::Global;
 use tx_model::{Command, Refusal, Reply, SnapData, Status, VerdictList};
 use xact_ends::{abort, commit, undo};
 use xact_engine::{begin, drop_snap, release, save, snap};
-use xact_freezes::freeze;
+use xact_freezes::{freeze, multi_freeze, trim};
 use xact_reads::{did, horizon, see, see_multi, status};
 use xact_writes::{Wrote, write};
 

@@ -36,8 +36,9 @@ use engine_parts::Gate;
 use notes::Note;
 use report_text::Text;
 use script_gen::Summary;
-use script_rounds::{LineKeeper, RoundThreads, Tally, next_part};
-use script_source::{LifeText, front_of, have_full_multis, put_life};
+use script_rounds::{
+    LifeText, LineKeeper, RoundThreads, Tally, front_of, have_full_multis, next_part, put_life,
+};
 use session_lang::{Items, Script};
 use std::alloc::Global;
 use std::sync::Wait;

@@ -1,1 +1,12 @@
+pub mod IdsRaising
+pub mod Going
+pub mod Pinning
+pub mod Starting
 pub mod Raising
+pub mod Ranning
+pub mod Answering
+pub mod TrimSteps
+pub mod Letting
+pub mod Rising
+pub mod Looks
+pub mod Holding

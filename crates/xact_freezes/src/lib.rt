@@ -1,6 +1,17 @@
-//! The call of an engine over its lock table that lets old ids go: the oldest id is announced. See `docs/ENGINE.md`.
+//! The calls of an engine over its lock table that let old ids and multixacts go: the oldest one is announced, and a
+//! truncation cuts the stores behind it. After PostgreSQL's `vac_truncate_clog` (`src/backend/commands/vacuum.c`),
+//! `TruncateCLOG` and `TruncateMultiXact`. See `docs/ENGINE.md`.
 #![tactic(auto)]
 
+mod cutting;
 mod freezing;
+mod ids;
+/// What no truncation removes. The function does nothing; its contract is the law.
+pub mod laws;
+mod logging;
+mod looking;
+mod trimming;
 
-pub use freezing::freeze;
+pub use freezing::multi_freeze;
+pub use ids::freeze;
+pub use trimming::trim;

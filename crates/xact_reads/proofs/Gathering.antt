@@ -17,8 +17,8 @@ use Rattle.tx_core.specs.declared.entry.Start.{Start}
 use Rattle.tx_core.specs.EngineInvariant.{EngineInvariant}
 use Rattle.tx_core.specs.MultiEntries.{AreFewMultis, IsSlotSet, multi_history}
 use Rattle.tx_core.proofs.Rising.{multis_grow}
-use Rattle.multi_members.specs.declared.slot.Slot.{Slot}
-use Rattle.multi_members.specs.declared.slot.Slot.TheVariants as found
+use Rattle.bank_stores.specs.declared.slot.Slot.{Slot}
+use Rattle.bank_stores.specs.declared.slot.Slot.TheVariants as found
 use Rattle.multi_store.specs.declared.answers.Held.{Held}
 use Rattle.multi_banks.specs.Members.{AreSlotsRead, HasMembersFrom, IsGap, IsRecordedMember, IsSlotRead}
 use Rattle.multi_banks.specs.Offsets.{WasTold}

@@ -47,7 +47,7 @@ use Rattle.tx_core.proofs.Nearness.{multis_are_legal}
 use Rattle.tx_core.proofs.Rising.{made_more, multis_grow}
 use Rattle.tx_core.proofs.Taking.{take_in}
 use Rattle.multi_banks.proofs.Seeing.{filter_map_has}
-use Rattle.multi_members.specs.declared.slot.Slot.{Slot}
+use Rattle.bank_stores.specs.declared.slot.Slot.{Slot}
 use Rattle.recoverable.proofs.Stretches.{get_inside}
 use Rattle.notes.proofs.Growing.{begins_length}
 use Rattle.session_levels.specs.declared.session.RegisteredSnapshot.{RegisteredSnapshot}

@@ -23,7 +23,7 @@ use Rattle.tx_core.specs.declared.entry.Entry.{Entry}
 use Rattle.tx_core.specs.declared.entry.Start.{Start}
 use Rattle.tx_core.specs.Entries.{AreFewIds, history}
 use Rattle.tx_core.specs.OwnMultis.{own_multis}
-use Rattle.multi_members.specs.declared.slot.Slot.{Slot}
+use Rattle.bank_stores.specs.declared.slot.Slot.{Slot}
 use Rattle.session_levels.specs.declared.session.RegisteredSnapshot.{RegisteredSnapshot}
 use Rattle.session_levels.specs.Stands.{IsRegistered}
 use Rattle.session_levels.specs.Stands as levels

@@ -25,7 +25,7 @@ use Rattle.engine_parts.specs.Sessions.{by_at}
 use Rattle.engine_parts.specs.Steps.{WentMulti}
 use Rattle.engine_parts.proofs.Leaving.{grows_then}
 use Rattle.multi_sections.specs.Pinnings.{TakesPin, hold_event, unhold_event}
-use Rattle.multi_members.specs.declared.slot.Slot.{Slot}
+use Rattle.bank_stores.specs.declared.slot.Slot.{Slot}
 use Rattle.xact_reads.specs.Multis.{AreItsSlots, IsNotRead, IsUnseen, PinsOnce, ReadsMulti, WasPinned}
 use Rattle.xact_reads.proofs.Gathering.{its_later}
 use Rattle.xact_reads.proofs.Pinning.{multi_then}

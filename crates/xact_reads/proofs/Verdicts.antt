@@ -15,7 +15,7 @@ use Rattle.tx_core.specs.declared.entry.Kind.{Kind}
 use Rattle.tx_core.specs.declared.entry.Kind.TheVariants as kinds
 use Rattle.tx_core.specs.declared.entry.Start.{Start}
 use Rattle.tx_core.specs.Entries.{history}
-use Rattle.multi_members.specs.declared.slot.Slot.{Slot}
+use Rattle.bank_stores.specs.declared.slot.Slot.{Slot}
 use Rattle.bank_sections.specs.Faults.{IsBankFault, IsSubtransFault}
 use Rattle.engine_parts.specs.Adding.{Adds, IsPlain, MayFault, MayMeet}
 use Rattle.engine_parts.proofs.Adding.{adds_wider}

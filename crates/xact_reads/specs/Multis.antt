@@ -21,8 +21,8 @@ use Rattle.tx_model.specs.declared.reply.MemberVerdict.{MemberVerdict}
 use Rattle.tx_model.specs.declared.reply.Verdict.{Verdict}
 use Rattle.tx_model.specs.declared.reply.Verdict.TheVariants as verdicts
 use Rattle.life_law.specs.MultiReplies.{IsMultiNumber}
-use Rattle.multi_members.specs.declared.slot.Slot.{Slot}
-use Rattle.multi_members.specs.declared.slot.Slot.TheVariants as found
+use Rattle.bank_stores.specs.declared.slot.Slot.{Slot}
+use Rattle.bank_stores.specs.declared.slot.Slot.TheVariants as found
 use Rattle.multi_store.specs.declared.answers.Held.{Held}
 use Rattle.tx_core.specs.declared.entry.Entry.{Entry}
 use Rattle.tx_core.specs.declared.entry.Start.{Start}

@@ -11,11 +11,11 @@ ghost use Rattle.multi_sections.specs.Pinnings.{Pins};
 ghost use Rattle.xact_reads.specs.Multis.{AreItsSlots, AreReadFrom, IsMultiFault, IsNotRead, WasPinned};
 
 use crate::spans::{ends_of, offset_in_full, slots_in};
+use bank_stores::Slot;
 use disk_core::{LogDisk, PageDisk};
 use engine_parts::{Caller, EngineLaw, Passing};
 use hall::Hall;
 use multi_banks::read_members;
-use multi_members::Slot;
 use multi_store::Held;
 use slru_bank::BankRefusal;
 use store_pages::{bank_of, member_page};

@@ -16,10 +16,10 @@ ghost use Rattle.xact_reads.specs.Multis.{AreJudged, IsCarried, IsJudgedNormal, 
 
 use crate::glances::{Glance, glance_at};
 use crate::shows::show;
+use bank_stores::Slot;
 use disk_core::{LogDisk, PageDisk};
 use engine_parts::{Caller, EngineLaw, Passing};
 use hall::Hall;
-use multi_members::Slot;
 use proc_sections::read_oldest;
 use session_levels::registered_as;
 use tx_events::{FullXid, Mode, Name, Refusal, Xid};

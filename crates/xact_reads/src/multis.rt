@@ -11,10 +11,10 @@ ghost use Rattle.xact_reads.specs.Multis.{ReadsMulti};
 
 use crate::gathers::gather;
 use crate::judges::judge_all;
+use bank_stores::Slot;
 use disk_core::{LogDisk, PageDisk};
 use engine_parts::{Caller, EngineLaw, Passing, count};
 use hall::Hall;
-use multi_members::Slot;
 use multi_sections::{pin_multi, unpin_multi};
 use session_levels::registered_as;
 use std::alloc::Global;

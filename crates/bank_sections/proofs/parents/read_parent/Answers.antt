@@ -3,7 +3,7 @@ use Rattle.hall.specs.Calls.{view, start_of}
 use Rattle.notes.specs.Lists.{at}
 use Rattle.slru_bank.specs.Calls.{faults_of, pages_of, cutoff_of}
 use Rattle.store_pages.specs.Layouts.{number_in, word_page_of, word_place_of}
-use Rattle.subtrans_log.specs.Parents.{parent_of}
+use Rattle.bank_stores.specs.Parents.{parent_of}
 use Rattle.tx_events.specs.declared.event.By.{By}
 use Rattle.tx_core.specs.declared.entry.Entry.{Entry}
 use Rattle.tx_core.specs.Locks.{subtrans_lock}

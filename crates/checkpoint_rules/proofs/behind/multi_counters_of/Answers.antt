@@ -4,7 +4,7 @@ use Rattle.tx_events.specs.declared.multi.MultiEvent.{MultiEvent}
 use Rattle.tx_events.specs.declared.record.Counters.{Counters}
 use Rattle.tx_events.specs.Multis.{AreLegalMultis, multi_counters}
 use Rattle.tx_events.proofs.ListSteps.{length_push}
-use Rattle.multi_places.specs.Starts.{BeginsAs}
+use Rattle.history_places.specs.Starts.{BeginsAs}
 use Rattle.checkpoint_rules.specs.Behind.{counters_with}
 use Rattle.checkpoint_rules.proofs.Columns.{column_more, counters_push, further, may_at, small_next}
 use Rattle.checkpoint_rules.proofs.behind.multi_counters_of.Goals as goal

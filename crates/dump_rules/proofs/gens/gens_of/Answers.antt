@@ -2,7 +2,7 @@ use Rattle.std.proofs.Common.{◌≡◌, ◌<◌, ◌+◌, ◌++◌, ◌∷◌, 
 use Rattle.std.proofs.lemmas.List.{length-take-le, take_all, take_more}
 use Rattle.tx_events.specs.declared.multi.MultiEvent.{MultiEvent}
 use Rattle.tx_events.specs.Multis.{AreLegalMultis, MultiMayCome, multi_by}
-use Rattle.multi_places.specs.Starts.{BeginsAs}
+use Rattle.history_places.specs.Starts.{BeginsAs}
 use Rattle.dump_rules.specs.Gens.{AreGens, marked}
 use Rattle.dump_rules.proofs.Marking.{AreSoFar, none_yet, ok_at, one_more, step_legal}
 use Rattle.dump_rules.proofs.gens.gens_of.Goals as goal

@@ -1,7 +1,7 @@
 use Rattle.std.proofs.Common.{ℕ, Option, IfNone, IfSome, ap, subst, ◌∙◌, unwrap_or}
 use Rattle.tx_events.specs.Ids.{low_half}
 use Rattle.history_check.specs.Opened.{parent_of}
-use Rattle.life_marks.specs.IdMarks.{IsMark, IsMissing, IsPlaceOf}
+use Rattle.history_places.specs.IdMarks.{IsMark, IsMissing, IsPlaceOf}
 use Rattle.dump_rules.proofs.Dumped.{not_missing}
 use Rattle.dump_rules.proofs.GivenAt.{given_still, parent_still}
 use Rattle.dump_rules.proofs.Marking.{at_index}

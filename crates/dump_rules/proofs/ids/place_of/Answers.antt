@@ -1,7 +1,7 @@
 use Rattle.std.proofs.Common.{rules}
 use Rattle.std.proofs.lemmas.List.Sorted.{answers_always}
 use Rattle.history_check.proofs.Searching.{as_option, searched}
-use Rattle.life_marks.specs.declared.mark.IdMark.{IdMark}
+use Rattle.history_places.specs.declared.mark.IdMark.{IdMark}
 use Rattle.dump_rules.proofs.ids.place_of.Goals as goal
 
 pub returns : goal.returns

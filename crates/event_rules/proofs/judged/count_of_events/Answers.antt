@@ -1,7 +1,7 @@
 use Rattle.std.proofs.Common.{ap, ◌∙◌, map, nat_lt}
 use Rattle.std.specs.List.{count_by}
 use Rattle.tx_events.specs.Events.{by_of}
-use Rattle.own_events.specs.Lined.{Numbered}
+use Rattle.place_columns.specs.Lined.{Numbered}
 use Rattle.event_rules.proofs.Judging.{counted, few_steps}
 use Rattle.event_rules.proofs.judged.count_of_events.Goals as goal
 

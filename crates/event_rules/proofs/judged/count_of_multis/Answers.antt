@@ -1,7 +1,7 @@
 use Rattle.std.proofs.Common.{ap, ◌∙◌, map, nat_lt}
 use Rattle.std.specs.List.{count_by}
 use Rattle.tx_events.specs.Multis.{multi_by}
-use Rattle.own_events.specs.Lined.{Numbered}
+use Rattle.place_columns.specs.Lined.{Numbered}
 use Rattle.event_rules.proofs.Judging.{counted, few_steps}
 use Rattle.event_rules.proofs.judged.count_of_multis.Goals as goal
 

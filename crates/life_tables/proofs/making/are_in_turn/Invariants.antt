@@ -1,6 +1,6 @@
 use Rattle.std.proofs.Common.{ℕ, ◌<◌, get_or}
 use Rattle.std.specs.Global.{Vec}
-use Rattle.own_places.specs.declared.own.Own.{Own}
+use Rattle.place_columns.specs.declared.own.Own.{Own}
 use Rattle.life_tables.specs.Lives.{RisesFrom}
 use Rattle.life_tables.proofs.making.are_in_turn.Given as goal
 

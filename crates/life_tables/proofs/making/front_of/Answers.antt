@@ -5,10 +5,10 @@ use Rattle.tx_events.specs.declared.record.Counters.{Counters}
 use Rattle.tx_events.specs.declared.snapshot.SnapData.{SnapData}
 use Rattle.tx_events.specs.Events.{by_of}
 use Rattle.tx_model.specs.declared.report.LifeReport.{LifeReport}
-use Rattle.life_marks.specs.SnapMarks.{AreSnapMarks}
-use Rattle.legal_fronts.specs.declared.history.HistoryFront.{HistoryFront}
-use Rattle.legal_fronts.specs.Fronts.{AreTold}
-use Rattle.own_events.specs.Lined.{Numbered, lines_from, number_of}
+use Rattle.history_places.specs.SnapMarks.{AreSnapMarks}
+use Rattle.event_rules.specs.declared.front.HistoryFront.{HistoryFront}
+use Rattle.event_rules.specs.Fronts.{AreTold}
+use Rattle.place_columns.specs.Lined.{Numbered, lines_from, number_of}
 use Rattle.event_rules.specs.SnapsTold.{told_by}
 use Rattle.life_tables.specs.Lives.{judged_life}
 use Rattle.life_tables.proofs.Lining.{are_told, if_ok}

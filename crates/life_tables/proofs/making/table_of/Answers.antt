@@ -3,7 +3,7 @@ use Rattle.std.specs.List.{All, flat_map}
 use Rattle.tx_events.specs.declared.event.By.{By}
 use Rattle.tx_model.specs.declared.report.Step.{Step}
 use Rattle.tx_model.specs.Rounds.{lines_in}
-use Rattle.own_events.specs.Lined.{AreInOrder, line_by}
+use Rattle.place_columns.specs.Lined.{AreInOrder, line_by}
 use Rattle.life_tables.proofs.Lining.{few_from, few_map, lines_order}
 use Rattle.life_tables.proofs.making.table_of.Goals as goal
 

@@ -9,7 +9,7 @@ use Rattle.multi_banks.proofs.Membering.{members_looked, members_same}
 use Rattle.multi_banks.proofs.Uncut.{member_uncut}
 use Rattle.multi_banks.proofs.Visiting.{bank_refused, fault_met, is_members_lock, list_left, visited, visited_refused}
 use Rattle.multi_banks.specs.Sections.{IsMemberCut}
-use Rattle.multi_members.specs.Runs.{slots_on}
+use Rattle.bank_stores.specs.Runs.{slots_on}
 use Rattle.notes.specs.Lists.{at}
 use Rattle.slru_bank.specs.Calls.{cutoff_of, faults_of, pages_of}
 use Rattle.std.specs.List.{slice_get}

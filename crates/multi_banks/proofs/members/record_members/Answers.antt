@@ -10,7 +10,7 @@ use Rattle.multi_banks.proofs.Membering.{members_put, members_same}
 use Rattle.multi_banks.proofs.Uncut.{member_gone}
 use Rattle.multi_banks.proofs.Visiting.{bank_refused, fault_met, is_members_lock, list_left, visited, visited_refused}
 use Rattle.multi_banks.specs.Sections.{IsMemberCut}
-use Rattle.multi_members.specs.Runs.{SetsMembers}
+use Rattle.bank_stores.specs.Runs.{SetsMembers}
 use Rattle.notes.specs.Lists.{at}
 use Rattle.slru_bank.specs.Calls.{cutoff_of, faults_of, pages_of}
 use Rattle.store_pages.specs.Layouts.{member_page_of}

@@ -8,7 +8,7 @@ use Rattle.multi_banks.proofs.Offsetting.{offsets_looked, offsets_same}
 use Rattle.multi_banks.proofs.Uncut.{offset_uncut}
 use Rattle.multi_banks.proofs.Visiting.{bank_refused, fault_met, is_offsets_lock, list_left, visited, visited_refused}
 use Rattle.multi_banks.specs.Sections.{IsOffsetCut}
-use Rattle.multi_offsets.specs.Offsets.{offset_of}
+use Rattle.bank_stores.specs.Offsets.{offset_of}
 use Rattle.notes.specs.Lists.{at}
 use Rattle.slru_bank.specs.Calls.{cutoff_of, faults_of, pages_of}
 use Rattle.store_pages.specs.Layouts.{number_in, word_page_of, word_place_of}

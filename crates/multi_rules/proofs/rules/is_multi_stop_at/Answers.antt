@@ -1,7 +1,7 @@
 use Rattle.std.proofs.Common.{◌≡◌, ℕ, ◌≤◌, subst, arith}
 use Rattle.std.proofs.lemmas.Bool.Decides.{nat_tests}
 use Rattle.place_columns.specs.Columns.{IsWhere}
-use Rattle.multi_places.specs.MultiTold.{next_in, stop_in}
+use Rattle.history_places.specs.MultiTold.{next_in, stop_in}
 use Rattle.multi_rules.proofs.MultiAnswers.{stop_iff}
 use Rattle.multi_rules.proofs.rules.is_multi_stop_at.Goals as goal
 

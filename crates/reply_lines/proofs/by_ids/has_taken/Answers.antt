@@ -1,11 +1,11 @@
 use Rattle.std.proofs.Common.{◌≡◌, ◌↔◌, ℕ, List, Option, length, subst, sym, take}
 use Rattle.std.specs.Prelude.{IsTrue}
-use Rattle.life_marks.specs.declared.snaps.SnapMark.{SnapMark}
+use Rattle.history_places.specs.declared.snaps.SnapMark.{SnapMark}
 use Rattle.tx_events.specs.Snapshots.{snapshot_data}
-use Rattle.life_marks.specs.SnapMarks.{AreSnapMarks}
+use Rattle.history_places.specs.SnapMarks.{AreSnapMarks}
 use Rattle.report_law.specs.Kinds.{IsSnapAt}
 use Rattle.event_rules.specs.SnapsTold.{told_by}
-use Rattle.seen_rules.specs.Runs.{AreItsPlaces}
+use Rattle.place_rules.specs.Runs.{AreItsPlaces}
 use Rattle.reply_lines.specs.declared.known.Known.{Known}
 use Rattle.report_law.proofs.FrontsAtEvents.{snapped_whole}
 use Rattle.reply_lines.specs.At.{base_of, history_of}

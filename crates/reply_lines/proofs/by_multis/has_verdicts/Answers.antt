@@ -4,10 +4,10 @@ use Rattle.std.specs.Prelude.{IsTrue}
 use Rattle.tx_events.specs.declared.multi.MultiEvent.{MultiEvent}
 use Rattle.tx_events.specs.declared.record.Counters.{Counters}
 use Rattle.tx_model.specs.Replies.{taken_by}
-use Rattle.multi_verdicts.specs.Snapped.{AreTaken}
-use Rattle.multi_verdicts.specs.Stored.{AreHomes}
-use Rattle.multi_verdicts.specs.declared.homes.Home.{Home}
-use Rattle.multi_verdicts.specs.declared.taken.Taken.{Taken}
+use Rattle.multi_rules.specs.Snapped.{AreTaken}
+use Rattle.multi_rules.specs.Stored.{AreHomes}
+use Rattle.multi_rules.specs.declared.homes.Home.{Home}
+use Rattle.multi_rules.specs.declared.taken.Taken.{Taken}
 use Rattle.report_law.specs.MultiLines.{AreVerdicts}
 use Rattle.reply_lines.specs.At.{base_of, history_of, multis_of_life, round_of}
 use Rattle.reply_lines.proofs.Spots.{asked, few_multis, fits, its_multis_within, lift_both, multi_places_here, within_of}

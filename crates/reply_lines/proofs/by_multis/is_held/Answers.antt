@@ -1,9 +1,9 @@
 use Rattle.std.proofs.Common.{◌↔◌, ◌≤◌, List, length, subst, sym, arith}
-use Rattle.held_rules.specs.declared.limits.LimitAt.{LimitAt}
+use Rattle.multi_rules.specs.declared.limits.LimitAt.{LimitAt}
 use Rattle.std.specs.Prelude.{IsTrue}
 use Rattle.report_law.specs.MultiLines.{IsHeldBack}
 use Rattle.report_law.proofs.FrontsOfMultis.{held_all}
-use Rattle.held_rules.specs.Limits.{AreHeldLimits}
+use Rattle.multi_rules.specs.Limits.{AreHeldLimits}
 use Rattle.reply_lines.specs.declared.known.Known.{Known}
 use Rattle.reply_lines.specs.At.{base_of, multi_round_of, multis_of_life}
 use Rattle.reply_lines.proofs.Spots.{asked, lift_multis, multi_fits}

@@ -1,5 +1,5 @@
 use Rattle.std.proofs.Common.{subst, sym, ◌∙◌}
-use Rattle.multi_gens.specs.Gens.{AreStartsOf}
+use Rattle.multi_rules.specs.Gens.{AreStartsOf}
 use Rattle.reply_lines.proofs.Spots.{asked, by_is, few_multis, multi_places_all}
 use Rattle.reply_lines.proofs.by_multis.is_waited_for.Goals as goal
 

@@ -2,7 +2,7 @@ use Rattle.std.proofs.Common.{◌≡◌, ◌∙◌, List, ap, map, sym}
 use Rattle.tx_events.specs.declared.event.Event.{Event}
 use Rattle.tx_events.specs.Events.{by_of, events_of}
 use Rattle.tx_model.specs.declared.report.Life.{Life}
-use Rattle.own_events.specs.Lined.{lines_from, numbered}
+use Rattle.place_columns.specs.Lined.{lines_from, numbered}
 use Rattle.event_rules.proofs.Standing.{in_order}
 use Rattle.reply_lines.proofs.Askings.{few_numbers, number_stands}
 use Rattle.reply_lines.proofs.Pushing.{if_ok}

@@ -3,7 +3,7 @@ use Rattle.tx_events.specs.declared.multi.MultiEvent.{MultiEvent}
 use Rattle.report_law.specs.Places.{multis_of}
 use Rattle.tx_events.specs.Multis.{multi_by}
 use Rattle.tx_model.specs.declared.report.Life.{Life}
-use Rattle.own_events.specs.Lined.{lines_from, numbered}
+use Rattle.place_columns.specs.Lined.{lines_from, numbered}
 use Rattle.event_rules.proofs.Standing.{in_order}
 use Rattle.reply_lines.proofs.Askings.{few_numbers, number_stands}
 use Rattle.reply_lines.proofs.Pushing.{if_ok}

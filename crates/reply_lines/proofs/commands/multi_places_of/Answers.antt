@@ -1,7 +1,7 @@
 use Rattle.std.proofs.Common.{◌≡◌, ◌∙◌, List, ap, arith, map, sym}
 use Rattle.tx_events.specs.Multis.{multi_by}
-use Rattle.own_events.specs.Lined.{Numbered, lines_from, numbered, places_of}
-use Rattle.own_events.proofs.LinePlaces.{its_places}
+use Rattle.place_columns.specs.Lined.{Numbered, lines_from, numbered, places_of}
+use Rattle.place_columns.proofs.LinePlaces.{its_places}
 use Rattle.event_rules.proofs.Judging.{few_steps}
 use Rattle.event_rules.proofs.Standing.{in_order, within}
 use Rattle.report_law.specs.Steps.{lines_of}

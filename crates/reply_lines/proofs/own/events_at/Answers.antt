@@ -1,7 +1,7 @@
 use Rattle.std.proofs.Common.{◌∙◌, arith}
 use Rattle.tx_events.specs.Events.{by_of}
-use Rattle.own_events.specs.Lined.{places_of}
-use Rattle.own_events.proofs.Copying.{copied_whole, picked_all, picked_next, place_of_event}
+use Rattle.place_columns.specs.Lined.{places_of}
+use Rattle.place_columns.proofs.Copying.{copied_whole, picked_all, picked_next, place_of_event}
 use Rattle.reply_lines.proofs.own.events_at.Goals as goal
 
 pub offset_bounds-events-place : goal.offset_bounds-events-place

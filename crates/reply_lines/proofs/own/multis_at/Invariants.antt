@@ -1,6 +1,6 @@
 use Rattle.std.proofs.Common.{◌≡◌, take}
-use Rattle.own_events.specs.Lined.{places_of}
-use Rattle.own_events.proofs.Copying.{picked}
+use Rattle.place_columns.specs.Lined.{places_of}
+use Rattle.place_columns.proofs.Copying.{picked}
 use Rattle.reply_lines.proofs.own.multis_at.Given as goal
 
 abbrev pub invariant-loop-place : goal.invariant-loop-place

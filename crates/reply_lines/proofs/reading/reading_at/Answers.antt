@@ -1,9 +1,9 @@
 use Rattle.std.proofs.Common.{◌≡◌, map, subst, sym}
 use Rattle.tx_events.specs.Events.{by_of}
 use Rattle.history_check.specs.Replays.{Replayed}
-use Rattle.own_places.specs.Owned.{AreInTurn, own_of}
+use Rattle.place_columns.specs.Owned.{AreInTurn, own_of}
 use Rattle.place_rules.specs.Readings.{IsReading, span_of}
-use Rattle.open_counts.proofs.Earlier.{in_turn}
+use Rattle.place_rules.proofs.Earlier.{in_turn}
 use Rattle.reply_lines.specs.declared.known.Known.{Known}
 use Rattle.reply_lines.proofs.Askings.{its_list}
 use Rattle.reply_lines.proofs.reading.reading_at.Goals as goal

@@ -1,8 +1,8 @@
 use Rattle.std.proofs.Common.{rules, of_calls, ◌-◌, ◌<◌, ◌∙◌, arith, length, nat_lt, sym}
 use Rattle.std.specs.List.{slice_index_or}
 use Rattle.std.proofs.lemmas.Fn.{always_returns_same}
-use Rattle.own_places.specs.declared.own.Own.{Own}
-use Rattle.own_places.proofs.ReadFrom.{none_is}
+use Rattle.place_columns.specs.declared.own.Own.{Own}
+use Rattle.place_columns.proofs.ReadFrom.{none_is}
 use Rattle.reply_lines.proofs.Scans.{before_parted, found_is, past_end, same_at}
 use Rattle.reply_lines.proofs.reading.scan_from.Goals as goal
 

@@ -1,7 +1,7 @@
 use Rattle.std.proofs.Common.{◌≡◌, ◌-◌, ◌<◌, ◌≤◌, ℕ, false, length}
 use Rattle.std.specs.List.{slice_index_or}
-use Rattle.own_places.specs.declared.own.Own.{Own}
-use Rattle.own_places.specs.Owned.{is_upto}
+use Rattle.place_columns.specs.declared.own.Own.{Own}
+use Rattle.place_columns.specs.Owned.{is_upto}
 use Rattle.reply_lines.proofs.reading.scan_from.Given as goal
 
 abbrev pub invariant-loop-back : goal.invariant-loop-back

@@ -5,10 +5,10 @@ use Rattle.tx_events.specs.Events.{by_of}
 use Rattle.tx_events.specs.History.{IsLegal}
 use Rattle.tx_events.specs.Running.{open_ids}
 use Rattle.history_check.specs.Replays.{Replayed}
-use Rattle.own_places.specs.Owned.{own_of}
+use Rattle.place_columns.specs.Owned.{own_of}
 use Rattle.report_law.specs.Answers.{own_before}
 use Rattle.report_law.proofs.Fronts.{taken}
-use Rattle.open_counts.specs.Opens.{AreOpenCounts}
+use Rattle.place_rules.specs.Opens.{AreOpenCounts}
 use Rattle.reply_lines.specs.declared.known.Known.{Known}
 use Rattle.reply_lines.proofs.Askings.{its_list}
 use Rattle.reply_lines.proofs.replies.open_below.Goals as goal

@@ -2,7 +2,7 @@ use Rattle.std.proofs.Common.{◌≡◌, ◌<◌, ℕ, List, length, set, take, 
 use Rattle.tx_events.specs.declared.multi.MultiEvent.{MultiEvent}
 use Rattle.tx_events.specs.Multis.{multi_by}
 use Rattle.tx_model.specs.declared.report.Life.{Life}
-use Rattle.legal_fronts.proofs.Fronting.{one_more}
+use Rattle.event_rules.proofs.Fronting.{one_more}
 use Rattle.report_law.specs.Events.{IsLawfulMulti}
 use Rattle.report_law.specs.ReportLines.{multi}
 use Rattle.report_check.proofs.Sections.{placed_broken, placed_next}

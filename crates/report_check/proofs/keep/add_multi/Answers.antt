@@ -1,6 +1,6 @@
 use Rattle.std.proofs.Common.{◌≡◌, [], ◌++◌, Some, None, Option, sym, ap, ◌∙◌, append-nil}
 use Rattle.std.specs.List.{cons_option}
-use Rattle.multi_places.specs.declared.start.Start.{Start}
+use Rattle.history_places.specs.declared.start.Start.{Start}
 use Rattle.report_check.specs.Keeping.{kept_home}
 use Rattle.report_check.proofs.Homes.{start_none, start_some}
 use Rattle.report_check.proofs.keep.add_multi.Goals as goal

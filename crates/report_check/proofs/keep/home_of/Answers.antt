@@ -5,7 +5,7 @@ use Rattle.std.specs.List.{list_any}
 use Rattle.std.specs.Ordering.{nat_cmp}
 use Rattle.tx_events.specs.declared.multi.MultiEvent.{MultiEvent}
 use Rattle.report_law.specs.Records.{is_same_multi}
-use Rattle.multi_verdicts.specs.declared.homes.Home.{Home}
+use Rattle.multi_rules.specs.declared.homes.Home.{Home}
 use Rattle.report_check.specs.Keeping.{kept_home}
 use Rattle.report_check.proofs.keep.home_of.Goals as goal
 

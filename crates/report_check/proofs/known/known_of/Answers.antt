@@ -19,22 +19,22 @@ use Rattle.tx_model.specs.declared.report.Step.{Step}
 use Rattle.tx_model.specs.Rounds.{lines_in}
 use Rattle.life_law.specs.DidCommit.{IsRecorded}
 use Rattle.life_law.specs.Pending.{is_commit_of}
-use Rattle.life_marks.specs.IdMarks.{AreMarks}
-use Rattle.life_marks.specs.SnapMarks.{AreSnapMarks}
-use Rattle.life_marks.specs.declared.snaps.SnapMark.{SnapMark}
-use Rattle.given_counts.specs.Counted.{AreCounts}
+use Rattle.history_places.specs.IdMarks.{AreMarks}
+use Rattle.history_places.specs.SnapMarks.{AreSnapMarks}
+use Rattle.history_places.specs.declared.snaps.SnapMark.{SnapMark}
+use Rattle.place_columns.specs.Counted.{AreCounts}
 use Rattle.history_check.specs.Replays.{Replayed}
-use Rattle.held_rules.specs.Limits.{AreHeldLimits}
-use Rattle.legal_fronts.specs.Fronts.{IsFront, IsMultiFront}
-use Rattle.multi_gens.specs.Gens.{is_ok_gen}
-use Rattle.multi_places.specs.declared.start.Start.{Start}
-use Rattle.multi_places.specs.Starts.{start_of}
-use Rattle.multi_verdicts.specs.Snapped.{AreTakenByLines}
-use Rattle.own_events.specs.declared.lines.LineAt.{LineAt}
-use Rattle.own_events.specs.Lined.{AreInOrder, Numbered, bys_of, line_by, lines_from, number_of, numbered}
-use Rattle.own_events.proofs.LineSteps.{bys_are}
-use Rattle.own_places.specs.declared.own.Own.{Own}
-use Rattle.own_places.specs.Owned.{AreAllOwn}
+use Rattle.multi_rules.specs.Limits.{AreHeldLimits}
+use Rattle.event_rules.specs.Fronts.{IsFront, IsMultiFront}
+use Rattle.multi_rules.specs.Gens.{is_ok_gen}
+use Rattle.history_places.specs.declared.start.Start.{Start}
+use Rattle.history_places.specs.Starts.{start_of}
+use Rattle.multi_rules.specs.Snapped.{AreTakenByLines}
+use Rattle.place_columns.specs.declared.lines.LineAt.{LineAt}
+use Rattle.place_columns.specs.Lined.{AreInOrder, Numbered, bys_of, line_by, lines_from, number_of, numbered}
+use Rattle.place_columns.proofs.LineSteps.{bys_are}
+use Rattle.place_columns.specs.declared.own.Own.{Own}
+use Rattle.place_columns.specs.Owned.{AreAllOwn}
 use Rattle.report_law.specs.Steps.{gave_multi, lines_of}
 use Rattle.event_rules.specs.SnapsTold.{told_by}
 use Rattle.life_tables.specs.Lives.{LifeAt, is_multi_reply, judged_life}

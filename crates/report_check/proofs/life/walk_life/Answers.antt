@@ -8,8 +8,8 @@ use Rattle.tx_events.specs.Base.{IsBase}
 use Rattle.tx_events.specs.Events.{by_of}
 use Rattle.tx_events.specs.Multis.{multi_by}
 use Rattle.tx_model.specs.declared.report.LifeReport.{LifeReport}
-use Rattle.multi_places.specs.declared.start.Start.{Start}
-use Rattle.multi_places.specs.Starts.{FitsBase, start_of}
+use Rattle.history_places.specs.declared.start.Start.{Start}
+use Rattle.history_places.specs.Starts.{FitsBase, start_of}
 use Rattle.life_tables.specs.Numbered.{IsNumbered}
 use Rattle.report_law.specs.Begun.{Begun}
 use Rattle.report_check.proofs.Handing.{kept_is}

@@ -4,8 +4,8 @@ use Rattle.tx_events.specs.declared.record.Rec.{Rec}
 use Rattle.tx_model.specs.declared.report.Life.{Life}
 use Rattle.report_check.proofs.Sections.{placed_broken}
 use Rattle.report_check.proofs.Walks.{placed_length}
-use Rattle.multi_gens.proofs.GenPlaces.{bound_at}
-use Rattle.record_lines.specs.Judging.{IsFirstUnlawful}
+use Rattle.multi_rules.proofs.GenPlaces.{bound_at}
+use Rattle.record_rules.specs.Judging.{IsFirstUnlawful}
 use Rattle.report_law.specs.Records.{IsLawfulRecord}
 use Rattle.report_law.specs.ReportLines.{logged}
 use Rattle.report_check.proofs.Recorded.{all_legal, placed_all, placed_each}

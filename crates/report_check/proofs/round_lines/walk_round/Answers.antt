@@ -2,7 +2,7 @@ use Rattle.std.proofs.Common.{◌≡◌, ◌≤◌, ◌+◌, ◌++◌, ◌∷◌
 use Rattle.std.specs.List.{AllByRecursion}
 use Rattle.tx_model.specs.declared.report.Line.{Line}
 use Rattle.tx_model.specs.Rounds.{lines_in}
-use Rattle.legal_fronts.proofs.Fronting.{all_taken, one_more}
+use Rattle.event_rules.proofs.Fronting.{all_taken, one_more}
 use Rattle.report_law.specs.ReportLines.{IsLawfulAt, command_lines}
 use Rattle.report_law.specs.Steps.{IsLawfulCommand, lines_of}
 use Rattle.report_check.proofs.Sections.{commands_broken, commands_next}

@@ -6,7 +6,7 @@ use Rattle.tx_events.specs.Multis.{multi_by}
 use Rattle.tx_model.specs.declared.report.Step.{Step}
 use Rattle.tx_model.specs.Rounds.{lines_in}
 use Rattle.event_rules.specs.Told.{IsToldMulti}
-use Rattle.multi_told.specs.Reached.{span}
+use Rattle.command_events.specs.Reached.{span}
 use Rattle.report_law.specs.Events.{StandsAt}
 use Rattle.report_law.specs.Places.{multis_of}
 use Rattle.report_law.specs.Steps.{HasFirstMultis}

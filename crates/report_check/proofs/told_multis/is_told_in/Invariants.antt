@@ -1,4 +1,4 @@
-use Rattle.multi_told.specs.Reached.{span}
+use Rattle.command_events.specs.Reached.{span}
 use Rattle.report_check.proofs.told_multis.is_told_in.Given as goal
 
 abbrev pub ghost-count_of_events : goal.ghost-count_of_events

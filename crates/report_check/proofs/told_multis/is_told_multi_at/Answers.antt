@@ -1,6 +1,6 @@
 use Rattle.std.proofs.Common.{◌≤◌, List, length, get_or, sym, ap, subst, arith, ◌∙◌}
-use Rattle.own_events.specs.declared.lines.LineAt.{LineAt}
-use Rattle.own_events.specs.Lined.{Numbered}
+use Rattle.place_columns.specs.declared.lines.LineAt.{LineAt}
+use Rattle.place_columns.specs.Lined.{Numbered}
 use Rattle.event_rules.proofs.Standing.{has_number}
 use Rattle.tx_events.specs.Multis.{multi_by}
 use Rattle.report_check.proofs.ToldAt.{number_is}

@@ -5,10 +5,10 @@ use Rattle.tx_events.specs.declared.multi.MultiEvent.{MultiEvent}
 use Rattle.tx_events.specs.Multis.{multi_by}
 use Rattle.tx_model.specs.declared.report.Life.{Life}
 use Rattle.tx_model.specs.Replies.{RoundSpan}
-use Rattle.multi_told.specs.Reached.{IsReach}
+use Rattle.command_events.specs.Reached.{IsReach}
 use Rattle.place_columns.specs.OwnPlaces.{ArePlacesOf}
 use Rattle.tx_events.proofs.MultiPlaces.{stands_at}
-use Rattle.own_events.specs.Lined.{Numbered, lines_from, numbered, places_of}
+use Rattle.place_columns.specs.Lined.{Numbered, lines_from, numbered, places_of}
 use Rattle.event_rules.proofs.Standing.{in_order}
 use Rattle.report_law.specs.Places.{multis_of}
 use Rattle.report_check.proofs.ToldAt.{its_places_are, number_within, rank_is}

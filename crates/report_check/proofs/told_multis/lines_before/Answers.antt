@@ -1,6 +1,6 @@
 use Rattle.std.proofs.Common.{rules, of_calls, nat_lt, ◌∙◌}
 use Rattle.std.proofs.lemmas.Fn.{always_returns_same}
-use Rattle.own_events.specs.declared.lines.LineAt.{LineAt}
+use Rattle.place_columns.specs.declared.lines.LineAt.{LineAt}
 use Rattle.report_check.proofs.Stepped.{part_is, steps_parted}
 use Rattle.report_check.proofs.told_multis.lines_before.Goals as goal
 

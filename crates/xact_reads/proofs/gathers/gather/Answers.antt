@@ -5,7 +5,7 @@ use Rattle.engine_parts.specs.Adding.{IsPlain, MayMeet}
 use Rattle.engine_parts.proofs.Adding.{plain_meets}
 use Rattle.tx_events.specs.Multis.{free_offset, oldest_offset}
 use Rattle.tx_core.specs.MultiEntries.{multi_history}
-use Rattle.multi_members.specs.declared.slot.Slot.{Slot}
+use Rattle.bank_stores.specs.declared.slot.Slot.{Slot}
 use Rattle.multi_banks.specs.Members.{AreSlotsRead}
 use Rattle.xact_reads.specs.Multis.{AreItsSlots, full_upto}
 use Rattle.xact_reads.proofs.Ending.{end_small}

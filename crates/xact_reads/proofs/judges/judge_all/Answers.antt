@@ -1,7 +1,7 @@
 use Rattle.std.proofs.Common.{List, [], ap, arith, length, subst, sym, take, take_all, ◌+◌, ◌∙◌, ◌≡◌, ◌≤◌, ℕ}
 use Rattle.std.specs.List.{AllByRecursion, filter_map}
 use Rattle.hall.specs.Calls.{view, start_of}
-use Rattle.multi_members.specs.declared.slot.Slot.{Slot}
+use Rattle.bank_stores.specs.declared.slot.Slot.{Slot}
 use Rattle.tx_model.specs.declared.reply.MemberVerdict.{MemberVerdict}
 use Rattle.life_law.specs.MultiReplies.{IsOfId}
 use Rattle.engine_parts.specs.Adding.{IsPlain, MayMeet}

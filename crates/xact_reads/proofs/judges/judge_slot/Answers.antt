@@ -1,7 +1,7 @@
 use Rattle.std.proofs.Common.{arith, refl, subst, sym}
 use Rattle.std.specs.List.{AllByRecursion}
 use Rattle.hall.specs.Calls.{view, start_of}
-use Rattle.multi_members.specs.declared.slot.Slot.{Slot}
+use Rattle.bank_stores.specs.declared.slot.Slot.{Slot}
 use Rattle.tx_events.proofs.ListSteps.{all_push}
 use Rattle.life_law.specs.MultiReplies.{IsOfId}
 use Rattle.engine_parts.specs.Adding.{IsPlain}

@@ -17,7 +17,7 @@ use Rattle.engine_parts.proofs.Unmoved.{at_same}
 use Rattle.tx_events.specs.declared.event.By.{By}
 use Rattle.bank_sections.specs.Faults.{IsBankFault}
 use Rattle.std.specs.List.{filter_map}
-use Rattle.multi_members.specs.declared.slot.Slot.{Slot}
+use Rattle.bank_stores.specs.declared.slot.Slot.{Slot}
 use Rattle.xact_reads.specs.Glances.{IsNamed}
 use Rattle.xact_reads.specs.Multis.{AreJudged, pair_in}
 use Rattle.xact_reads.proofs.Going.{read_adds}

@@ -1,4 +1,0 @@
-pub mod Reaching
-pub mod StatesCut
-pub mod ParentsCut
-pub mod Cutting

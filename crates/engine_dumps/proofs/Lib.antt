@@ -1,4 +1,0 @@
-pub mod FaultsTold
-pub mod Cutoffs
-pub mod Logging
-pub mod Showing

@@ -1,0 +1,9 @@
+use Rattle.std.proofs.Common.{length}
+use Rattle.event_rules.proofs.Fronting.{both_ways, test_le}
+use Rattle.event_rules.proofs.MultiFronting.{multis_legal_to}
+use Rattle.event_rules.proofs.multi_fronts.are_legal_to.Goals as goal
+
+pub returns : goal.returns
+returns c = λ base starts h f l.
+    both_ways (test_le c.args.to c.events_in.result (length c.args.places.now.events) c.events_in.ensures.count)
+    (multis_legal_to base starts h c.args.places.now f c.events_in.ensures.legal c.args.to l)

@@ -1,0 +1,9 @@
+use Rattle.std.proofs.Common.{length}
+use Rattle.event_rules.proofs.Fronting.{both_ways, test_lt}
+use Rattle.event_rules.proofs.MultiFronting.{multi_comes_at}
+use Rattle.event_rules.proofs.multi_fronts.multi_may_come_at.Goals as goal
+
+pub returns : goal.returns
+returns c = λ base starts h e f before at.
+    both_ways (test_lt c.args.place c.events_in.result (length c.args.places.now.events) c.events_in.ensures.count)
+    (multi_comes_at base starts h c.args.places.now f c.events_in.ensures.legal c.args.place e before at)

@@ -1,9 +1,0 @@
-pub mod Replies
-pub mod Goes
-pub mod Running
-pub mod Walk
-pub mod Once
-pub mod FewIds
-pub mod Wide
-pub mod EventKinds
-pub mod Whole

@@ -1,0 +1,11 @@
+pub mod Adding
+pub mod Counting
+pub mod Wrote
+pub mod Hosts
+pub mod Forgetting
+pub mod Outcomes
+pub mod Parked
+pub mod FaultsTold
+pub mod Cutoffs
+pub mod Logging
+pub mod Showing

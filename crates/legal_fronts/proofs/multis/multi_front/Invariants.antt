@@ -1,9 +1,0 @@
-use Rattle.std.proofs.Common.{◌≡◌, take}
-use Rattle.legal_fronts.proofs.multis.multi_front.Given as goal
-
-abbrev pub invariant-loop-event : goal.invariant-loop-event
-invariant-loop-event l = record {
-  sofar : l.places.events ≡ take l.event-index l.multis;
-  base : l.places.base ≡ l.fn.base;
-  starts : l.places.starts ≡ l.fn.starts.items;
-}

@@ -1,7 +1,0 @@
-use Rattle.life_marks.proofs.Closings.{SoFar}
-use Rattle.life_marks.proofs.ids.id_marks.Given as goal
-
-abbrev pub invariant-loop-mark : goal.invariant-loop-mark
-invariant-loop-mark l = record {
-  sofar : SoFar l.replay.events l.mark-items l.marks.items l.mark-index;
-}

@@ -1,2 +1,0 @@
-pub mod IdMarks
-pub mod SnapMarks

@@ -1,5 +1,0 @@
-use Rattle.life_starts.proofs.Lasting.{later_is}
-use Rattle.life_starts.proofs.law.starts_go_by_the_last.Goals as goal
-
-pub returns-clause-later : goal.returns-clause-later
-returns-clause-later c = later_is

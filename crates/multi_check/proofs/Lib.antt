@@ -1,2 +1,0 @@
-pub mod Nearby
-pub mod MultiSteps

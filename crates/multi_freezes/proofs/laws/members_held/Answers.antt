@@ -1,5 +1,0 @@
-use Rattle.multi_freezes.proofs.Holding.{members_held}
-use Rattle.multi_freezes.proofs.laws.members_held.Goals as goal
-
-pub returns : goal.returns
-returns c = members_held

@@ -1,2 +1,0 @@
-pub mod GenPlaces
-pub mod Waits

@@ -1,3 +1,0 @@
-pub mod Changes
-pub mod Slots
-pub mod Runs

@@ -1,4 +1,0 @@
-pub mod StartFound
-pub mod Beginning
-pub mod MultiRising
-pub mod Along

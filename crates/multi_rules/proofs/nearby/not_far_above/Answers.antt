@@ -1,0 +1,10 @@
+use Rattle.std.proofs.Common.{rules, of_calls}
+use Rattle.std.proofs.lemmas.Fn.{always_returns_same}
+use Rattle.multi_rules.specs.Snapped.{is_not_far_above}
+use Rattle.multi_rules.proofs.Parted.{first_near, near_parted}
+use Rattle.multi_rules.proofs.nearby.not_far_above.Goals as goal
+
+pub returns : goal.returns
+returns c =
+    let point = c.partition_point.ensures.partitioned (is_not_far_above c.args.id) (always_returns_same _ _ _ (λ a r f k. search (rules, of_calls))) (near_parted c.args.taken.now c.args.id c.requires) in
+    first_near c.args.taken.now c.args.id c.partition_point.result c.partition_point.ensures.bound point.0 point.1

@@ -1,4 +1,0 @@
-pub mod Reaching
-pub mod Pinning
-pub mod Shaping
-pub mod Telling

@@ -1,7 +1,0 @@
-use Rattle.std.proofs.Common.{◌↔◌, drop}
-use Rattle.std.specs.List.{AllByRecursion}
-use Rattle.multi_told.specs.Reached.{MayBeMember}
-use Rattle.multi_told.proofs.reach.Reach.may_be_members.Given as goal
-
-abbrev pub invariant-loop-pair : goal.invariant-loop-pair
-invariant-loop-pair l = AllByRecursion (MayBeMember l.self) l.pairs ↔ AllByRecursion (MayBeMember l.self) (drop l.pair-index l.pairs)

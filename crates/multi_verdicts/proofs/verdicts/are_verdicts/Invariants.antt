@@ -1,4 +1,0 @@
-use Rattle.multi_verdicts.proofs.verdicts.are_verdicts.Given as goal
-
-abbrev pub ghost-answers : goal.ghost-answers
-ghost-answers g a = g.of

@@ -1,4 +1,0 @@
-use Rattle.multi_verdicts.proofs.verdicts.tells.Given as goal
-
-abbrev pub ghost-span_of_all : goal.ghost-span_of_all
-ghost-span_of_all g a = g.of

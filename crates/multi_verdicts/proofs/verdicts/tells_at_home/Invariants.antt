@@ -1,4 +1,0 @@
-use Rattle.multi_verdicts.proofs.verdicts.tells_at_home.Given as goal
-
-abbrev pub ghost-tells : goal.ghost-tells
-ghost-tells g a = g.of

@@ -1,4 +1,0 @@
-pub mod Stored
-pub mod Snapped
-pub mod Telling
-pub mod Gens

@@ -1,4 +1,0 @@
-pub mod Apart
-pub mod Earlier
-pub mod Counting
-pub mod Growing

@@ -1,6 +1,0 @@
-use Rattle.std.proofs.Common.{◌≡◌, take, map}
-use Rattle.own_events.specs.Lined.{number_of}
-use Rattle.own_events.proofs.columns.numbers_of.Given as goal
-
-abbrev pub invariant-loop-by : goal.invariant-loop-by
-invariant-loop-by l = l.numbers.items ≡ map (number_of l.table) (take l.by-index l.bys)

@@ -1,7 +1,0 @@
-use Rattle.std.proofs.Common.{◌≡◌, take}
-use Rattle.own_events.specs.Lined.{places_of}
-use Rattle.own_events.proofs.Copying.{picked}
-use Rattle.own_events.proofs.copies.events_of_line.Given as goal
-
-abbrev pub invariant-loop-place : goal.invariant-loop-place
-invariant-loop-place g l = l.copies.items ≡ picked l.events (take l.place-index (places_of l.line l.own.numbers))

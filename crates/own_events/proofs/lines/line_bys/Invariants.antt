@@ -1,6 +1,0 @@
-use Rattle.std.proofs.Common.{◌≡◌, take}
-use Rattle.own_events.specs.Lined.{bys_of}
-use Rattle.own_events.proofs.lines.line_bys.Given as goal
-
-abbrev pub invariant-loop-line : goal.invariant-loop-line
-invariant-loop-line l = l.bys.items ≡ bys_of (take l.line-index l.lines)

@@ -1,0 +1,90 @@
+-- What the marks of snapshots tell.
+use Rattle.std.proofs.Common.{◌≡◌, ℕ, ◌<◌, ◌↔◌, List, length, map, take, refl, ap, sym, ◌∙◌, arith, Some, None, Option}
+use Rattle.std.specs.List.{slice_get}
+use Rattle.tx_events.specs.declared.event.By.{By}
+use Rattle.tx_events.specs.declared.event.Event.{Event}
+use Rattle.tx_events.specs.declared.event.Event.TheVariants as events
+use Rattle.tx_events.specs.declared.snapshot.SnapData.{SnapData}
+use Rattle.tx_events.specs.Events.{by_of}
+use Rattle.tx_events.specs.Snapshots.{snapshot_data}
+use Rattle.history_places.specs.declared.snaps.SnapMark.{SnapMark}
+use Rattle.history_places.specs.SnapMarks.{AreSnapMarks, IsMarkOf, IsSnapMark}
+use Rattle.report_law.specs.Kinds.{IsSnapAt}
+use Rattle.place_rules.specs.Runs.{IsRightMark, IsXmaxAt, Snapping}
+use Rattle.place_rules.proofs.Looking.{by_at, event_at, some_at, within}
+
+-- a snapshot's event is the command's
+pub snap_by : (h : List Event) (by : By) (p : ℕ) → IsSnapAt h by p → slice_get (map by_of h) p ≡ Some by
+snap_by h by p s = by_at h (events.Snap by s.0) p s.1
+
+-- and no other command's
+pub snap_of_it : (h : List Event) (by other : By) (p : ℕ) → slice_get (map by_of h) p ≡ Some by → IsSnapAt h other p → IsSnapAt h by p
+snap_of_it h by other p its s =
+    let same : other ≡ by = (let e : Some other ≡ Some by = sym (snap_by h other p s) ∙ its in cc) in
+    (s.0, s.1 ∙ ap (λ (b : By). Some (events.Snap b s.0)) same)
+
+record Marks (first : ℕ) (before : List Event) (told : Option SnapData) (e : Event) (m : SnapMark) : Type 0 where
+  name : List ℕ
+  is : e ≡ events.Snap (by_of e) name
+  mark : IsMarkOf (snapshot_data first before) told m
+
+marks : (first : ℕ) (before : List Event) (told : Option SnapData) (e : Event) (m : SnapMark) → IsSnapMark first before told e (Some m) → Marks first before told e m
+marks first before told (events.Snap by name) m i = record { name = name; is = refl; mark = i }
+marks first before told (events.Id by x) m i = absurd i
+marks first before told (events.Sub by under x) m i = absurd i
+marks first before told (events.Undo by x) m i = absurd i
+marks first before told (events.Commit by x) m i = absurd i
+marks first before told (events.Abort by x) m i = absurd i
+marks first before told (events.SnapDrop by name) m i = absurd i
+marks first before told (events.Oldest by oldest) m i = absurd i
+marks first before told (events.Ask by x) m i = absurd i
+
+record Marked (first : ℕ) (before : List Event) (told : Option SnapData) (o : Option SnapMark) : Type 0 where
+  mark : SnapMark
+  is : o ≡ Some mark
+  so : IsMarkOf (snapshot_data first before) told mark
+
+marked : (first : ℕ) (before : List Event) (told : Option SnapData) (by : By) (name : List ℕ) (o : Option SnapMark) → IsSnapMark first before told (events.Snap by name) o → Marked first before told o
+marked first before told by name (Some m) i = record { mark = m; is = refl; so = i }
+marked first before told by name None i = absurd i
+
+-- a right mark stands where the command's snapshot holds what its reply tells
+pub right_iff : (s : Snapping) (snaps : List (Option SnapMark)) (p : ℕ) → AreSnapMarks s.first s.events s.told snaps → s.told s.by ≡ Some s.lists → slice_get (map by_of s.events) p ≡ Some s.by
+    → IsRightMark snaps p ↔ (IsSnapAt s.events s.by p × (s.lists ≡ snapshot_data s.first (take p s.events)))
+right_iff s snaps p are told its = (
+  λ r.
+      let e = event_at s.events s.by p its in
+      let m = marks s.first (take p s.events) (s.told (by_of e.event)) e.event r.mark (are.each p e.event (Some r.mark) e.stands r.stands) in
+      let says : s.told (by_of e.event) ≡ Some (snapshot_data s.first (take p s.events)) = m.mark.right.0 r.right in
+      let both : Some s.lists ≡ Some (snapshot_data s.first (take p s.events)) = sym told ∙ ap s.told (sym e.its) ∙ says in
+      let same : s.lists ≡ snapshot_data s.first (take p s.events) = cc in
+      ((m.name, e.stands ∙ ap Some (m.is ∙ ap (λ (b : By). events.Snap b m.name) e.its)), same),
+  λ q.
+      let low : p < length s.events = within s.events p (events.Snap s.by q.0.0) q.0.1 in
+      let n = are.size in
+      let o = some_at snaps p (omega arith) in
+      let m = marked s.first (take p s.events) (s.told s.by) s.by q.0.0 o.0 (are.each p (events.Snap s.by q.0.0) o.0 q.0.1 o.1) in
+      record { mark = m.mark; stands = o.1 ∙ ap Some m.is; right = m.so.right.1 (told ∙ ap Some q.1) },
+)
+
+abbrev pub xmax_of : Option SnapMark → Option ℕ
+xmax_of None = None
+xmax_of (Some m) = Some m.xmax
+
+pub xmax_is : (first : ℕ) (h : List Event) (told : By → Option SnapData) (snaps : List (Option SnapMark)) (p : ℕ) (o : Option SnapMark) → AreSnapMarks first h told snaps → p < length h → slice_get snaps p ≡ Some o → IsXmaxAt first h p (xmax_of o)
+xmax_is first h told snaps p (Some m) are low stands =
+    let e = some_at h p low in
+    let k = marks first (take p h) (told (by_of e.0)) e.0 m (are.each p e.0 (Some m) e.1 stands) in
+    (k.mark.xmax, (by_of e.0, (k.name, e.1 ∙ ap Some k.is)))
+xmax_is first h told snaps p None are low stands = λ by s. are.each p (events.Snap by s.0) None s.1 stands
+
+-- a place of an event has a mark or none
+pub snap_low : (first : ℕ) (h : List Event) (told : By → Option SnapData) (snaps : List (Option SnapMark)) (by : By) (p : ℕ) → AreSnapMarks first h told snaps → slice_get (map by_of h) p ≡ Some by → p < length snaps
+snap_low first h told snaps by p are its =
+    let e = event_at h by p its in
+    let low : p < length h = within h p e.event e.stands in
+    let n = are.size in
+    omega arith
+
+pub event_low : (h : List Event) (by : By) (p : ℕ) → slice_get (map by_of h) p ≡ Some by → p < length h
+event_low h by p its = let e = event_at h by p its in within h p e.event e.stands

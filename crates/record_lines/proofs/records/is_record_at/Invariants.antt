@@ -1,4 +1,0 @@
-use Rattle.record_lines.proofs.records.is_record_at.Given as goal
-
-abbrev pub ghost-is_true_record : goal.ghost-is_true_record
-ghost-is_true_record g a = g.j

@@ -1,2 +1,0 @@
-mod StreamLemmas
-mod RunLemmas

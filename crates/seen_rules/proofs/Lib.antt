@@ -1,6 +1,0 @@
-pub mod Looking
-pub mod Reading
-pub mod Bounds
-pub mod Snaps
-pub mod Refusing
-pub mod Rules

@@ -1,8 +1,0 @@
-use Rattle.seen_rules.specs.Runs.{IsOlderThere}
-use Rattle.seen_rules.proofs.Reading.{NoneUpTo}
-use Rattle.seen_rules.proofs.did.is_did_too_old.Given as goal
-
-abbrev pub invariant-loop-place : goal.invariant-loop-place
-invariant-loop-place g l = record {
-  none : NoneUpTo (IsOlderThere l.places.base l.places.events l.x.number l.oldest) l.from l.place;
-}

@@ -14,12 +14,14 @@ mod group_turns;
 mod hall_part;
 mod hall_turns;
 mod log_part;
+mod report_part;
 mod timing;
 
 use bank_part::measure_bank;
 use group_part::measure_group;
 use hall_part::measure_hall;
 use log_part::measure_log;
+use report_part::measure_report;
 use std::sync::Wait;
 use std::thread::Threads;
 use std::{env, io};
@@ -30,13 +32,15 @@ enum Part {
     Group,
     Bank,
     Log,
+    Report,
 }
 
-const PARTS: [(&str, Part); 4] = [
+const PARTS: [(&str, Part); 5] = [
     ("hall", Part::Hall),
     ("group", Part::Group),
     ("bank", Part::Bank),
     ("wal", Part::Log),
+    ("report", Part::Report),
 ];
 
 // Runs a part and prints what it came to. The host's clock and output, and its threads.
@@ -51,6 +55,7 @@ fn measure<R: Threads + Wait + Sync>(
         Part::Group => measure_group(host, rt, wanted),
         Part::Bank => measure_bank(host, wanted),
         Part::Log => measure_log(host, wanted),
+        Part::Report => measure_report(host, wanted),
     }
 }
 

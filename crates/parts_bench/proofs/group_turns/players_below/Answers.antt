@@ -11,7 +11,7 @@ loop-number-preserved c =
     let x = c.in_ok-player.player in
     let its = c.push_reserved.ensures.items in
     record {
-      idle = c.player_of-player.ensures.idle;
+      idle = c.player_of.ensures.idle;
       few = omega (arith, i.few, ap length its, length-append xs (x ∷ []));
       room = (let e = c.push_reserved.ensures.capacity in omega (arith, i.room, e));
       each = subst (All (IsReady c.args.list.now)) (sym its) (All-push (IsReady c.args.list.now) xs x i.each c.in_ok-player.ensures.ready);

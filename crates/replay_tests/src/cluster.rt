@@ -88,16 +88,27 @@ pub fn states_of<P: PageDisk + Drop>(
     states
 }
 
-/// Takes a bank's volume out; `put_back` puts it back.
-pub fn take_out<P>(rt: &impl Abort, disks: &mut Vec<P>, at: usize) -> P {
+/// Takes the bank of this number, of two, out of its volumes; `put_back` puts it back.
+pub fn take_out<P: PageDisk + Drop, O: PageRule>(
+    rt: &(impl Abort + AllocGlobal),
+    disks: &mut Vec<P>,
+    at: usize,
+) -> SlruBank<P, O> {
     assert!(rt; at < disks.len(), "two banks");
-    disks.remove(at)
+    let disk = disks.remove(at);
+    bank_over::<P, O>(rt, disk)
 }
 
-/// Puts a bank's volume back.
-pub fn put_back<P: Drop>(rt: &impl Abort, disks: &mut Vec<P>, at: usize, disk: P) {
+/// Writes a bank's pages out, and puts its volume back.
+pub fn put_back<P: PageDisk + Drop, O: PageRule>(
+    rt: &impl Abort,
+    disks: &mut Vec<P>,
+    at: usize,
+    mut bank: SlruBank<P, O>,
+) {
+    assert!(rt; bank.flush_all().is_ok());
     assert!(rt; at <= disks.len(), "two banks");
-    assert!(rt; disks.insert(at, disk).is_ok());
+    assert!(rt; disks.insert(at, bank.into_disk()).is_ok());
 }
 
 /// Puts a state on a page of its bank's volume.
@@ -108,11 +119,9 @@ pub fn put_state<P: PageDisk + Drop>(
     to: State,
 ) {
     let at = (number / 32768 % 2) as usize;
-    let disk = take_out(rt, xact, at);
-    let mut bank = bank_over::<P, XactPages>(rt, disk);
+    let mut bank = take_out::<P, XactPages>(rt, xact, at);
     assert!(rt; set_states(&mut bank, &[id(rt, number)], to).is_ok());
-    assert!(rt; bank.flush_all().is_ok());
-    put_back(rt, xact, at, bank.into_disk());
+    put_back(rt, xact, at, bank);
 }
 
 /// What a recovery of mounted volumes leaves: the volumes, and what was answered.

@@ -41,11 +41,9 @@ pub fn put_offset<P: PageDisk + Drop>(
     to: u32,
 ) {
     let at = (number / 2048 % 2) as usize;
-    let disk = take_out(rt, offsets, at);
-    let mut bank = bank_over::<P, OffsetPages>(rt, disk);
+    let mut bank = take_out::<P, OffsetPages>(rt, offsets, at);
     assert!(rt; set_offset(&mut bank, MultiId { number }, to).is_ok());
-    assert!(rt; bank.flush_all().is_ok());
-    put_back(rt, offsets, at, bank.into_disk());
+    put_back(rt, offsets, at, bank);
 }
 
 /// Puts a member on the page of its bank's volume.
@@ -56,12 +54,10 @@ pub fn put_member<P: PageDisk + Drop>(
     number: u64,
 ) {
     let at = (place / 1636 % 2) as usize;
-    let disk = take_out(rt, members, at);
-    let mut bank = bank_over::<P, MemberPages>(rt, disk);
+    let mut bank = take_out::<P, MemberPages>(rt, members, at);
     let written = write_member(&mut bank, place, id(rt, number).low(), Mode::Sh);
     assert!(rt; written.is_ok());
-    assert!(rt; bank.flush_all().is_ok());
-    put_back(rt, members, at, bank.into_disk());
+    put_back(rt, members, at, bank);
 }
 
 /// The offsets of multixacts in their banks, of which there are two; 0 for none.

@@ -1,17 +1,13 @@
 //! Runs over a bank's volume that passes so many calls, and then fails each.
-use crate::rows::Fault::Behind;
-use crate::rows::Way::{Device, Has};
-use crate::rows::{NO_CRASH, Part, Row, check_rows};
+use crate::rows::check_rows;
 use crate::runs::run_over;
-use disk_core::Which::{Subtrans, Xact};
+use disk_core::Which::Subtrans;
 use disk_fuse::Fails;
 use std::alloc::AllocGlobal;
 use std::process::Abort;
 
-const ROWS: [Row; 7] = [
-    Row {
-        name: "a_fault_of_pg_xact_leaves_the_commit_pending",
-        script: "# The record is on disk then.
+const ROWS: &str = "=== a_fault_of_pg_xact_leaves_the_commit_pending
+# The record is on disk then.
 a begin
 a write
 a commit
@@ -21,16 +17,10 @@ a abort
 .round
 b snap t
 b see t 3
-",
-        fault: Behind,
-        parts: &[Part(
-            Xact(0),
-            (0, 7),
-            NO_CRASH,
-            &[
-                Device,
-                Has(&[
-                    "a 3 commit -> disk-fault xact 0
+--- from xact 0 0 7 -
++++ device
++++ has
+a 3 commit -> disk-fault xact 0
 a 4 save -> commit-pending
 a 5 commit -> disk-fault xact 0
 a 6 abort -> commit-pending
@@ -45,10 +35,8 @@ log flushed 2 end 80
 0 checkpoint next 3 oldest 3 multi 1 offset 1 oldest-multi 1 oldest-offset 1
 1 commit 3
 end
-",
-                ]),
-                Has(&[
-                    "a 3 commit -> ok
++++ has
+a 3 commit -> ok
 a 4 save -> no-transaction
 a 5 commit -> no-transaction
 a 6 abort -> no-transaction
@@ -64,14 +52,8 @@ log flushed 2 end 80
 0 checkpoint next 3 oldest 3 multi 1 offset 1 oldest-multi 1 oldest-offset 1
 1 commit 3
 end
-",
-                ]),
-            ],
-        )],
-    },
-    Row {
-        name: "a_fault_of_pg_xact_leaves_an_undo_and_an_abort_pending",
-        script: "# An abort takes the place of an undo that is pending; an abort that is pending has its record.
+=== a_fault_of_pg_xact_leaves_an_undo_and_an_abort_pending
+# An abort takes the place of an undo that is pending; an abort that is pending has its record.
 a begin
 a write
 a save
@@ -84,16 +66,10 @@ a abort
 a undo
 a commit
 a abort
-",
-        fault: Behind,
-        parts: &[Part(
-            Xact(0),
-            (0, 7),
-            NO_CRASH,
-            &[
-                Device,
-                Has(&[
-                    "a 5 undo -> disk-fault xact 0
+--- from xact 0 0 7 -
++++ device
++++ has
+a 5 undo -> disk-fault xact 0
 a 6 write -> undo-pending
 a 7 commit -> undo-pending
 a 8 undo -> disk-fault xact 0
@@ -109,10 +85,8 @@ log flushed 1 end 62
 0 checkpoint next 3 oldest 3 multi 1 offset 1 oldest-multi 1 oldest-offset 1
 1 abort 3 4
 end
-",
-                ]),
-                Has(&[
-                    "a 5 undo -> ok
++++ has
+a 5 undo -> ok
 a 6 write -> ok -
 a 7 commit -> ok
 a 8 undo -> no-savepoint
@@ -130,14 +104,8 @@ log flushed 2 end 80
 0 checkpoint next 3 oldest 3 multi 1 offset 1 oldest-multi 1 oldest-offset 1
 1 commit 3
 end
-",
-                ]),
-            ],
-        )],
-    },
-    Row {
-        name: "a_sub_committed_id_is_asked_of_its_parent",
-        script: "# Of two ids on two pages the lower one's state can't be set, and the other one is sub-committed by then:
+=== a_sub_committed_id_is_asked_of_its_parent
+# Of two ids on two pages the lower one's state can't be set, and the other one is sub-committed by then:
 # whether it has committed is asked of its parent, whose page can't be read either.
 .banks 2
 .start 32767
@@ -148,36 +116,22 @@ a did 32768
 a commit
 a did 32768
 a did 32767
-",
-        fault: Behind,
-        parts: &[Part(
-            Xact(0),
-            (0, 7),
-            NO_CRASH,
-            &[
-                Device,
-                Has(&[
-                    "a 3 write -> ok 32767 32768
+--- from xact 0 0 7 -
++++ device
++++ has
+a 3 write -> ok 32767 32768
 a 4 did 32768 -> no
 a 5 commit -> disk-fault xact 0
 a 6 did 32768 -> disk-fault xact 0
 a 7 did 32767 -> disk-fault xact 0
-",
-                ]),
-                Has(&[
-                    "a 3 write -> ok 32767 32768
++++ has
+a 3 write -> ok 32767 32768
 a 4 did 32768 -> no
 a 5 commit -> ok
 a 6 did 32768 -> yes
 a 7 did 32767 -> yes
-",
-                ]),
-            ],
-        )],
-    },
-    Row {
-        name: "a_fault_of_pg_subtrans_leaves_no_end_pending",
-        script: "# An id whose parent isn't recorded was given, and stays so; a commit records it first. An abort needs no
+=== a_fault_of_pg_subtrans_leaves_no_end_pending
+# An id whose parent isn't recorded was given, and stays so; a commit records it first. An abort needs no
 # parent.
 a begin
 a save
@@ -186,16 +140,10 @@ a write
 a commit
 a save
 a abort
-",
-        fault: Behind,
-        parts: &[Part(
-            Subtrans(0),
-            (0, 8),
-            NO_CRASH,
-            &[
-                Device,
-                Has(&[
-                    "a 3 write -> disk-fault subtrans 0
+--- from subtrans 0 0 8 -
++++ device
++++ has
+a 3 write -> disk-fault subtrans 0
 a 4 write -> disk-fault subtrans 0
 a 5 commit -> disk-fault subtrans 0
 a 6 save -> ok
@@ -209,10 +157,8 @@ log flushed 1 end 62
 0 checkpoint next 3 oldest 3 multi 1 offset 1 oldest-multi 1 oldest-offset 1
 1 abort 3 4
 end
-",
-                ]),
-                Has(&[
-                    "a 3 write -> ok 3 4
++++ has
+a 3 write -> ok 3 4
 a 4 write -> ok -
 a 5 commit -> ok
 a 6 save -> no-transaction
@@ -226,14 +172,8 @@ log flushed 2 end 88
 0 checkpoint next 3 oldest 3 multi 1 offset 1 oldest-multi 1 oldest-offset 1
 1 commit 3 4
 end
-",
-                ]),
-            ],
-        )],
-    },
-    Row {
-        name: "a_state_that_left_its_buffer_is_read_again_or_refused",
-        script: "# A commit, looks at one id of each of seventeen other pages, and then one at the id that committed. A bank has
+=== a_state_that_left_its_buffer_is_read_again_or_refused
+# A commit, looks at one id of each of seventeen other pages, and then one at the id that committed. A bank has
 # sixteen buffers, so the state is written to the volume for a page that is looked at, and is read again. It is
 # found, or the look is refused. With few calls the other looks are refused, and the state is in its buffer.
 .banks 1
@@ -260,99 +200,55 @@ a see s 458755
 a see s 491523
 a see s 524291
 a see s 1048570
-",
-        fault: Behind,
-        parts: &[Part(
-            Xact(0),
-            (0, 63),
-            NO_CRASH,
-            &[
-                Device,
-                Has(&[
-                    "a 3 commit -> disk-fault xact 0
+--- from xact 0 0 63 -
++++ device
++++ has
+a 3 commit -> disk-fault xact 0
 a 4 snap s -> ok xmin 1048570 xmax 1048570 xip - sub - overflow no
-",
-                ]),
-                Has(&[
-                    "a 22 see s 1048570 -> visible
++++ has
+a 22 see s 1048570 -> visible
 history
-",
-                ]),
-                Has(&[
-                    "a 22 see s 1048570 -> disk-fault xact 0
++++ has
+a 22 see s 1048570 -> disk-fault xact 0
 history
-",
-                ]),
-                Has(&[
-                    "a 22 see s 1048570 -> visible
++++ has
+a 22 see s 1048570 -> visible
 history
-",
-                ]),
-            ],
-        )],
-    },
-    Row {
-        name: "a_dump_over_a_bank_that_fails",
-        script: "# A dump of a page that can't be read tells the fault. A commit without subtransactions asks no page of parents.
+=== a_dump_over_a_bank_that_fails
+# A dump of a page that can't be read tells the fault. A commit without subtransactions asks no page of parents.
 a begin
 .dump subtrans 0 0 4
 a write
 a commit
-",
-        fault: Behind,
-        parts: &[Part(
-            Subtrans(0),
-            (0, 4),
-            NO_CRASH,
-            &[
-                Device,
-                Has(&[
-                    "dump subtrans 0 0 4 -> disk-fault subtrans 0
+--- from subtrans 0 0 4 -
++++ device
++++ has
+dump subtrans 0 0 4 -> disk-fault subtrans 0
 round 2
 a 2 write -> ok 3
 a 3 commit -> ok
 history
-",
-                ]),
-                Has(&[
-                    "dump subtrans 0 0 4 -> 00 00 00 00
++++ has
+dump subtrans 0 0 4 -> 00 00 00 00
 round 2
 a 2 write -> ok 3
 a 3 commit -> ok
 history
-",
-                ]),
-            ],
-        )],
-    },
-    Row {
-        name: "a_dump_over_a_bank_of_states_that_fails",
-        script: ".dump xact 4 0 1\n",
-        fault: Behind,
-        parts: &[Part(
-            Xact(0),
-            (0, 7),
-            NO_CRASH,
-            &[
-                Device,
-                Has(&[
-                    "dump xact 4 0 1 -> disk-fault xact 0
+=== a_dump_over_a_bank_of_states_that_fails
+.dump xact 4 0 1
+--- from xact 0 0 7 -
++++ device
++++ has
+dump xact 4 0 1 -> disk-fault xact 0
 history
-",
-                ]),
-                Has(&[
-                    "dump xact 4 0 1 -> 00
++++ has
+dump xact 4 0 1 -> 00
 history
-",
-                ]),
-            ],
-        )],
-    },
-];
+";
 
 #[test]
 fn banks_that_fail(rt: HostRuntime) {
-    check_rows(&rt, &ROWS);
+    check_rows(&rt, ROWS);
 }
 
 /// Thirty-three transactions of 1,000 savepoints each, all but the last committed; then a write and a commit more.

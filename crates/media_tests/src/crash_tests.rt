@@ -1,13 +1,8 @@
 //! Lives over a log that fails and crashes: what was answered `ok` stays, and what was in doubt stays or doesn't.
-use crate::rows::Fault::Behind;
-use crate::rows::Way::Has;
-use crate::rows::{EACH_CRASH, Part, Row, check_rows};
-use disk_core::Which::Log;
+use crate::rows::check_rows;
 
-const ROWS: [Row; 3] = [
-    Row {
-        name: "a_commit_whose_gate_is_not_written_is_lost",
-        script: "# A flush is a write, a sync, the write of the gate, and a sync. Where one of the first three fails the commit
+const ROWS: &str = "=== a_commit_whose_gate_is_not_written_is_lost
+# A flush is a write, a sync, the write of the gate, and a sync. Where one of the first three fails the commit
 # doesn't stand in the next life, whatever the crash leaves.
 a begin
 a write
@@ -20,28 +15,21 @@ a commit
 b snap s
 b see s 3
 b see s 4
-",
-        fault: Behind,
-        parts: &[Part(
-            Log,
-            (12, 14),
-            EACH_CRASH,
-            &[Has(&[
-                "a 6 commit -> log-fault\n",
-                "log flushed 2 end 80\n",
-                "life 2 from 2 next 4 oldest 3 multi 1 offset 1 oldest-multi 1 oldest-offset 1\n",
-                "b 2 see s 3 -> visible
+--- from log 0 12 14 lost kept torn
++++ has
+a 6 commit -> log-fault
+...
+log flushed 2 end 80
+...
+life 2 from 2 next 4 oldest 3 multi 1 offset 1 oldest-multi 1 oldest-offset 1
+...
+b 2 see s 3 -> visible
 b 3 see s 4 -> hidden
-",
-                "log flushed 3 end 142
+...
+log flushed 3 end 142
 2 checkpoint next 4 oldest 3 multi 1 offset 1 oldest-multi 1 oldest-offset 1
-",
-            ])],
-        )],
-    },
-    Row {
-        name: "a_commit_whose_gate_is_not_synced_is_in_doubt",
-        script: "# Where the last sync fails the gate is on disk or isn't. It stands at an even place, of which a torn crash
+=== a_commit_whose_gate_is_not_synced_is_in_doubt
+# Where the last sync fails the gate is on disk or isn't. It stands at an even place, of which a torn crash
 # keeps nothing.
 a begin
 a write
@@ -54,39 +42,26 @@ a commit
 b snap s
 b see s 3
 b see s 4
-",
-        fault: Behind,
-        parts: &[
-            Part(
-                Log,
-                (15, 15),
-                &["lost", "torn"],
-                &[Has(&[
-                    "a 6 commit -> log-fault\n",
-                    "life 2 from 2 next 4 oldest 3 multi 1 offset 1 oldest-multi 1 oldest-offset 1\n",
-                    "b 2 see s 3 -> visible
+--- from log 0 15 15 lost torn
++++ has
+a 6 commit -> log-fault
+...
+life 2 from 2 next 4 oldest 3 multi 1 offset 1 oldest-multi 1 oldest-offset 1
+...
+b 2 see s 3 -> visible
 b 3 see s 4 -> hidden
-",
-                ])],
-            ),
-            Part(
-                Log,
-                (15, 15),
-                &["kept"],
-                &[Has(&[
-                    "a 6 commit -> log-fault\n",
-                    "log flushed 2 end 80\n",
-                    "life 2 from 3 next 5 oldest 3 multi 1 offset 1 oldest-multi 1 oldest-offset 1\n",
-                    "b 2 see s 3 -> visible
+--- from log 0 15 15 kept
++++ has
+a 6 commit -> log-fault
+...
+log flushed 2 end 80
+...
+life 2 from 3 next 5 oldest 3 multi 1 offset 1 oldest-multi 1 oldest-offset 1
+...
+b 2 see s 3 -> visible
 b 3 see s 4 -> visible
-",
-                ])],
-            ),
-        ],
-    },
-    Row {
-        name: "a_commit_that_was_answered_ok_stays",
-        script: "a begin
+=== a_commit_that_was_answered_ok_stays
+a begin
 a write
 a commit
 .round
@@ -97,25 +72,19 @@ a commit
 b snap s
 b see s 3
 b see s 4
-",
-        fault: Behind,
-        parts: &[Part(
-            Log,
-            (16, 16),
-            EACH_CRASH,
-            &[Has(&[
-                "a 6 commit -> ok\n",
-                "log flushed 3 end 98\n",
-                "life 2 from 3 next 5 oldest 3 multi 1 offset 1 oldest-multi 1 oldest-offset 1\n",
-                "b 2 see s 3 -> visible
+--- from log 0 16 16 lost kept torn
++++ has
+a 6 commit -> ok
+...
+log flushed 3 end 98
+...
+life 2 from 3 next 5 oldest 3 multi 1 offset 1 oldest-multi 1 oldest-offset 1
+...
+b 2 see s 3 -> visible
 b 3 see s 4 -> visible
-",
-            ])],
-        )],
-    },
-];
+";
 
 #[test]
 fn crashes_behind_a_log_that_fails(rt: HostRuntime) {
-    check_rows(&rt, &ROWS);
+    check_rows(&rt, ROWS);
 }

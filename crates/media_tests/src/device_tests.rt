@@ -1,51 +1,55 @@
 //! Runs over devices that fail: one volume passes so many calls, and then fails each. Opening a life makes eight calls on
 //! the log's volume, and each flush four.
-use crate::rows::Fault::Behind;
-use crate::rows::Way::{Device, Report};
-use crate::rows::{NO_CRASH, Part, Row, check_rows};
+use crate::rows::check_rows;
 use crate::runs::{run_words, text_from};
-use disk_core::Which::{Log, Members, Offsets, Subtrans, Xact};
+use disk_core::Which::Log;
 use disk_fuse::Fails;
 use std::alloc::AllocGlobal;
 use std::process::Abort;
 use std::sync::Wait;
 use std::thread::Threads;
 
-const ROWS: [Row; 7] = [
-    Row {
-        name: "a_life_is_not_opened_over_a_log_that_fails",
-        script: "a begin\n",
-        fault: Behind,
-        parts: &[Part(Log, (0, 7), NO_CRASH, &[Device])],
-    },
-    Row {
-        name: "a_life_is_not_opened_over_a_bank_that_fails",
-        script: "# A new cluster asks each bank of the four stores for its pages.
+const ROWS: &str = "=== a_life_is_not_opened_over_a_log_that_fails
 a begin
-",
-        fault: Behind,
-        parts: &[
-            Part(Xact(0), (0, 0), NO_CRASH, &[Device]),
-            Part(Subtrans(0), (0, 0), NO_CRASH, &[Device]),
-            Part(Offsets(0), (0, 0), NO_CRASH, &[Device]),
-            Part(Members(0), (0, 0), NO_CRASH, &[Device]),
-            Part(Xact(1), (0, 0), NO_CRASH, &[Device]),
-            Part(Subtrans(1), (0, 0), NO_CRASH, &[Device]),
-            Part(Offsets(1), (0, 0), NO_CRASH, &[Device]),
-            Part(Members(1), (0, 0), NO_CRASH, &[Device]),
-            Part(Xact(2), (0, 0), NO_CRASH, &[Device]),
-            Part(Subtrans(2), (0, 0), NO_CRASH, &[Device]),
-            Part(Offsets(2), (0, 0), NO_CRASH, &[Device]),
-            Part(Members(2), (0, 0), NO_CRASH, &[Device]),
-            Part(Xact(3), (0, 0), NO_CRASH, &[Device]),
-            Part(Subtrans(3), (0, 0), NO_CRASH, &[Device]),
-            Part(Offsets(3), (0, 0), NO_CRASH, &[Device]),
-            Part(Members(3), (0, 0), NO_CRASH, &[Device]),
-        ],
-    },
-    Row {
-        name: "a_fault_of_the_log_leaves_the_commit_pending",
-        script: "# Whichever of the four calls of its flush fails, the commit is pending, and the log is down for all others.
+--- from log 0 0 7 -
++++ device
+=== a_life_is_not_opened_over_a_bank_that_fails
+# A new cluster asks each bank of the four stores for its pages.
+a begin
+--- from xact 0 0 0 -
++++ device
+--- from subtrans 0 0 0 -
++++ device
+--- from offsets 0 0 0 -
++++ device
+--- from members 0 0 0 -
++++ device
+--- from xact 1 0 0 -
++++ device
+--- from subtrans 1 0 0 -
++++ device
+--- from offsets 1 0 0 -
++++ device
+--- from members 1 0 0 -
++++ device
+--- from xact 2 0 0 -
++++ device
+--- from subtrans 2 0 0 -
++++ device
+--- from offsets 2 0 0 -
++++ device
+--- from members 2 0 0 -
++++ device
+--- from xact 3 0 0 -
++++ device
+--- from subtrans 3 0 0 -
++++ device
+--- from offsets 3 0 0 -
++++ device
+--- from members 3 0 0 -
++++ device
+=== a_fault_of_the_log_leaves_the_commit_pending
+# Whichever of the four calls of its flush fails, the commit is pending, and the log is down for all others.
 a begin
 a write
 a commit
@@ -62,14 +66,9 @@ b commit
 b abort
 c snap s
 c see s 3
-",
-        fault: Behind,
-        parts: &[Part(
-            Log,
-            (8, 11),
-            NO_CRASH,
-            &[Report(
-                "txid report 1
+--- from log 0 8 11 -
++++ report
+txid report 1
 life 1 from 0 next 3 oldest 3 multi 1 offset 1 oldest-multi 1 oldest-offset 1
 round 1
 a 1 begin -> ok
@@ -98,13 +97,8 @@ log flushed 1 end 62
 0 checkpoint next 3 oldest 3 multi 1 offset 1 oldest-multi 1 oldest-offset 1
 1 commit 3
 end
-",
-            )],
-        )],
-    },
-    Row {
-        name: "a_commit_before_the_fault_is_visible_behind_it",
-        script: "# The commit before the fault stays, in the log and for all who look.
+=== a_commit_before_the_fault_is_visible_behind_it
+# The commit before the fault stays, in the log and for all who look.
 a begin
 a write
 a commit
@@ -116,14 +110,9 @@ a commit
 b snap s
 b see s 3
 b see s 4
-",
-        fault: Behind,
-        parts: &[Part(
-            Log,
-            (12, 15),
-            NO_CRASH,
-            &[Report(
-                "txid report 1
+--- from log 0 12 15 -
++++ report
+txid report 1
 life 1 from 0 next 3 oldest 3 multi 1 offset 1 oldest-multi 1 oldest-offset 1
 round 1
 a 1 begin -> ok
@@ -148,13 +137,8 @@ log flushed 2 end 80
 1 commit 3
 2 commit 4
 end
-",
-            )],
-        )],
-    },
-    Row {
-        name: "an_abort_is_done_while_the_log_is_down",
-        script: "# An abort needs no flush, so no fault of the log meets it; of a transaction with an id it leaves its record out
+=== an_abort_is_done_while_the_log_is_down
+# An abort needs no flush, so no fault of the log meets it; of a transaction with an id it leaves its record out
 # where the log is down.
 a begin
 a write
@@ -168,14 +152,9 @@ b save
 b write
 b undo
 b abort
-",
-        fault: Behind,
-        parts: &[Part(
-            Log,
-            (8, 8),
-            NO_CRASH,
-            &[Report(
-                "txid report 1
+--- from log 0 8 8 -
++++ report
+txid report 1
 life 1 from 0 next 3 oldest 3 multi 1 offset 1 oldest-multi 1 oldest-offset 1
 round 1
 a 1 begin -> ok
@@ -203,13 +182,8 @@ log flushed 1 end 62
 0 checkpoint next 3 oldest 3 multi 1 offset 1 oldest-multi 1 oldest-offset 1
 1 commit 3
 end
-",
-            )],
-        )],
-    },
-    Row {
-        name: "a_multixact_is_pending_while_the_log_is_down",
-        script: "# The first command takes a number and can't append the record; the second goes on with it, and no second number is
+=== a_multixact_is_pending_while_the_log_is_down
+# The first command takes a number and can't append the record; the second goes on with it, and no second number is
 # taken. Its offset doesn't stand, and a commit is pending.
 a begin
 a write
@@ -223,14 +197,9 @@ b multi 3:sh
 c snap s
 c seemulti s 1
 .checkpoint
-",
-        fault: Behind,
-        parts: &[Part(
-            Log,
-            (8, 11),
-            NO_CRASH,
-            &[Report(
-                "txid report 1
+--- from log 0 8 11 -
++++ report
+txid report 1
 life 1 from 0 next 3 oldest 3 multi 1 offset 1 oldest-multi 1 oldest-offset 1
 round 1
 a 1 begin -> ok
@@ -256,28 +225,17 @@ log flushed 1 end 62
 0 checkpoint next 3 oldest 3 multi 1 offset 1 oldest-multi 1 oldest-offset 1
 1 commit 3
 end
-",
-            )],
-        )],
-    },
-    Row {
-        name: "a_dump_over_a_log_that_fails",
-        script: "# A dump that met a fault doesn't put the log down: the commit behind it is told of a fault, and not that the
+=== a_dump_over_a_log_that_fails
+# A dump that met a fault doesn't put the log down: the commit behind it is told of a fault, and not that the
 # log is down.
 a begin
 a write
 .dump log 0 1
 a commit
 .dump log 0 1
-",
-        fault: Behind,
-        parts: &[
-            Part(
-                Log,
-                (8, 8),
-                NO_CRASH,
-                &[Report(
-                    "txid report 1
+--- from log 0 8 8 -
++++ report
+txid report 1
 life 1 from 0 next 3 oldest 3 multi 1 offset 1 oldest-multi 1 oldest-offset 1
 round 1
 a 1 begin -> ok
@@ -293,15 +251,9 @@ log flushed 1 end 62
 0 checkpoint next 3 oldest 3 multi 1 offset 1 oldest-multi 1 oldest-offset 1
 1 commit 3
 end
-",
-                )],
-            ),
-            Part(
-                Log,
-                (9, 9),
-                NO_CRASH,
-                &[Report(
-                    "txid report 1
+--- from log 0 9 9 -
++++ report
+txid report 1
 life 1 from 0 next 3 oldest 3 multi 1 offset 1 oldest-multi 1 oldest-offset 1
 round 1
 a 1 begin -> ok
@@ -317,12 +269,7 @@ log flushed 1 end 62
 0 checkpoint next 3 oldest 3 multi 1 offset 1 oldest-multi 1 oldest-offset 1
 1 commit 3
 end
-",
-                )],
-            ),
-        ],
-    },
-];
+";
 
 /// a_generated_script_over_a_log_that_fails: what runs by the words `gen 1 1` write where the log's volume passes so many calls,
 /// from the first number to the last.
@@ -356,7 +303,7 @@ fn check_generated(
 
 #[test]
 fn devices_that_fail(rt: HostRuntime) {
-    check_rows(&rt, &ROWS);
+    check_rows(&rt, ROWS);
     for (first, last, status, text) in &GENERATED {
         for passes in *first..=*last {
             check_generated(&rt, passes, *status, text);

@@ -1,14 +1,8 @@
 //! Commands and checkpoints that one call stops, and that are gone on with. What runs write is worked out by hand from the rules.
-use crate::again_rows::AGAIN_ROWS;
-use crate::rows::Fault::Once;
-use crate::rows::Way::{But, Device, Report, With};
-use crate::rows::{NO_CRASH, Part, Row, check_rows};
-use disk_core::Which::{Log, Members, Offsets, Subtrans, Xact};
+use crate::rows::check_rows;
 
-const ROWS: [Row; 5] = [
-    Row {
-        name: "a_log_that_failed_once_is_down",
-        script: "# Opening a life makes eight calls on the log, and a flush four. Whichever of these fails, the log stays down, though its
+const ROWS: &str = "=== a_log_that_failed_once_is_down
+# Opening a life makes eight calls on the log, and a flush four. Whichever of these fails, the log stays down, though its
 # volume does all other calls.
 a begin
 a write
@@ -22,9 +16,8 @@ b multi 3:sh
 c snap s
 c seemulti s 1
 .checkpoint
-",
-        fault: Once(
-            "txid report 1
+--- report
+txid report 1
 life 1 from 0 next 3 oldest 3 multi 1 offset 1 oldest-multi 1 oldest-offset 1
 round 1
 a 1 begin -> ok
@@ -55,16 +48,11 @@ log flushed 5 end 207
 3 multi 2 2 3:sh
 4 checkpoint next 4 oldest 3 multi 3 offset 3 oldest-multi 1 oldest-offset 1
 end
-",
-        ),
-        parts: &[
-            Part(Log, (1, 8), NO_CRASH, &[Device]),
-            Part(
-                Log,
-                (9, 12),
-                NO_CRASH,
-                &[Report(
-                    "txid report 1
+--- once log 0 1 8 -
++++ device
+--- once log 0 9 12 -
++++ report
+txid report 1
 life 1 from 0 next 3 oldest 3 multi 1 offset 1 oldest-multi 1 oldest-offset 1
 round 1
 a 1 begin -> ok
@@ -90,14 +78,8 @@ log flushed 1 end 62
 0 checkpoint next 3 oldest 3 multi 1 offset 1 oldest-multi 1 oldest-offset 1
 1 commit 3
 end
-",
-                )],
-            ),
-        ],
-    },
-    Row {
-        name: "an_undo_is_gone_on_with",
-        script: "a begin
+=== an_undo_is_gone_on_with
+a begin
 a write
 a save
 a write
@@ -108,9 +90,8 @@ a commit
 b snap s
 b see s 3
 b see s 4
-",
-        fault: Once(
-            "txid report 1
+--- report
+txid report 1
 life 1 from 0 next 3 oldest 3 multi 1 offset 1 oldest-multi 1 oldest-offset 1
 round 1
 a 1 begin -> ok
@@ -135,35 +116,22 @@ log flushed 2 end 80
 0 checkpoint next 3 oldest 3 multi 1 offset 1 oldest-multi 1 oldest-offset 1
 1 commit 3
 end
-",
-        ),
-        parts: &[Part(
-            Xact(0),
-            (1, 8),
-            NO_CRASH,
-            &[
-                Device,
-                But(
-                    "a 5 undo -> disk-fault xact 0
+--- once xact 0 1 8 -
++++ device
++++ but
+a 5 undo -> disk-fault xact 0
 a 6 undo -> ok
 undo a 6 4
-",
-                ),
-                But(""),
-            ],
-        )],
-    },
-    Row {
-        name: "an_abort_is_gone_on_with",
-        script: "a begin
++++ but
+=== an_abort_is_gone_on_with
+a begin
 a write
 a abort
 a abort
 b snap s
 b see s 3
-",
-        fault: Once(
-            "txid report 1
+--- report
+txid report 1
 life 1 from 0 next 3 oldest 3 multi 1 offset 1 oldest-multi 1 oldest-offset 1
 round 1
 a 1 begin -> ok
@@ -181,27 +149,15 @@ log flushed 1 end 62
 0 checkpoint next 3 oldest 3 multi 1 offset 1 oldest-multi 1 oldest-offset 1
 1 abort 3
 end
-",
-        ),
-        parts: &[Part(
-            Xact(0),
-            (1, 8),
-            NO_CRASH,
-            &[
-                Device,
-                But(
-                    "a 3 abort -> disk-fault xact 0
+--- once xact 0 1 8 -
++++ device
++++ but
+a 3 abort -> disk-fault xact 0
 a 4 abort -> ok
 abort a 4 3
-",
-                ),
-                But(""),
-            ],
-        )],
-    },
-    Row {
-        name: "a_write_is_gone_on_with",
-        script: "# Its ids are given, and the second write records the parent.
++++ but
+=== a_write_is_gone_on_with
+# Its ids are given, and the second write records the parent.
 a begin
 a save
 a write
@@ -209,9 +165,8 @@ a write
 a commit
 b snap s
 b see s 4
-",
-        fault: Once(
-            "txid report 1
+--- report
+txid report 1
 life 1 from 0 next 3 oldest 3 multi 1 offset 1 oldest-multi 1 oldest-offset 1
 round 1
 a 1 begin -> ok
@@ -231,18 +186,13 @@ log flushed 2 end 88
 0 checkpoint next 3 oldest 3 multi 1 offset 1 oldest-multi 1 oldest-offset 1
 1 commit 3 4
 end
-",
-        ),
-        parts: &[Part(
-            Subtrans(0),
-            (1, 8),
-            NO_CRASH,
-            &[Device, But("a 3 write -> disk-fault subtrans 0\n"), But("")],
-        )],
-    },
-    Row {
-        name: "a_multixact_is_finished_by_the_next_one",
-        script: "# It has its number and its record; the next command sets its members and its offset, and then makes its own.
+--- once subtrans 0 1 8 -
++++ device
++++ but
+a 3 write -> disk-fault subtrans 0
++++ but
+=== a_multixact_is_finished_by_the_next_one
+# It has its number and its record; the next command sets its members and its offset, and then makes its own.
 a begin
 a write
 a multi 3:sh
@@ -251,9 +201,8 @@ a snap s
 a seemulti s 1
 a seemulti s 2
 .checkpoint
-",
-        fault: Once(
-            "txid report 1
+--- report
+txid report 1
 life 1 from 0 next 3 oldest 3 multi 1 offset 1 oldest-multi 1 oldest-offset 1
 round 1
 a 1 begin -> ok
@@ -280,53 +229,170 @@ log flushed 4 end 189
 2 multi 2 2 3:sh
 3 checkpoint next 4 oldest 3 multi 3 offset 3 oldest-multi 1 oldest-offset 1
 end
-",
-        ),
-        parts: &[
-            Part(
-                Offsets(0),
-                (1, 10),
-                NO_CRASH,
-                &[
-                    Device,
-                    But("a 3 multi 3:sh -> disk-fault offsets 0\n"),
-                    With(
-                        "a 3 multi 3:sh -> ok 1 1
+--- once offsets 0 1 10 -
++++ device
++++ but
+a 3 multi 3:sh -> disk-fault offsets 0
++++ with
+a 3 multi 3:sh -> ok 1 1
 a 4 multi 3:sh -> ok 2 2
 checkpoint -> disk-fault offsets 0
 log flushed 3 end 127
 2 multi 2 2 3:sh
 end
-",
-                    ),
-                    But(""),
-                ],
-            ),
-            Part(
-                Members(0),
-                (1, 10),
-                NO_CRASH,
-                &[
-                    Device,
-                    But("a 3 multi 3:sh -> disk-fault members 0\n"),
-                    With(
-                        "a 3 multi 3:sh -> ok 1 1
++++ but
+--- once members 0 1 10 -
++++ device
++++ but
+a 3 multi 3:sh -> disk-fault members 0
++++ with
+a 3 multi 3:sh -> ok 1 1
 a 4 multi 3:sh -> ok 2 2
 checkpoint -> disk-fault members 0
 log flushed 3 end 127
 2 multi 2 2 3:sh
 end
-",
-                    ),
-                    But(""),
-                ],
-            ),
-        ],
-    },
-];
++++ but
+=== a_checkpoint_is_made_again
+# Behind a fault of a bank the same life makes the next one, behind a fault of the log the next life does.
+a begin
+a write
+a commit
+.checkpoint
+.checkpoint
+.crash lost
+b snap s
+b see s 3
+.checkpoint
+--- report
+txid report 1
+life 1 from 0 next 3 oldest 3 multi 1 offset 1 oldest-multi 1 oldest-offset 1
+round 1
+a 1 begin -> ok
+a 2 write -> ok 3
+a 3 commit -> ok
+checkpoint -> ok
+checkpoint -> ok
+history
+id a 2 3
+commit a 3 3
+multis
+log flushed 4 end 204
+0 checkpoint next 3 oldest 3 multi 1 offset 1 oldest-multi 1 oldest-offset 1
+1 commit 3
+2 checkpoint next 4 oldest 3 multi 1 offset 1 oldest-multi 1 oldest-offset 1
+3 checkpoint next 4 oldest 3 multi 1 offset 1 oldest-multi 1 oldest-offset 1
+crash lost
+life 2 from 4 next 4 oldest 3 multi 1 offset 1 oldest-multi 1 oldest-offset 1
+round 1
+b 1 snap s -> ok xmin 4 xmax 4 xip - sub - overflow no
+b 2 see s 3 -> visible
+checkpoint -> ok
+history
+snap b 1 s
+multis
+log flushed 6 end 328
+4 checkpoint next 4 oldest 3 multi 1 offset 1 oldest-multi 1 oldest-offset 1
+5 checkpoint next 4 oldest 3 multi 1 offset 1 oldest-multi 1 oldest-offset 1
+end
+--- once xact 0 1 20 -
++++ device
++++ with
+a 3 commit -> disk-fault xact 0
+checkpoint -> commit-pending a
+checkpoint -> commit-pending a
+log flushed 2 end 80
+life 2 from 2 next 4 oldest 3 multi 1 offset 1 oldest-multi 1 oldest-offset 1
+b 2 see s 3 -> visible
+checkpoint -> ok
+log flushed 4 end 204
++++ with
+checkpoint -> disk-fault xact 0
+checkpoint -> ok
+log flushed 3 end 142
+2 checkpoint next 4 oldest 3 multi 1 offset 1 oldest-multi 1 oldest-offset 1
+life 2 from 3 next 4 oldest 3 multi 1 offset 1 oldest-multi 1 oldest-offset 1
+b 2 see s 3 -> visible
+checkpoint -> ok
+log flushed 5 end 266
++++ with
+checkpoint -> ok
+checkpoint -> disk-fault xact 0
+log flushed 3 end 142
+life 2 from 3 next 4 oldest 3 multi 1 offset 1 oldest-multi 1 oldest-offset 1
+b 2 see s 3 -> visible
+checkpoint -> ok
+log flushed 5 end 266
++++ device
++++ but
+b 2 see s 3 -> disk-fault xact 0
++++ with
+checkpoint -> ok
+checkpoint -> ok
+log flushed 4 end 204
+life 2 from 4 next 4 oldest 3 multi 1 offset 1 oldest-multi 1 oldest-offset 1
+b 2 see s 3 -> visible
+checkpoint -> disk-fault xact 0
+log flushed 5 end 266
++++ but
+--- once log 0 1 50 -
++++ device
++++ with
+a 3 commit -> log-fault
+checkpoint -> commit-pending a
+checkpoint -> commit-pending a
+log flushed 1 end 62
+life 2 from 1 next 3 oldest 3 multi 1 offset 1 oldest-multi 1 oldest-offset 1
+b 2 see s 3 -> hidden
+checkpoint -> ok
+log flushed 3 end 186
++++ with
+checkpoint -> log-fault
+checkpoint -> log-down 2
+log flushed 2 end 80
+life 2 from 2 next 4 oldest 3 multi 1 offset 1 oldest-multi 1 oldest-offset 1
+b 2 see s 3 -> visible
+checkpoint -> ok
+log flushed 4 end 204
++++ with
+checkpoint -> log-fault
+checkpoint -> log-down 3
+log flushed 3 end 142
+life 2 from 3 next 4 oldest 3 multi 1 offset 1 oldest-multi 1 oldest-offset 1
+b 2 see s 3 -> visible
+checkpoint -> ok
+log flushed 5 end 266
++++ with
+checkpoint -> ok
+checkpoint -> log-fault
+log flushed 3 end 142
+life 2 from 3 next 4 oldest 3 multi 1 offset 1 oldest-multi 1 oldest-offset 1
+b 2 see s 3 -> visible
+checkpoint -> ok
+log flushed 5 end 266
++++ with
+checkpoint -> ok
+checkpoint -> log-fault
+log flushed 4 end 204
+life 2 from 4 next 4 oldest 3 multi 1 offset 1 oldest-multi 1 oldest-offset 1
+b 2 see s 3 -> visible
+checkpoint -> ok
+log flushed 6 end 328
++++ device
++++ with
+life 2 from 4 next 4 oldest 3 multi 1 offset 1 oldest-multi 1 oldest-offset 1
+b 2 see s 3 -> visible
+checkpoint -> log-fault
+log flushed 5 end 266
++++ with
+life 2 from 4 next 4 oldest 3 multi 1 offset 1 oldest-multi 1 oldest-offset 1
+b 2 see s 3 -> visible
+checkpoint -> log-fault
+log flushed 6 end 328
++++ but
+";
 
 #[test]
 fn commands_that_are_stopped_once(rt: HostRuntime) {
-    check_rows(&rt, &ROWS);
-    check_rows(&rt, &AGAIN_ROWS);
+    check_rows(&rt, ROWS);
 }

@@ -3,11 +3,7 @@
 #![tactic(auto)]
 
 #[cfg(test)]
-mod again_rows;
-#[cfg(test)]
 mod again_tests;
-#[cfg(test)]
-mod bank_checkpoint_rows;
 #[cfg(test)]
 mod bank_fault_tests;
 #[cfg(test)]
@@ -30,7 +26,5 @@ mod runs;
 mod stopped_tests;
 #[cfg(test)]
 mod thread_tests;
-#[cfg(test)]
-mod two_pages_rows;
 #[cfg(test)]
 mod whole_help;

@@ -4,55 +4,16 @@ use disk_core::Which;
 use disk_fuse::Fails;
 use std::alloc::AllocGlobal;
 use std::process::Abort;
+use std::str::SplitWhitespace;
 use std::sync::Wait;
 use std::thread::Threads;
 
-/// Which calls a volume fails.
-#[derive(Drop)]
-pub enum Fault {
-    /// All behind so many.
-    Behind,
-    /// The one of this number. A run in which no call fails has this report.
-    Once(&'static str),
-}
-
-/// How a run comes out. All but the first are status 0 and a lawful report.
-#[derive(Drop)]
-pub enum Way {
-    /// A life couldn't be opened: status 5, and the report is as far as the lives that were over the one without a fault.
-    Device,
-    Report(&'static str),
-    /// The report has each of these texts, whose lines stand one behind another.
-    Has(&'static [&'static str]),
-    /// It has these lines, in this order.
-    With(&'static str),
-    /// It is the one without a fault but for these lines.
-    But(&'static str),
-    /// It is the one without a fault but for one line, which ends so.
-    One(&'static str),
-}
-
-/// Runs over this volume. The number of calls goes up from the first to the last, with each of these kinds of crash for the word
-/// HOW of the script. The first runs come out the first of the ways, the next ones the next, and so on.
-#[derive(Drop)]
-pub struct Part(
-    pub Which,
-    pub (u64, u64),
-    pub &'static [&'static str],
-    pub &'static [Way],
-);
-
-/// For a script without a crash, or with one of a kind.
-pub const NO_CRASH: &[&str] = &[""];
-
-pub const EACH_CRASH: &[&str] = &["lost", "kept", "torn"];
-
-#[derive(Drop)]
-pub struct Row {
-    pub name: &'static str,
-    pub script: &'static str,
-    pub fault: Fault,
-    pub parts: &'static [Part],
+/// A script, and the report of a run in which no call fails, where the row has it.
+#[derive(Clone, Copy)]
+struct Row<'a> {
+    name: &'a str,
+    script: &'a str,
+    plain: &'a str,
 }
 
 /// Whether these lines stand in a text, one behind another.
@@ -63,8 +24,9 @@ fn has_lines(text: &str, lines: &str) -> bool {
     }
 }
 
-fn has_all(text: &str, parts: &[&str]) -> bool {
-    for lines in parts {
+/// Whether each of these texts stands so in a text.
+fn has_all(text: &str, parts: &str) -> bool {
+    for lines in parts.split("...\n") {
         if !has_lines(text, lines) {
             return false;
         }
@@ -115,42 +77,47 @@ fn ends_with_device(run: &Ran, plain: &str) -> bool {
     }
 }
 
-/// Whether a run came out so. None does where no way is told.
-fn is_so(rt: &(impl Abort + AllocGlobal), way: Option<&Way>, plain: &str, run: &Ran) -> bool {
+/// Whether a run came out so. `device`: a life couldn't be opened, and the report is the plain one as far as the lives that
+/// were over. All else is status 0 and a lawful report. `report`: it is this. `has`: it has each of these texts, between which
+/// stands a line `...`. `with`: it has these lines, in this order. `but`: it is the plain one but for these lines. `one`: but for
+/// one line, which ends so.
+fn is_so(rt: &(impl Abort + AllocGlobal), way: &str, plain: &str, run: &Ran) -> bool {
+    let (kind, lines) = way.split_once("\n").unwrap_or((way, ""));
     let written = run.written.as_str();
-    let is_as_told = match way {
-        Some(Way::Device) => return ends_with_device(run, plain),
-        Some(Way::Report(report)) => written == *report,
-        Some(Way::Has(parts)) => has_all(written, parts),
-        Some(Way::With(lines)) => has_in_order(written, lines),
-        Some(Way::But(lines)) => changed_lines(rt, written, plain).as_str() == *lines,
-        Some(Way::One(end)) => is_one_line(changed_lines(rt, written, plain).as_str(), end),
-        None => false,
+    let is_as_told = match kind {
+        "device" => return ends_with_device(run, plain),
+        "report" => written == lines,
+        "has" => has_all(written, lines),
+        "with" => has_in_order(written, lines),
+        "but" => changed_lines(rt, written, plain).as_str() == lines,
+        "one" => is_one_line(changed_lines(rt, written, plain).as_str(), lines),
+        _ => false,
     };
     run.status == 0 && is_as_told && is_lawful(rt, written)
 }
 
-/// Runs the script over this volume, of which the row's fault meets calls by this number. Answers the place of the way in which
-/// the run comes out: this one or the next.
+/// The way of this number that a part tells. No run comes out in the one behind the last.
+fn way_at<'a>(part: &'a str, number: usize) -> &'a str {
+    part.split("+++ ").nth(number).unwrap_or("no way")
+}
+
+/// Runs the script over this volume, which fails such calls. Answers the number of the way in which the run comes out: this one or
+/// the next.
 fn way_of(
     rt: &(impl Abort + AllocGlobal + Threads + Wait + Sync),
-    row: &Row,
+    row: Row<'_>,
+    part: &str,
     script: &str,
     at: Which,
-    calls: u64,
-    ways: &[Way],
-    place: usize,
+    fails: Fails,
+    number: usize,
 ) -> usize {
-    let (fails, plain) = match row.fault {
-        Fault::Behind => (Fails::Behind(calls), ""),
-        Fault::Once(plain) => (Fails::At(calls), plain),
-    };
     let run = run_over(rt, script, at, fails, 1);
-    if is_so(rt, ways.get(place), plain, &run) {
-        return place;
+    if is_so(rt, way_at(part, number), row.plain, &run) {
+        return number;
     }
-    let next = place.saturating_add(1);
-    let is_well = is_so(rt, ways.get(next), plain, &run);
+    let next = number.saturating_add(1);
+    let is_well = is_so(rt, way_at(part, next), row.plain, &run);
     assert!(rt;
         is_well,
         "{}, {at:?} {fails:?}: {} {}",
@@ -159,38 +126,91 @@ fn way_of(
     next
 }
 
-/// Runs come out in each of the ways that the part tells.
-fn check_part(rt: &(impl Abort + AllocGlobal + Threads + Wait + Sync), row: &Row, part: &Part) {
-    let Part(at, (first, last), crashes, ways) = part;
-    for crash in *crashes {
+/// The number that the next word writes.
+fn next_number(rt: &impl Abort, words: &mut SplitWhitespace<'_>) -> u64 {
+    let word = words.next().unwrap_or("");
+    word.parse::<u64>().ok().expect(rt, "a number")
+}
+
+/// The volume that the next two words name.
+fn next_volume(rt: &impl Abort, words: &mut SplitWhitespace<'_>) -> Which {
+    let store = words.next().unwrap_or("");
+    let bank = u32::try_from(next_number(rt, words))
+        .ok()
+        .expect(rt, "a bank");
+    match store {
+        "log" => Which::Log,
+        "xact" => Which::Xact(bank),
+        "subtrans" => Which::Subtrans(bank),
+        "offsets" => Which::Offsets(bank),
+        "members" => Which::Members(bank),
+        _ => panic!(rt; "another store"),
+    }
+}
+
+/// Runs the script of a row as its part says. They come out in each of the ways.
+fn check_part(rt: &(impl Abort + AllocGlobal + Threads + Wait + Sync), row: Row<'_>, part: &str) {
+    let (head, _) = part.split_once("\n").unwrap_or((part, ""));
+    let mut words = head.split_whitespace();
+    let is_once = words.next() == Some("once");
+    let at = next_volume(rt, &mut words);
+    let first = next_number(rt, &mut words);
+    let last = next_number(rt, &mut words);
+    for crash in words {
         let script = row
             .script
             .replace(rt.alloc(), "HOW", crash)
             .expect(rt, "memory");
-        let mut place = 0usize;
-        for calls in *first..=*last {
-            place = way_of(rt, row, script.as_str(), *at, calls, ways, place);
+        let mut number = 1usize;
+        for calls in first..=last {
+            let fails = if is_once {
+                Fails::At(calls)
+            } else {
+                Fails::Behind(calls)
+            };
+            number = way_of(rt, row, part, script.as_str(), at, fails, number);
         }
-        let is_last = place.saturating_add(1) == ways.len();
-        assert!(rt; is_last, "{}, {at:?}: {place}", row.name);
+        let is_last = way_at(part, number.saturating_add(1)) == "no way";
+        assert!(rt; is_last, "{}, {head}: {number}", row.name);
     }
 }
 
-/// A run in which no call fails has the report that the row tells.
-fn check_plain(rt: &(impl Abort + AllocGlobal + Threads + Wait + Sync), row: &Row) {
-    if let Fault::Once(plain) = row.fault {
-        let run = run_over(rt, row.script, Which::Log, Fails::At(0), 1);
-        let is_plain = run.status == 0 && run.written.as_str() == plain;
-        assert!(rt; is_plain, "{}: {} {}", row.name, run.status, run.written);
-    }
+/// A run in which no call fails has the plain report.
+fn check_plain(rt: &(impl Abort + AllocGlobal + Threads + Wait + Sync), row: Row<'_>) {
+    let run = run_over(rt, row.script, Which::Log, Fails::At(0), 1);
+    let is_plain = run.status == 0 && run.written.as_str() == row.plain;
+    assert!(rt; is_plain, "{}: {} {}", row.name, run.status, run.written);
 }
 
-/// Runs the scripts of these rows.
-pub fn check_rows(rt: &(impl Abort + AllocGlobal + Threads + Wait + Sync), rows: &[Row]) {
-    for row in rows {
+fn check_row(rt: &(impl Abort + AllocGlobal + Threads + Wait + Sync), row: &str) {
+    let (front, parts) = row.split_once("--- ").expect(rt, "a row with a part");
+    let (name, script) = front.split_once("\n").expect(rt, "a row with a name");
+    let (plain, parts) = match parts.strip_prefix("report\n") {
+        Some(parts) => parts.split_once("--- ").expect(rt, "a part"),
+        None => ("", parts),
+    };
+    let row = Row {
+        name,
+        script,
+        plain,
+    };
+    if !plain.is_empty() {
         check_plain(rt, row);
-        for part in row.parts {
-            check_part(rt, row, part);
+    }
+    for part in parts.split("--- ") {
+        check_part(rt, row, part);
+    }
+}
+
+/// Runs the scripts of these rows. A row is a line `=== NAME`, the script, maybe a line `--- report` with the report of a run in
+/// which no call fails, and parts. A part is a line `--- FAULT STORE BANK FIRST LAST CRASH ..` and the ways in which runs come out
+/// over this volume, of which the fault `from` fails each call behind so many, from FIRST to LAST, and `once` the call of this
+/// number alone, with each kind of crash for the word HOW of the script. The first runs come out in the first way, the next ones
+/// in the next, and so on. A way is a line `+++ KIND` and its lines (`is_so`).
+pub fn check_rows(rt: &(impl Abort + AllocGlobal + Threads + Wait + Sync), rows: &str) {
+    for row in rows.split("=== ") {
+        if !row.is_empty() {
+            check_row(rt, row);
         }
     }
 }

@@ -1,11 +1,8 @@
 //! Checkpoints between two rounds.
-use crate::test_help::Told::{Has, Report};
-use crate::test_help::{Row, check_rows};
+use crate::test_help::check_rows;
 
-const ROWS: [Row; 5] = [
-    Row {
-        name: "a_crash_behind_a_checkpoint",
-        script: "# The next life goes on from the checkpoint's counters, and has what was committed before it.
+const ROWS: &str = "=== a_crash_behind_a_checkpoint
+# The next life goes on from the checkpoint's counters, and has what was committed before it.
 a begin
 a write
 a commit
@@ -13,9 +10,8 @@ a commit
 .crash lost
 a snap s
 a see s 3
-",
-        told: Report(
-            "txid report 1
+--- report
+txid report 1
 life 1 from 0 next 3 oldest 3 multi 1 offset 1 oldest-multi 1 oldest-offset 1
 round 1
 a 1 begin -> ok
@@ -41,12 +37,8 @@ multis
 log flushed 4 end 204
 3 checkpoint next 4 oldest 3 multi 1 offset 1 oldest-multi 1 oldest-offset 1
 end
-",
-        ),
-    },
-    Row {
-        name: "checkpoints_before_between_and_behind_rounds",
-        script: "# Each has the counters behind the rounds before it, and stands alone in its batch: so the abort between two of
+=== checkpoints_before_between_and_behind_rounds
+# Each has the counters behind the rounds before it, and stands alone in its batch: so the abort between two of
 # them too. A transaction may go on over one.
 .checkpoint
 a begin
@@ -55,9 +47,8 @@ a write
 a abort
 .checkpoint
 .crash torn
-",
-        told: Report(
-            "txid report 1
+--- report
+txid report 1
 life 1 from 0 next 3 oldest 3 multi 1 offset 1 oldest-multi 1 oldest-offset 1
 checkpoint -> ok
 round 1
@@ -84,12 +75,8 @@ multis
 log flushed 6 end 328
 5 checkpoint next 4 oldest 3 multi 1 offset 1 oldest-multi 1 oldest-offset 1
 end
-",
-        ),
-    },
-    Row {
-        name: "an_id_given_before_a_checkpoint_is_not_given_again",
-        script: "# So an id that no other record tells of isn't given again: that of a transaction that ran on over the
+=== an_id_given_before_a_checkpoint_is_not_given_again
+# So an id that no other record tells of isn't given again: that of a transaction that ran on over the
 # checkpoint.
 a begin
 a write
@@ -99,18 +86,18 @@ b begin
 b write
 b snap s
 b see s 3
-",
-        told: Has(&[
-            "log flushed 2 end 124\n",
-            "1 checkpoint next 4 oldest 3 multi 1 offset 1 oldest-multi 1 oldest-offset 1\n",
-            "life 2 from 2 next 4 oldest 3 multi 1 offset 1 oldest-multi 1 oldest-offset 1\n",
-            "b 2 write -> ok 4\n",
-            "b 4 see s 3 -> hidden\n",
-        ]),
-    },
-    Row {
-        name: "a_checkpoint_has_the_oldest_id",
-        script: "# It has the oldest id that was announced, which no other record has, whatever banks the stores have.
+--- part
+log flushed 2 end 124
+--- part
+1 checkpoint next 4 oldest 3 multi 1 offset 1 oldest-multi 1 oldest-offset 1
+--- part
+life 2 from 2 next 4 oldest 3 multi 1 offset 1 oldest-multi 1 oldest-offset 1
+--- part
+b 2 write -> ok 4
+--- part
+b 4 see s 3 -> hidden
+=== a_checkpoint_has_the_oldest_id
+# It has the oldest id that was announced, which no other record has, whatever banks the stores have.
 .start 2144483649
 a begin
 a write
@@ -119,20 +106,18 @@ a freeze 2144483650
 .checkpoint
 .crash kept
 b status 2144483649
-",
-        told: Has(&[
-            "a 4 freeze 2144483650 -> ok
+--- part
+a 4 freeze 2144483650 -> ok
 checkpoint -> ok
 history
-",
-            "2 checkpoint next 2144483650 oldest 2144483650 multi 1 offset 1 oldest-multi 1 oldest-offset 1\n",
-            "life 2 from 3 next 2144483650 oldest 2144483650 multi 1 offset 1 oldest-multi 1 oldest-offset 1\n",
-            "b 1 status 2144483649 -> too-old 2144483650\n",
-        ]),
-    },
-    Row {
-        name: "bytes_of_a_log_that_was_forgotten",
-        script: "# What was forgotten goes, and places stay: the bytes of the checkpoint stand where they were written.
+--- part
+2 checkpoint next 2144483650 oldest 2144483650 multi 1 offset 1 oldest-multi 1 oldest-offset 1
+--- part
+life 2 from 3 next 2144483650 oldest 2144483650 multi 1 offset 1 oldest-multi 1 oldest-offset 1
+--- part
+b 1 status 2144483649 -> too-old 2144483650
+=== bytes_of_a_log_that_was_forgotten
+# What was forgotten goes, and places stay: the bytes of the checkpoint stand where they were written.
 a begin
 a write
 a commit
@@ -140,19 +125,15 @@ a commit
 .dump log 80 6
 .dump log 141 4
 .dump xact 0 0 1
-",
-        told: Has(&[
-            "checkpoint -> ok
+--- part
+checkpoint -> ok
 dump log 80 6 -> 01 39 00 00 00 04
 dump log 141 4 -> 00 00
 dump xact 0 0 1 -> 40
 history
-",
-        ]),
-    },
-];
+";
 
 #[test]
 fn checkpoints(rt: HostRuntime) {
-    check_rows(&rt, &ROWS);
+    check_rows(&rt, ROWS);
 }

@@ -1,11 +1,8 @@
 //! Savepoints, snapshots and verdicts, command by command.
-use crate::test_help::Told::{Has, Report};
-use crate::test_help::{Row, check_rows};
+use crate::test_help::check_rows;
 
-const ROWS: [Row; 5] = [
-    Row {
-        name: "undo_of_many_levels",
-        script: "a begin
+const ROWS: &str = "=== undo_of_many_levels
+a begin
 a write
 a save
 a save
@@ -23,9 +20,8 @@ b see s 3
 b see s 4
 b see s 5
 b see s 6
-",
-        told: Report(
-            "txid report 1
+--- report
+txid report 1
 life 1 from 0 next 3 oldest 3 multi 1 offset 1 oldest-multi 1 oldest-offset 1
 round 1
 a 1 begin -> ok
@@ -60,12 +56,8 @@ log flushed 2 end 80
 0 checkpoint next 3 oldest 3 multi 1 offset 1 oldest-multi 1 oldest-offset 1
 1 commit 3
 end
-",
-        ),
-    },
-    Row {
-        name: "snapshot_outlives_its_transaction",
-        script: "a begin
+=== snapshot_outlives_its_transaction
+a begin
 a write
 a snap s
 a save
@@ -81,9 +73,8 @@ a drop s
 a see s 3
 a snap s
 a see s 4
-",
-        told: Report(
-            "txid report 1
+--- report
+txid report 1
 life 1 from 0 next 3 oldest 3 multi 1 offset 1 oldest-multi 1 oldest-offset 1
 round 1
 a 1 begin -> ok
@@ -116,20 +107,15 @@ log flushed 2 end 88
 0 checkpoint next 3 oldest 3 multi 1 offset 1 oldest-multi 1 oldest-offset 1
 1 commit 3 4
 end
-",
-        ),
-    },
-    Row {
-        name: "aborted_savepoint_is_hidden",
-        script: "a begin
+=== aborted_savepoint_is_hidden
+a begin
 a save
 a write
 a abort
 b snap s
 b see s 4
-",
-        told: Report(
-            "txid report 1
+--- report
+txid report 1
 life 1 from 0 next 3 oldest 3 multi 1 offset 1 oldest-multi 1 oldest-offset 1
 round 1
 a 1 begin -> ok
@@ -148,40 +134,27 @@ log flushed 1 end 62
 0 checkpoint next 3 oldest 3 multi 1 offset 1 oldest-multi 1 oldest-offset 1
 1 abort 3 4
 end
-",
-        ),
-    },
-    Row {
-        name: "id_below_zero_is_too_old",
-        script: "# The full id near the xmax that ends so would be below 0.
+=== id_below_zero_is_too_old
+# The full id near the xmax that ends so would be below 0.
 .start 10
 a snap s
 a see s 4294967295
-",
-        told: Has(&[
-            "a 1 snap s -> ok xmin 10 xmax 10 xip - sub - overflow no
+--- part
+a 1 snap s -> ok xmin 10 xmax 10 xip - sub - overflow no
 a 2 see s 4294967295 -> too-old 3
 history
-",
-        ]),
-    },
-    Row {
-        name: "id_below_the_oldest_is_too_old",
-        script: ".start 10
+=== id_below_the_oldest_is_too_old
+.start 10
 .oldest 10
 a snap s
 a see s 4
-",
-        told: Has(&[
-            "a 1 snap s -> ok xmin 10 xmax 10 xip - sub - overflow no
+--- part
+a 1 snap s -> ok xmin 10 xmax 10 xip - sub - overflow no
 a 2 see s 4 -> too-old 10
 history
-",
-        ]),
-    },
-];
+";
 
 #[test]
 fn commands(rt: HostRuntime) {
-    check_rows(&rt, &ROWS);
+    check_rows(&rt, ROWS);
 }

@@ -1,11 +1,8 @@
 //! Whether ids have committed by the stores alone, by the rules of docs/SCRIPT-AND-REPORT.md.
-use crate::test_help::Told::{Has, Report};
-use crate::test_help::{Row, check_rows};
+use crate::test_help::check_rows;
 
-const ROWS: [Row; 6] = [
-    Row {
-        name: "did_follows_the_transaction",
-        script: "a begin
+const ROWS: &str = "=== did_follows_the_transaction
+a begin
 a write
 a status 3
 a commit
@@ -13,9 +10,8 @@ a status 3
 a did 3
 a horizon
 a drop s
-",
-        told: Report(
-            "txid report 1
+--- report
+txid report 1
 life 1 from 0 next 3 oldest 3 multi 1 offset 1 oldest-multi 1 oldest-offset 1
 round 1
 a 1 begin -> ok
@@ -36,32 +32,23 @@ log flushed 2 end 80
 0 checkpoint next 3 oldest 3 multi 1 offset 1 oldest-multi 1 oldest-offset 1
 1 commit 3
 end
-",
-        ),
-    },
-    Row {
-        name: "ids_that_no_one_was_given",
-        script: "# Ids 0 to 2 have fixed answers, and no id that wasn't given has committed.
+=== ids_that_no_one_was_given
+# Ids 0 to 2 have fixed answers, and no id that wasn't given has committed.
 a did 0
 a did 1
 a did 2
 a did 3
 a did 4
-",
-        told: Has(&[
-            "a 1 did 0 -> no
+--- part
+a 1 did 0 -> no
 a 2 did 1 -> yes
 a 3 did 2 -> yes
 a 4 did 3 -> no
 a 5 did 4 -> no
 history
 multis
-",
-        ]),
-    },
-    Row {
-        name: "savepoints_have_committed_with_their_transaction",
-        script: "# What was rolled back hasn't committed, and what was released has with its transaction.
+=== savepoints_have_committed_with_their_transaction
+# What was rolled back hasn't committed, and what was released has with its transaction.
 a begin
 a save
 a write
@@ -80,9 +67,8 @@ b begin
 b write
 b abort
 b did 6
-",
-        told: Has(&[
-            "a 8 did 3 -> no
+--- part
+a 8 did 3 -> no
 a 9 did 4 -> no
 a 10 did 5 -> no
 a 11 commit -> ok
@@ -93,12 +79,8 @@ b 1 begin -> ok
 b 2 write -> ok 6
 b 3 abort -> ok
 b 4 did 6 -> no
-",
-        ]),
-    },
-    Row {
-        name: "commit_over_two_pages_has_committed",
-        script: "# Their states lie on two pages.
+=== commit_over_two_pages_has_committed
+# Their states lie on two pages.
 .start 32767
 a begin
 a save
@@ -108,39 +90,29 @@ a did 32768
 a commit
 a did 32767
 a did 32768
-",
-        told: Has(&[
-            "a 3 write -> ok 32767 32768
+--- part
+a 3 write -> ok 32767 32768
 a 4 did 32767 -> no
 a 5 did 32768 -> no
 a 6 commit -> ok
 a 7 did 32767 -> yes
 a 8 did 32768 -> yes
-",
-        ]),
-    },
-    Row {
-        name: "did_below_the_oldest_is_too_old",
-        script: ".start 9
+=== did_below_the_oldest_is_too_old
+.start 9
 .oldest 5
 a did 2
 a did 4
 a did 5
 a did 8
 a did 4294967295
-",
-        told: Has(&[
-            "a 1 did 2 -> yes
+--- part
+a 1 did 2 -> yes
 a 2 did 4 -> too-old 5
 a 3 did 5 -> no
 a 4 did 8 -> no
 a 5 did 4294967295 -> too-old 5
-",
-        ]),
-    },
-    Row {
-        name: "did_is_asked_near_the_next_id",
-        script: "# A stored id means the full id that is nearest to the next one.
+=== did_is_asked_near_the_next_id
+# A stored id means the full id that is nearest to the next one.
 .start 4294967294
 .oldest 4294967290
 a begin
@@ -157,21 +129,17 @@ a did 4294967295
 a did 3
 a did 4
 a did 4294967289
-",
-        told: Has(&[
-            "a 8 write -> ok 4294967299
+--- part
+a 8 write -> ok 4294967299
 a 9 commit -> ok
 a 10 did 4294967294 -> yes
 a 11 did 4294967295 -> no
 a 12 did 3 -> yes
 a 13 did 4 -> no
 a 14 did 4294967289 -> too-old 4294967290
-",
-        ]),
-    },
-];
+";
 
 #[test]
 fn questions(rt: HostRuntime) {
-    check_rows(&rt, &ROWS);
+    check_rows(&rt, ROWS);
 }

@@ -1,11 +1,8 @@
 //! The oldest id is announced, by the rules of docs/SCRIPT-AND-REPORT.md.
-use crate::test_help::Told::{Has, Report};
-use crate::test_help::{Row, check_rows};
+use crate::test_help::check_rows;
 
-const ROWS: [Row; 3] = [
-    Row {
-        name: "freeze_lets_old_ids_go",
-        script: "# What lies before the announced id isn't told any more, and the id itself is.
+const ROWS: &str = "=== freeze_lets_old_ids_go
+# What lies before the announced id isn't told any more, and the id itself is.
 a begin
 a write
 a commit
@@ -19,9 +16,8 @@ a see s 3
 a see s 4
 a status 3
 a did 4
-",
-        told: Report(
-            "txid report 1
+--- report
+txid report 1
 life 1 from 0 next 3 oldest 3 multi 1 offset 1 oldest-multi 1 oldest-offset 1
 round 1
 a 1 begin -> ok
@@ -51,12 +47,8 @@ log flushed 3 end 98
 1 commit 3
 2 commit 4
 end
-",
-        ),
-    },
-    Row {
-        name: "freeze_is_refused",
-        script: "# The oldest id never falls, and doesn't pass the oldest xmin: neither a live snapshot's nor a running
+=== freeze_is_refused
+# The oldest id never falls, and doesn't pass the oldest xmin: neither a live snapshot's nor a running
 # transaction's.
 .start 9
 .oldest 5
@@ -73,24 +65,19 @@ a write
 a freeze 11
 a freeze 10
 a freeze 9
-",
-        told: Has(&[
-            "a 1 freeze 4 -> backward 5
+--- part
+a 1 freeze 4 -> backward 5
 a 2 freeze 10 -> too-new 9
-",
-            "a 7 freeze 10 -> too-new 9
+--- part
+a 7 freeze 10 -> too-new 9
 a 8 drop s -> ok
-",
-            "a 11 freeze 11 -> too-new 10
+--- part
+a 11 freeze 11 -> too-new 10
 a 12 freeze 10 -> ok
 a 13 freeze 9 -> backward 10
 history
-",
-        ]),
-    },
-    Row {
-        name: "truncation_is_logged_before_a_commit",
-        script: "# The limits on ids go by the announced id. A commit whose record would leave the log without a base has the
+=== truncation_is_logged_before_a_commit
+# The limits on ids go by the announced id. A commit whose record would leave the log without a base has the
 # record of a truncation before its own.
 .start 2144483649
 a begin
@@ -104,9 +91,8 @@ a commit
 b snap s
 b see s 2144483650
 b see s 2144483649
-",
-        told: Report(
-            "txid report 1
+--- report
+txid report 1
 life 1 from 0 next 2144483649 oldest 3 multi 1 offset 1 oldest-multi 1 oldest-offset 1
 round 1
 a 1 begin -> ok
@@ -134,12 +120,9 @@ log flushed 4 end 123
 2 truncate 2144483650 1 1
 3 commit 2144483650
 end
-",
-        ),
-    },
-];
+";
 
 #[test]
 fn freezes(rt: HostRuntime) {
-    check_rows(&rt, &ROWS);
+    check_rows(&rt, ROWS);
 }

@@ -1,7 +1,7 @@
 //! Gates: sessions that are held up in an order which no thread alone could take, and that each critical section passes.
-use crate::test_help::Told::{Either, Has};
-use crate::test_help::{Row, check_report, report_past};
-use crate::turns::{A, B, Turn, Turned, check_turns};
+use crate::runs::is_lawful;
+use crate::test_help::{check_report, report_past};
+use crate::turns::{A, B, Row, check_turns, report_of_turns};
 use engine_parts::Gate;
 use script_rounds::RoundThreads;
 use std::alloc::AllocGlobal;
@@ -11,91 +11,61 @@ use std::sync::atomic::{AtomicBool, AtomicU64, Ordering};
 
 /// Two sessions that cross: the first one's command 2 waits until the second one comes with its command 3, and that until the
 /// first comes with its command 3.
-const CROSSING: [Turn; 2] = [(A, (2, 1), B, (3, 1)), (B, (3, 1), A, (3, 1))];
-
-const CROSSED: &str = "a begin
+const CROSSING: Row = Row {
+    name: "two sessions that cross",
+    script: "a begin
 a write
 a snap s
 b begin
 b write
 b snap t
+",
+    turns: &[(A, (2, 1), B, (3, 1)), (B, (3, 1), A, (3, 1))],
+    texts: "part\na 2 write -> ok 3\n",
+};
+
+/// The report up to the place where the events of its two snapshots stand, in either order.
+const HEAD: &str = "txid report 1
+life 1 from 0 next 3 oldest 3 multi 1 offset 1 oldest-multi 1 oldest-offset 1
+round 1
+a 1 begin -> ok
+a 2 write -> ok 4
+a 3 snap s -> ok xmin 3 xmax 3 xip - sub - overflow no
+b 1 begin -> ok
+b 2 write -> ok 3
+b 3 snap t -> ok xmin 3 xmax 3 xip - sub - overflow no
+history
+id b 2 3
+id a 2 4
+";
+
+const TAIL: &str = "multis
+log flushed 1 end 62
+0 checkpoint next 3 oldest 3 multi 1 offset 1 oldest-multi 1 oldest-offset 1
+end
 ";
 
 /// The second session's id is the lower one, and each snapshot stands behind both: no id has ended, so each is at or past its
 /// xmax. Which of the two is first is open.
-const INTERLEAVED: Turned = Turned {
-    turns: &CROSSING,
-    row: Row {
-        name: "two_sessions_interleave",
-        script: CROSSED,
-        told: Either(
-            "txid report 1
-life 1 from 0 next 3 oldest 3 multi 1 offset 1 oldest-multi 1 oldest-offset 1
-round 1
-a 1 begin -> ok
-a 2 write -> ok 4
-a 3 snap s -> ok xmin 3 xmax 3 xip - sub - overflow no
-b 1 begin -> ok
-b 2 write -> ok 3
-b 3 snap t -> ok xmin 3 xmax 3 xip - sub - overflow no
-history
-id b 2 3
-id a 2 4
-snap a 3 s
-snap b 3 t
-multis
-log flushed 1 end 62
-0 checkpoint next 3 oldest 3 multi 1 offset 1 oldest-multi 1 oldest-offset 1
-end
-",
-            "txid report 1
-life 1 from 0 next 3 oldest 3 multi 1 offset 1 oldest-multi 1 oldest-offset 1
-round 1
-a 1 begin -> ok
-a 2 write -> ok 4
-a 3 snap s -> ok xmin 3 xmax 3 xip - sub - overflow no
-b 1 begin -> ok
-b 2 write -> ok 3
-b 3 snap t -> ok xmin 3 xmax 3 xip - sub - overflow no
-history
-id b 2 3
-id a 2 4
-snap b 3 t
-snap a 3 s
-multis
-log flushed 1 end 62
-0 checkpoint next 3 oldest 3 multi 1 offset 1 oldest-multi 1 oldest-offset 1
-end
-",
-        ),
-    },
-};
-
 #[test]
 fn two_sessions_interleave(rt: HostRuntime) {
-    check_turns(&rt, &INTERLEAVED, RoundThreads::OneEach, false);
+    let report = report_of_turns(&rt, &CROSSING, RoundThreads::OneEach, false);
+    let report = report.as_str();
+    let behind = report.strip_prefix(HEAD).unwrap_or("");
+    let snaps = behind.strip_suffix(TAIL).unwrap_or("");
+    let is_either = snaps == "snap a 3 s\nsnap b 3 t\n" || snaps == "snap b 3 t\nsnap a 3 s\n";
+    assert!(rt; is_either && is_lawful(&rt, report), "{report}");
 }
-
-const ON_ONE_THREAD: Turned = Turned {
-    turns: &CROSSING,
-    row: Row {
-        name: "sessions_on_one_thread_do_not_interleave",
-        script: CROSSED,
-        told: Has(&["a 2 write -> ok 3\n"]),
-    },
-};
 
 /// Where the sessions of a round run one after another, the first waits for the second in vain.
 #[test]
 fn sessions_on_one_thread_do_not_interleave(rt: HostRuntime) {
-    check_turns(&rt, &ON_ONE_THREAD, RoundThreads::AtMost(1), true);
+    check_turns(&rt, &CROSSING, RoundThreads::AtMost(1), true);
 }
 
 /// Twelve sessions that each write an order, and a line of it behind a savepoint, which every other one undoes; and a
 /// reader behind them.
-const ORDERS: Row = Row {
-    name: "gate_sees_every_section",
-    script: "o1 begin
+const ORDERS: &str = "o1 begin
 o1 write
 o1 save
 o1 write
@@ -195,14 +165,15 @@ r see s 25
 r see s 26
 r multi 3:keysh 4:sh
 r drop s
-",
-    told: Has(&[
-        "r 1 snap s -> ok xmin 27 xmax 27 xip - sub - overflow no\n",
-        "r 26 multi 3:keysh 4:sh -> ok 1 1
+";
+
+/// What the report has.
+const ORDERED: &str = "part
+r 1 snap s -> ok xmin 27 xmax 27 xip - sub - overflow no
+--- part
+r 26 multi 3:keysh 4:sh -> ok 1 1
 r 27 drop s -> ok
-",
-    ]),
-};
+";
 
 /// Counts how often each of 13 sessions comes with each of its first 27 commands.
 #[derive(Drop)]
@@ -263,8 +234,8 @@ fn check_came(rt: &impl Abort, gate: &Recorder, session: u32, command: u64) {
 #[test]
 fn gate_sees_every_section(rt: HostRuntime) {
     let gate = Recorder::new(&rt);
-    let report = report_past(&rt, ORDERS.script, RoundThreads::OneEach, &gate);
-    check_report(&rt, &ORDERS, report.as_str());
+    let report = report_past(&rt, ORDERS, RoundThreads::OneEach, &gate);
+    check_report(&rt, "orders", ORDERED, report.as_str());
     assert!(rt; report.matches(" -> visible\n").count() == 18);
     assert!(rt; report.matches(" -> hidden\n").count() == 6);
     assert!(rt; !gate.is_wrong.load(Ordering::SeqCst));

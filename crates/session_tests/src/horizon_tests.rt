@@ -1,11 +1,8 @@
 //! The oldest xmin, and commits over two pages, which lie in one bank or in two.
-use crate::test_help::Told::{Has, Report};
-use crate::test_help::{Row, check_rows};
+use crate::test_help::check_rows;
 
-const ROWS: [Row; 5] = [
-    Row {
-        name: "snapshot_holds_the_horizon_back",
-        script: "# No id from a live snapshot's xmin on is let go, whoever asks.
+const ROWS: &str = "=== snapshot_holds_the_horizon_back
+# No id from a live snapshot's xmin on is let go, whoever asks.
 a snap s
 a horizon
 .round
@@ -13,9 +10,8 @@ b begin
 b write
 b commit
 b horizon
-",
-        told: Report(
-            "txid report 1
+--- report
+txid report 1
 life 1 from 0 next 3 oldest 3 multi 1 offset 1 oldest-multi 1 oldest-offset 1
 round 1
 a 1 snap s -> ok xmin 3 xmax 3 xip - sub - overflow no
@@ -34,12 +30,8 @@ log flushed 2 end 80
 0 checkpoint next 3 oldest 3 multi 1 offset 1 oldest-multi 1 oldest-offset 1
 1 commit 3
 end
-",
-        ),
-    },
-    Row {
-        name: "running_transaction_holds_the_horizon_back",
-        script: "# A running transaction holds it back too, and a savepoint in it doesn't; later ones that have ended don't let
+=== running_transaction_holds_the_horizon_back
+# A running transaction holds it back too, and a savepoint in it doesn't; later ones that have ended don't let
 # it go.
 a begin
 a write
@@ -54,20 +46,15 @@ b horizon
 a commit
 .round
 b horizon
-",
-        told: Has(&[
-            "b 3 commit -> ok
+--- part
+b 3 commit -> ok
 b 4 horizon -> ok 3
 round 3
-",
-            "b 5 horizon -> ok 6
+--- part
+b 5 horizon -> ok 6
 history
-",
-        ]),
-    },
-    Row {
-        name: "dropped_snapshot_lets_the_horizon_go",
-        script: "# A dropped snapshot lets it go on, to the next snapshot's xmax.
+=== dropped_snapshot_lets_the_horizon_go
+# A dropped snapshot lets it go on, to the next snapshot's xmax.
 a snap s
 .round
 b begin
@@ -77,18 +64,13 @@ b abort
 a horizon
 a drop s
 a horizon
-",
-        told: Has(&[
-            "a 2 horizon -> ok 3
+--- part
+a 2 horizon -> ok 3
 a 3 drop s -> ok
 a 4 horizon -> ok 4
 history
-",
-        ]),
-    },
-    Row {
-        name: "banks_change_no_report",
-        script: "# A commit over two pages, which lie in one bank or in two.
+=== banks_change_no_report
+# A commit over two pages, which lie in one bank or in two.
 .start 32767
 a begin
 a save
@@ -97,9 +79,8 @@ a commit
 b snap s
 b see s 32767
 b see s 32768
-",
-        told: Report(
-            "txid report 1
+--- report
+txid report 1
 life 1 from 0 next 32767 oldest 3 multi 1 offset 1 oldest-multi 1 oldest-offset 1
 round 1
 a 1 begin -> ok
@@ -119,12 +100,8 @@ log flushed 2 end 88
 0 checkpoint next 32767 oldest 3 multi 1 offset 1 oldest-multi 1 oldest-offset 1
 1 commit 32767 32768
 end
-",
-        ),
-    },
-    Row {
-        name: "any_number_of_banks_gives_one_report",
-        script: "# Two ids on neighbouring pages, whose states lie in one bank or in two.
+=== any_number_of_banks_gives_one_report
+# Two ids on neighbouring pages, whose states lie in one bank or in two.
 .start 32767
 a begin
 a save
@@ -142,9 +119,8 @@ c see s 32767
 c see s 32768
 c see s 32769
 c see s 32770
-",
-        told: Report(
-            "txid report 1
+--- report
+txid report 1
 life 1 from 0 next 32767 oldest 3 multi 1 offset 1 oldest-multi 1 oldest-offset 1
 round 1
 a 1 begin -> ok
@@ -178,12 +154,9 @@ log flushed 2 end 88
 1 commit 32767 32768
 2 abort 32770
 end
-",
-        ),
-    },
-];
+";
 
 #[test]
 fn horizons(rt: HostRuntime) {
-    check_rows(&rt, &ROWS);
+    check_rows(&rt, ROWS);
 }

@@ -1,15 +1,11 @@
 //! Lives, one behind a crash of the other.
-use crate::test_help::Told::{Has, Report};
-use crate::test_help::{Row, check_rows};
+use crate::test_help::check_rows;
 
-const ROWS: [Row; 3] = [
-    Row {
-        name: "a_crash_begins_a_life",
-        script: "# A crash is followed by an opening also where it is the script's last line.
+const ROWS: &str = "=== a_crash_begins_a_life
+# A crash is followed by an opening also where it is the script's last line.
 .crash torn
-",
-        told: Report(
-            "txid report 1
+--- report
+txid report 1
 life 1 from 0 next 3 oldest 3 multi 1 offset 1 oldest-multi 1 oldest-offset 1
 history
 multis
@@ -22,12 +18,8 @@ multis
 log flushed 2 end 124
 1 checkpoint next 3 oldest 3 multi 1 offset 1 oldest-multi 1 oldest-offset 1
 end
-",
-        ),
-    },
-    Row {
-        name: "an_id_that_was_not_logged_is_given_again",
-        script: "# An id that no record tells of is given again. Sessions, commands and rounds count anew.
+=== an_id_that_was_not_logged_is_given_again
+# An id that no record tells of is given again. Sessions, commands and rounds count anew.
 a begin
 a write
 a commit
@@ -37,9 +29,8 @@ a write
 .crash lost
 b begin
 b write
-",
-        told: Report(
-            "txid report 1
+--- report
+txid report 1
 life 1 from 0 next 3 oldest 3 multi 1 offset 1 oldest-multi 1 oldest-offset 1
 round 1
 a 1 begin -> ok
@@ -67,12 +58,8 @@ multis
 log flushed 3 end 142
 2 checkpoint next 4 oldest 3 multi 1 offset 1 oldest-multi 1 oldest-offset 1
 end
-",
-        ),
-    },
-    Row {
-        name: "lives_go_on_from_what_is_on_disk",
-        script: "# What a life's commits and truncations left on disk is there in each later one.
+=== lives_go_on_from_what_is_on_disk
+# What a life's commits and truncations left on disk is there in each later one.
 .start 2144483649
 a begin
 a write
@@ -90,25 +77,26 @@ b commit
 c snap s
 c see s 2144483650
 c see s 2144483651
-",
-        told: Has(&[
-            "2 truncate 2144483650 1 1\n",
-            "life 2 from 4 next 2144483651 oldest 2144483650 multi 1 offset 1 oldest-multi 1 oldest-offset 1\n",
-            "b 2 write -> ok 2144483651\n",
-            "life 3 from 6 next 2144483652 oldest 2144483650 multi 1 offset 1 oldest-multi 1 oldest-offset 1\n",
-            "life 4 from 7 next 2144483652 oldest 2144483650 multi 1 offset 1 oldest-multi 1 oldest-offset 1\n",
-            "c 1 snap s -> ok xmin 2144483652 xmax 2144483652 xip - sub - overflow no
+--- part
+2 truncate 2144483650 1 1
+--- part
+life 2 from 4 next 2144483651 oldest 2144483650 multi 1 offset 1 oldest-multi 1 oldest-offset 1
+--- part
+b 2 write -> ok 2144483651
+--- part
+life 3 from 6 next 2144483652 oldest 2144483650 multi 1 offset 1 oldest-multi 1 oldest-offset 1
+--- part
+life 4 from 7 next 2144483652 oldest 2144483650 multi 1 offset 1 oldest-multi 1 oldest-offset 1
+--- part
+c 1 snap s -> ok xmin 2144483652 xmax 2144483652 xip - sub - overflow no
 c 2 see s 2144483650 -> visible
 c 3 see s 2144483651 -> visible
-",
-            "log flushed 8 end 327
+--- part
+log flushed 8 end 327
 7 checkpoint next 2144483652 oldest 2144483650 multi 1 offset 1 oldest-multi 1 oldest-offset 1
-",
-        ]),
-    },
-];
+";
 
 #[test]
 fn lives(rt: HostRuntime) {
-    check_rows(&rt, &ROWS);
+    check_rows(&rt, ROWS);
 }

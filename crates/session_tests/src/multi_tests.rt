@@ -1,11 +1,8 @@
 //! Multixacts, and what is let go of them and of ids.
-use crate::test_help::Told::{Has, Report};
-use crate::test_help::{Row, check_rows};
+use crate::test_help::check_rows;
 
-const ROWS: [Row; 11] = [
-    Row {
-        name: "members_are_read_back",
-        script: "# The members of a multixact are read back by their stored halves, and stand on its pages.
+const ROWS: &str = "=== members_are_read_back
+# The members of a multixact are read back by their stored halves, and stand on its pages.
 a begin
 a save
 a write
@@ -14,9 +11,8 @@ a snap s
 a seemulti s 1
 .dump members 0 0 16
 .dump offsets 0 0 8
-",
-        told: Report(
-            "txid report 1
+--- report
+txid report 1
 life 1 from 0 next 3 oldest 3 multi 1 offset 1 oldest-multi 1 oldest-offset 1
 round 1
 a 1 begin -> ok
@@ -39,12 +35,8 @@ log flushed 1 end 62
 0 checkpoint next 3 oldest 3 multi 1 offset 1 oldest-multi 1 oldest-offset 1
 1 multi 1 1 3:keysh 4:upd
 end
-",
-        ),
-    },
-    Row {
-        name: "a_frozen_multixact_is_too_old",
-        script: "# The oldest multixact is raised, and the one before it is too old then.
+=== a_frozen_multixact_is_too_old
+# The oldest multixact is raised, and the one before it is too old then.
 a begin
 a save
 a write
@@ -53,9 +45,8 @@ a snap s
 a seemulti s 1
 a multifreeze 2
 a seemulti s 1
-",
-        told: Report(
-            "txid report 1
+--- report
+txid report 1
 life 1 from 0 next 3 oldest 3 multi 1 offset 1 oldest-multi 1 oldest-offset 1
 round 1
 a 1 begin -> ok
@@ -79,28 +70,19 @@ log flushed 1 end 62
 0 checkpoint next 3 oldest 3 multi 1 offset 1 oldest-multi 1 oldest-offset 1
 1 multi 1 1 3:keysh 4:upd
 end
-",
-        ),
-    },
-    Row {
-        name: "two_updaters_are_refused",
-        script: "# Of the members one may be an updater.
+=== two_updaters_are_refused
+# Of the members one may be an updater.
 a begin
 a save
 a write
 a multi 3:upd 4:nokeyupd
 a multi 3:upd 4:keysh
-",
-        told: Has(&[
-            "a 3 write -> ok 3 4
+--- part
+a 3 write -> ok 3 4
 a 4 multi 3:upd 4:nokeyupd -> two-updaters
 a 5 multi 3:upd 4:keysh -> ok 1 1
-",
-        ]),
-    },
-    Row {
-        name: "a_truncation_cuts_what_is_frozen",
-        script: "# Pages before the oldest id are cut by a truncation, and ids before it are too old.
+=== a_truncation_cuts_what_is_frozen
+# Pages before the oldest id are cut by a truncation, and ids before it are too old.
 .start 1048570
 a begin
 a save
@@ -119,9 +101,8 @@ a see s 1048576
 a freeze 1048578
 a freeze 1048570
 .dump xact 31 8191 1
-",
-        told: Report(
-            "txid report 1
+--- report
+txid report 1
 life 1 from 0 next 1048570 oldest 3 multi 1 offset 1 oldest-multi 1 oldest-offset 1
 round 1
 a 1 begin -> ok
@@ -158,12 +139,8 @@ log flushed 3 end 158
 1 commit 1048570 1048571 1048572 1048573 1048574 1048575 1048576
 2 truncate 1048576 1 1
 end
-",
-        ),
-    },
-    Row {
-        name: "members_stop_before_the_oldest_offset",
-        script: "# No multixact is given whose members would reach the oldest offset.
+=== members_stop_before_the_oldest_offset
+# No multixact is given whose members would reach the oldest offset.
 .multi 2
 .oldest-multi 1
 .offset 1073689470
@@ -172,9 +149,8 @@ a begin
 a write
 a multi 3:sh
 a multi 3:sh
-",
-        told: Report(
-            "txid report 1
+--- report
+txid report 1
 life 1 from 0 next 3 oldest 3 multi 2 offset 1073689470 oldest-multi 1 oldest-offset 1
 round 1
 a 1 begin -> ok
@@ -189,12 +165,8 @@ log flushed 1 end 62
 0 checkpoint next 3 oldest 3 multi 2 offset 1073689470 oldest-multi 1 oldest-offset 1
 1 multi 2 1073689470 3:sh
 end
-",
-        ),
-    },
-    Row {
-        name: "multixacts_stop_before_the_oldest_one",
-        script: "# Nor one that would reach the oldest multixact.
+=== multixacts_stop_before_the_oldest_one
+# Nor one that would reach the oldest multixact.
 .multi 2144483648
 .oldest-multi 1
 .offset 5
@@ -202,9 +174,8 @@ end
 a begin
 a write
 a multi 3:sh
-",
-        told: Report(
-            "txid report 1
+--- report
+txid report 1
 life 1 from 0 next 3 oldest 3 multi 2144483648 offset 5 oldest-multi 1 oldest-offset 1
 round 1
 a 1 begin -> ok
@@ -216,20 +187,15 @@ multis
 log flushed 1 end 62
 0 checkpoint next 3 oldest 3 multi 2144483648 offset 5 oldest-multi 1 oldest-offset 1
 end
-",
-        ),
-    },
-    Row {
-        name: "no_members_begin_at_offset_zero",
-        script: "# A stored offset of 0 means none, so no multixact begins there.
+=== no_members_begin_at_offset_zero
+# A stored offset of 0 means none, so no multixact begins there.
 .offset 4294967296
 a begin
 a write
 a multi 3:sh
 .dump offsets 0 4 4
-",
-        told: Report(
-            "txid report 1
+--- report
+txid report 1
 life 1 from 0 next 3 oldest 3 multi 1 offset 4294967296 oldest-multi 1 oldest-offset 4294967296
 round 1
 a 1 begin -> ok
@@ -244,12 +210,8 @@ log flushed 1 end 62
 0 checkpoint next 3 oldest 3 multi 1 offset 4294967296 oldest-multi 1 oldest-offset 4294967296
 1 multi 1 4294967297 3:sh
 end
-",
-        ),
-    },
-    Row {
-        name: "a_session_is_refused_by_its_own_state",
-        script: "# Each refusal that goes by the session, its snapshots or the words, in its order.
+=== a_session_is_refused_by_its_own_state
+# Each refusal that goes by the session, its snapshots or the words, in its order.
 a commit
 a undo
 a begin
@@ -265,9 +227,8 @@ a seemulti s 1
 a multifreeze 2
 a multifreeze 1
 a status 3
-",
-        told: Report(
-            "txid report 1
+--- report
+txid report 1
 life 1 from 0 next 3 oldest 3 multi 1 offset 1 oldest-multi 1 oldest-offset 1
 round 1
 a 1 commit -> no-transaction
@@ -293,12 +254,8 @@ raise a 14 1 1
 log flushed 1 end 62
 0 checkpoint next 3 oldest 3 multi 1 offset 1 oldest-multi 1 oldest-offset 1
 end
-",
-        ),
-    },
-    Row {
-        name: "a_truncation_cuts_the_pages_of_multixacts",
-        script: "# The multixact before the next one is 131072, the first of page 64; the oldest offset is 104704, the first of page 64.
+=== a_truncation_cuts_the_pages_of_multixacts
+# The multixact before the next one is 131072, the first of page 64; the oldest offset is 104704, the first of page 64.
 .multi 131073
 .oldest-multi 1
 .offset 104704
@@ -309,22 +266,19 @@ a trim
 .dump offsets 64 0 4
 .dump members 63 0 4
 .dump members 64 0 4
-",
-        told: Has(&[
-            "a 1 multifreeze 131073 -> ok
+--- part
+a 1 multifreeze 131073 -> ok
 a 2 trim -> ok
 dump offsets 63 0 4 -> cut 64
 dump offsets 64 0 4 -> 00 00 00 00
 dump members 63 0 4 -> cut 64
 dump members 64 0 4 -> 00 00 00 00
-",
-            "raise a 1 131073 104704\n",
-            "1 truncate 3 131073 104704\n",
-        ]),
-    },
-    Row {
-        name: "a_truncation_cuts_the_parents_before_the_oldest_xmin",
-        script: "# The oldest xmin is 65537 behind the commit; the one before it is the first of page 32 of pg_subtrans.
+--- part
+raise a 1 131073 104704
+--- part
+1 truncate 3 131073 104704
+=== a_truncation_cuts_the_parents_before_the_oldest_xmin
+# The oldest xmin is 65537 behind the commit; the one before it is the first of page 32 of pg_subtrans.
 .start 65535
 a begin
 a save
@@ -333,39 +287,31 @@ a commit
 a trim
 .dump subtrans 31 8188 4
 .dump subtrans 32 0 4
-",
-        told: Has(&[
-            "a 3 write -> ok 65535 65536\n",
-            "a 5 trim -> ok
+--- part
+a 3 write -> ok 65535 65536
+--- part
+a 5 trim -> ok
 dump subtrans 31 8188 4 -> cut 32
 dump subtrans 32 0 4 -> ff ff 00 00
-",
-        ]),
-    },
-    Row {
-        name: "a_multixact_of_the_base_without_a_record_is_not_yet_there",
-        script: ".multi 5
+=== a_multixact_of_the_base_without_a_record_is_not_yet_there
+.multi 5
 .oldest-multi 1
 .offset 5
 .oldest-offset 1
 a snap s
 a seemulti s 3
 a multifreeze 3
-",
-        told: Has(&[
-            "a 2 seemulti s 3 -> not-yet 3
+--- part
+a 2 seemulti s 3 -> not-yet 3
 a 3 multifreeze 3 -> not-yet 3
-",
-            "hold a 2 3
+--- part
+hold a 2 3
 unhold a 2 3
 hold a 3 3
 unhold a 3 3
-",
-        ]),
-    },
-];
+";
 
 #[test]
 fn multixacts(rt: HostRuntime) {
-    check_rows(&rt, &ROWS);
+    check_rows(&rt, ROWS);
 }

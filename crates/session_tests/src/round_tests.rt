@@ -1,11 +1,8 @@
 //! Rounds, limits, and commands many times over.
-use crate::test_help::Told::{Has, Report};
-use crate::test_help::{Row, check_rows};
+use crate::test_help::check_rows;
 
-const ROWS: [Row; 10] = [
-    Row {
-        name: "undone_savepoint_is_hidden",
-        script: "a begin
+const ROWS: &str = "=== undone_savepoint_is_hidden
+a begin
 a write
 a save
 a write
@@ -16,9 +13,8 @@ a commit
 a snap s
 a see s 4
 a see s 5
-",
-        told: Report(
-            "txid report 1
+--- report
+txid report 1
 life 1 from 0 next 3 oldest 3 multi 1 offset 1 oldest-multi 1 oldest-offset 1
 round 1
 a 1 begin -> ok
@@ -44,12 +40,8 @@ log flushed 2 end 88
 0 checkpoint next 3 oldest 3 multi 1 offset 1 oldest-multi 1 oldest-offset 1
 1 commit 3 5
 end
-",
-        ),
-    },
-    Row {
-        name: "xmax_past_running_top",
-        script: "a begin
+=== xmax_past_running_top
+a begin
 a write
 .round
 c begin
@@ -59,9 +51,8 @@ c commit
 a snap s
 a commit
 a see s 3
-",
-        told: Report(
-            "txid report 1
+--- report
+txid report 1
 life 1 from 0 next 3 oldest 3 multi 1 offset 1 oldest-multi 1 oldest-offset 1
 round 1
 a 1 begin -> ok
@@ -86,12 +77,8 @@ log flushed 3 end 98
 1 commit 4
 2 commit 3
 end
-",
-        ),
-    },
-    Row {
-        name: "every_session_refusal",
-        script: "a commit
+=== every_session_refusal
+a commit
 a undo
 a begin
 a begin
@@ -108,9 +95,8 @@ a undo
 a undo
 a abort
 a abort
-",
-        told: Report(
-            "txid report 1
+--- report
+txid report 1
 life 1 from 0 next 3 oldest 3 multi 1 offset 1 oldest-multi 1 oldest-offset 1
 round 1
 a 1 commit -> no-transaction
@@ -137,12 +123,8 @@ multis
 log flushed 1 end 62
 0 checkpoint next 3 oldest 3 multi 1 offset 1 oldest-multi 1 oldest-offset 1
 end
-",
-        ),
-    },
-    Row {
-        name: "rounds_have_orders_of_their_own",
-        script: "# A round takes its sessions in the order in which they first appear there, and an empty one isn't told.
+=== rounds_have_orders_of_their_own
+# A round takes its sessions in the order in which they first appear there, and an empty one isn't told.
 .round
 a begin
 b begin
@@ -152,9 +134,8 @@ b write
 a write
 b commit
 .round
-",
-        told: Has(&[
-            "round 1
+--- part
+round 1
 a 1 begin -> ok
 b 1 begin -> ok
 round 2
@@ -162,12 +143,8 @@ b 2 write -> ok 3
 b 3 commit -> ok
 a 2 write -> ok 4
 history
-",
-        ]),
-    },
-    Row {
-        name: "ids_wrap_around",
-        script: ".start 4294967294
+=== ids_wrap_around
+.start 4294967294
 .oldest 4294967290
 a begin
 a write
@@ -181,9 +158,8 @@ a commit
 a snap s
 a see s 3
 a see s 4294967295
-",
-        told: Has(&[
-            "life 1 from 0 next 4294967294 oldest 4294967290 multi 1 offset 1 oldest-multi 1 oldest-offset 1
+--- part
+life 1 from 0 next 4294967294 oldest 4294967290 multi 1 offset 1 oldest-multi 1 oldest-offset 1
 round 1
 a 1 begin -> ok
 a 2 write -> ok 4294967294
@@ -197,57 +173,38 @@ a 9 commit -> ok
 a 10 snap s -> ok xmin 4294967300 xmax 4294967300 xip - sub - overflow no
 a 11 see s 3 -> visible
 a 12 see s 4294967295 -> visible
-",
-        ]),
-    },
-    Row {
-        name: "id_warn_limit",
-        script: ".start 2107483649
+=== id_warn_limit
+.start 2107483649
 a begin
 a write
 a commit
 a begin
 a write
-",
-        told: Has(&[
-            "a 2 write -> ok 2107483649
+--- part
+a 2 write -> ok 2107483649
 a 3 commit -> ok
 a 4 begin -> ok
 a 5 write -> ok 2107483650 warn
-",
-        ]),
-    },
-    Row {
-        name: "id_stop_limit",
-        script: ".start 2144483649
+=== id_stop_limit
+.start 2144483649
 a begin
 a write
 a commit
 a begin
 a write
-",
-        told: Has(&[
-            "a 2 write -> ok 2144483649 warn
+--- part
+a 2 write -> ok 2144483649 warn
 a 3 commit -> ok
 a 4 begin -> ok
 a 5 write -> stop 2144483650 2144483650
-",
-        ]),
-    },
-    Row {
-        name: "savepoint_1001_is_refused",
-        script: "a begin
+=== savepoint_1001_is_refused
+a begin
 1001 times a save
-",
-        told: Has(&[
-            "a 1001 save -> ok
+--- part
+a 1001 save -> ok
 a 1002 save -> depth-limit
-",
-        ]),
-    },
-    Row {
-        name: "snapshot_65_is_refused",
-        script: "a snap s0
+=== snapshot_65_is_refused
+a snap s0
 a snap s1
 a snap s2
 a snap s3
@@ -314,17 +271,12 @@ a snap uu7
 a snap t
 a drop sss7
 a snap t
-",
-        told: Has(&[
-            "a 65 snap t -> snap-limit
+--- part
+a 65 snap t -> snap-limit
 a 66 drop sss7 -> ok
 a 67 snap t -> ok xmin 3 xmax 3 xip - sub - overflow no
-",
-        ]),
-    },
-    Row {
-        name: "snapshot_overflows_at_65_subids",
-        script: "# With 64 running subtransactions a snapshot still lists all; the 65th takes them out, and parents are asked.
+=== snapshot_overflows_at_65_subids
+# With 64 running subtransactions a snapshot still lists all; the 65th takes them out, and parents are asked.
 a begin
 64 times a save
 a write
@@ -354,12 +306,11 @@ a commit
 b see t 67
 b snap u
 b see u 67
-",
-        told: Has(&[
-            "b 1 snap s -> ok xmin 3 xmax 69 xip 3 sub 4 5 6 7 8 9 10 11 12 13 14 15 16 17 18 19 20 21 22 23 24 25 26 27 28 29 30 31 32 33 34 35 36 37 38 39 40 41 42 43 44 45 46 47 48 49 50 51 52 53 54 55 56 57 58 59 60 61 62 63 64 65 66 67 overflow no
+--- part
+b 1 snap s -> ok xmin 3 xmax 69 xip 3 sub 4 5 6 7 8 9 10 11 12 13 14 15 16 17 18 19 20 21 22 23 24 25 26 27 28 29 30 31 32 33 34 35 36 37 38 39 40 41 42 43 44 45 46 47 48 49 50 51 52 53 54 55 56 57 58 59 60 61 62 63 64 65 66 67 overflow no
 round 4
-",
-            "b 2 snap t -> ok xmin 3 xmax 71 xip 3 sub - overflow yes
+--- part
+b 2 snap t -> ok xmin 3 xmax 71 xip 3 sub - overflow yes
 b 3 see s 67 -> hidden
 b 4 see t 67 -> hidden
 b 5 see t 69 -> hidden
@@ -371,12 +322,9 @@ round 8
 b 8 see t 67 -> hidden
 b 9 snap u -> ok xmin 71 xmax 71 xip - sub - overflow no
 b 10 see u 67 -> visible
-",
-        ]),
-    },
-];
+";
 
 #[test]
 fn rounds(rt: HostRuntime) {
-    check_rows(&rt, &ROWS);
+    check_rows(&rt, ROWS);
 }

@@ -1,7 +1,6 @@
 //! The first worked runs, and how a run ends otherwise.
 use crate::runs::{run_past, source_of};
-use crate::test_help::Told::Report;
-use crate::test_help::{Row, check_rows};
+use crate::test_help::check_rows;
 use engine_parts::OpenGate;
 use script_rounds::RoundThreads;
 use std::alloc::AllocGlobal;
@@ -10,31 +9,23 @@ use std::sync::Wait;
 use std::thread::Threads;
 use tx_io::{Failed, Source};
 
-const ROWS: [Row; 5] = [
-    Row {
-        name: "empty_script",
-        script: "",
-        told: Report(
-            "txid report 1
+const ROWS: &str = "=== empty_script
+--- report
+txid report 1
 life 1 from 0 next 3 oldest 3 multi 1 offset 1 oldest-multi 1 oldest-offset 1
 history
 multis
 log flushed 1 end 62
 0 checkpoint next 3 oldest 3 multi 1 offset 1 oldest-multi 1 oldest-offset 1
 end
-",
-        ),
-    },
-    Row {
-        name: "commit_is_visible",
-        script: "a begin
+=== commit_is_visible
+a begin
 a write
 a commit
 a snap s
 a see s 3
-",
-        told: Report(
-            "txid report 1
+--- report
+txid report 1
 life 1 from 0 next 3 oldest 3 multi 1 offset 1 oldest-multi 1 oldest-offset 1
 round 1
 a 1 begin -> ok
@@ -51,19 +42,14 @@ log flushed 2 end 80
 0 checkpoint next 3 oldest 3 multi 1 offset 1 oldest-multi 1 oldest-offset 1
 1 commit 3
 end
-",
-        ),
-    },
-    Row {
-        name: "commit_after_snapshot_is_hidden",
-        script: "a begin
+=== commit_after_snapshot_is_hidden
+a begin
 a write
 a snap s
 a commit
 a see s 3
-",
-        told: Report(
-            "txid report 1
+--- report
+txid report 1
 life 1 from 0 next 3 oldest 3 multi 1 offset 1 oldest-multi 1 oldest-offset 1
 round 1
 a 1 begin -> ok
@@ -80,18 +66,13 @@ log flushed 2 end 80
 0 checkpoint next 3 oldest 3 multi 1 offset 1 oldest-multi 1 oldest-offset 1
 1 commit 3
 end
-",
-        ),
-    },
-    Row {
-        name: "special_ids",
-        script: "a snap s
+=== special_ids
+a snap s
 a see s 0
 a see s 1
 a see s 2
-",
-        told: Report(
-            "txid report 1
+--- report
+txid report 1
 life 1 from 0 next 3 oldest 3 multi 1 offset 1 oldest-multi 1 oldest-offset 1
 round 1
 a 1 snap s -> ok xmin 3 xmax 3 xip - sub - overflow no
@@ -104,12 +85,8 @@ multis
 log flushed 1 end 62
 0 checkpoint next 3 oldest 3 multi 1 offset 1 oldest-multi 1 oldest-offset 1
 end
-",
-        ),
-    },
-    Row {
-        name: "abort_records_wait_for_a_flush",
-        script: "# An aborted transaction's record waits for the next flush: three aborts of 13 bytes and a commit in one batch.
+=== abort_records_wait_for_a_flush
+# An aborted transaction's record waits for the next flush: three aborts of 13 bytes and a commit in one batch.
 a begin
 a write
 a abort
@@ -119,9 +96,8 @@ b commit
 c begin
 c write
 c abort
-",
-        told: Report(
-            "txid report 1
+--- report
+txid report 1
 life 1 from 0 next 3 oldest 3 multi 1 offset 1 oldest-multi 1 oldest-offset 1
 round 1
 a 1 begin -> ok
@@ -147,14 +123,11 @@ log flushed 3 end 93
 2 commit 4
 3 abort 5
 end
-",
-        ),
-    },
-];
+";
 
 #[test]
 fn first_runs(rt: HostRuntime) {
-    check_rows(&rt, &ROWS);
+    check_rows(&rt, ROWS);
 }
 
 /// A run that ends otherwise: its script, the reads of its source that fail, how much room its sink has, the status, and the

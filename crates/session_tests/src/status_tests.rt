@@ -1,11 +1,8 @@
 //! How ids stand: the status of an id at its question, by the rules of docs/SCRIPT-AND-REPORT.md.
-use crate::test_help::Told::Report;
-use crate::test_help::{Row, check_rows};
+use crate::test_help::check_rows;
 
-const ROWS: [Row; 4] = [
-    Row {
-        name: "status_follows_the_transaction",
-        script: "a begin
+const ROWS: &str = "=== status_follows_the_transaction
+a begin
 a write
 a status 3
 a commit
@@ -14,9 +11,8 @@ b begin
 b write
 b abort
 b status 4
-",
-        told: Report(
-            "txid report 1
+--- report
+txid report 1
 life 1 from 0 next 3 oldest 3 multi 1 offset 1 oldest-multi 1 oldest-offset 1
 round 1
 a 1 begin -> ok
@@ -42,12 +38,8 @@ log flushed 2 end 80
 1 commit 3
 2 abort 4
 end
-",
-        ),
-    },
-    Row {
-        name: "undone_savepoint_is_aborted_while_its_transaction_runs",
-        script: "a begin
+=== undone_savepoint_is_aborted_while_its_transaction_runs
+a begin
 a save
 a write
 a status 4
@@ -57,9 +49,8 @@ a status 3
 a commit
 a status 4
 a status 3
-",
-        told: Report(
-            "txid report 1
+--- report
+txid report 1
 life 1 from 0 next 3 oldest 3 multi 1 offset 1 oldest-multi 1 oldest-offset 1
 round 1
 a 1 begin -> ok
@@ -87,18 +78,13 @@ log flushed 2 end 80
 0 checkpoint next 3 oldest 3 multi 1 offset 1 oldest-multi 1 oldest-offset 1
 1 commit 3
 end
-",
-        ),
-    },
-    Row {
-        name: "special_ids_are_asked_for_by_no_event",
-        script: "a status 0
+=== special_ids_are_asked_for_by_no_event
+a status 0
 a status 1
 a status 2
 a status 3
-",
-        told: Report(
-            "txid report 1
+--- report
+txid report 1
 life 1 from 0 next 3 oldest 3 multi 1 offset 1 oldest-multi 1 oldest-offset 1
 round 1
 a 1 status 0 -> aborted
@@ -111,19 +97,14 @@ multis
 log flushed 1 end 62
 0 checkpoint next 3 oldest 3 multi 1 offset 1 oldest-multi 1 oldest-offset 1
 end
-",
-        ),
-    },
-    Row {
-        name: "status_below_the_oldest_is_too_old",
-        script: ".start 9
+=== status_below_the_oldest_is_too_old
+.start 9
 .oldest 5
 a status 4
 a status 5
 a status 8
-",
-        told: Report(
-            "txid report 1
+--- report
+txid report 1
 life 1 from 0 next 9 oldest 5 multi 1 offset 1 oldest-multi 1 oldest-offset 1
 round 1
 a 1 status 4 -> too-old 5
@@ -137,12 +118,9 @@ multis
 log flushed 1 end 62
 0 checkpoint next 9 oldest 5 multi 1 offset 1 oldest-multi 1 oldest-offset 1
 end
-",
-        ),
-    },
-];
+";
 
 #[test]
 fn statuses(rt: HostRuntime) {
-    check_rows(&rt, &ROWS);
+    check_rows(&rt, ROWS);
 }

@@ -20,72 +20,82 @@ pub fn report_past<G: Gate + Sync>(
     run.written
 }
 
-/// What a report is, or has.
-#[derive(Drop)]
-pub enum Told {
-    Report(&'static str),
-    /// One of the two, since two events may stand in either order.
-    Either(&'static str, &'static str),
-    /// Each of these texts, whose lines stand in it one behind another.
-    Has(&'static [&'static str]),
+/// Whether these lines stand in a text, one behind another.
+fn has_lines(text: &str, lines: &str) -> bool {
+    match text.split_once(lines) {
+        Some((front, _)) => front.ends_with("\n"),
+        None => false,
+    }
 }
 
-#[derive(Drop)]
-pub struct Row {
-    pub name: &'static str,
-    pub script: &'static str,
-    pub told: Told,
-}
-
-/// Whether each of these texts stands in a report behind the end of a line.
-fn has_all(report: &str, texts: &[&str]) -> bool {
-    for text in texts {
-        match report.split_once(text) {
-            Some((front, _)) if front.ends_with("\n") => {}
-            _ => return false,
+/// Whether the report is what the row's texts say, or has it.
+fn holds(report: &str, texts: &str) -> bool {
+    for part in texts.split("--- ") {
+        let (kind, text) = part.split_once("\n").unwrap_or(("", ""));
+        let is_so = match kind {
+            "report" => report == text,
+            "part" => has_lines(report, text),
+            _ => false,
+        };
+        if !is_so {
+            return false;
         }
     }
     true
 }
 
-/// The report is or has what the row tells of it, and is lawful to the checker.
-pub fn check_report(rt: &(impl Abort + AllocGlobal), row: &Row, report: &str) {
-    let is_as_told = match &row.told {
-        Told::Report(text) => report == *text,
-        Told::Either(one, other) => report == *one || report == *other,
-        Told::Has(texts) => has_all(report, texts),
-    };
-    let is_well = is_as_told && is_lawful(rt, report);
-    assert!(rt; is_well, "{}: {report}", row.name);
+/// The report of a row is or has what the texts say, and is lawful to the checker.
+pub fn check_report(rt: &(impl Abort + AllocGlobal), name: &str, texts: &str, report: &str) {
+    let is_well = holds(report, texts) && is_lawful(rt, report);
+    assert!(rt; is_well, "{name}: {report}");
 }
 
-/// The script of a row behind these lines, with its line `N times a save` written out, N being 64 or 1001.
+/// The script of a row behind these lines, with a line `64 times a save`, or 1001 times, written out.
 pub fn written_out(rt: &(impl Abort + AllocGlobal), front: &str, script: &str) -> String {
-    let alloc = rt.alloc();
-    let few = "a save\n".repeat(alloc, 64).expect(rt, "memory");
-    let many = "a save\n".repeat(alloc, 1001).expect(rt, "memory");
-    let script = script
-        .replace(alloc, "64 times a save\n", few.as_str())
-        .expect(rt, "memory");
-    let script = script
-        .replace(alloc, "1001 times a save\n", many.as_str())
-        .expect(rt, "memory");
-    format!(in alloc; "{front}{script}").expect(rt, "memory")
+    let (before, count, behind) = match script.split_once("1001 times a save\n") {
+        Some((before, behind)) => (before, 1001, behind),
+        None => match script.split_once("64 times a save\n") {
+            Some((before, behind)) => (before, 64, behind),
+            None => (script, 0, ""),
+        },
+    };
+    let saves = "a save\n".repeat(rt.alloc(), count).expect(rt, "memory");
+    let mut text = String::from_str(rt.alloc(), front).expect(rt, "memory");
+    text.push_str(before).expect(rt, "memory");
+    text.push_str(saves.as_str()).expect(rt, "memory");
+    text.push_str(behind).expect(rt, "memory");
+    text
 }
 
-/// Runs the row's script behind these header lines.
-fn check_row(rt: &(impl Abort + AllocGlobal + Threads + Wait + Sync), banks: &str, row: &Row) {
-    let script = written_out(rt, banks, row.script);
+/// Runs the script behind these header lines.
+fn check_run(
+    rt: &(impl Abort + AllocGlobal + Threads + Wait + Sync),
+    banks: &str,
+    name: &str,
+    script: &str,
+    texts: &str,
+) {
+    let script = written_out(rt, banks, script);
     let report = report_past(rt, script.as_str(), RoundThreads::AtMost(4), &OpenGate);
-    check_report(rt, row, report.as_str());
+    check_report(rt, name, texts, report.as_str());
 }
 
-/// Runs the script of each row with 1, 2, 4 and 16 banks.
-pub fn check_rows(rt: &(impl Abort + AllocGlobal + Threads + Wait + Sync), rows: &[Row]) {
-    for row in rows {
-        check_row(rt, "", row);
-        check_row(rt, ".banks 1\n", row);
-        check_row(rt, ".banks 2\n", row);
-        check_row(rt, ".banks 16\n", row);
+/// Runs the row's script with 1, 2, 4 and 16 banks.
+fn check_row(rt: &(impl Abort + AllocGlobal + Threads + Wait + Sync), row: &str) {
+    let (front, texts) = row.split_once("--- ").expect(rt, "a row with a text");
+    let (name, script) = front.split_once("\n").expect(rt, "a row with a name");
+    check_run(rt, "", name, script, texts);
+    check_run(rt, ".banks 1\n", name, script, texts);
+    check_run(rt, ".banks 2\n", name, script, texts);
+    check_run(rt, ".banks 16\n", name, script, texts);
+}
+
+/// Runs the scripts of these rows. A row is a line `=== NAME`, the script, and behind a line `--- report` the whole report, or
+/// behind each line `--- part` lines that stand in it one behind another.
+pub fn check_rows(rt: &(impl Abort + AllocGlobal + Threads + Wait + Sync), rows: &str) {
+    for row in rows.split("=== ") {
+        if !row.is_empty() {
+            check_row(rt, row);
+        }
     }
 }

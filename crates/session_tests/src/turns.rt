@@ -1,5 +1,5 @@
 //! Sessions that wait for each other before critical sections that a row names.
-use crate::test_help::{Row, check_report, report_past, written_out};
+use crate::test_help::{check_report, report_past, written_out};
 use engine_parts::Gate;
 use script_rounds::RoundThreads;
 use std::alloc::AllocGlobal;
@@ -86,24 +86,41 @@ impl Gate for Turns {
     }
 }
 
-/// A row, and which of its sessions waits for which.
+/// A row: its script, which session waits for which, and what the report is or has.
 #[derive(Drop)]
-pub struct Turned {
+pub struct Row {
+    pub name: &'static str,
+    pub script: &'static str,
     pub turns: &'static [Turn],
-    pub row: Row,
+    pub texts: &'static str,
 }
 
-/// Runs the script of a row past its turns on such threads. Whether a session waits in vain is as it is told.
+/// The report of a run past the row's turns on such threads. Whether a session waits in vain is as it is told.
+pub fn report_of_turns(
+    rt: &(impl Abort + AllocGlobal + Threads + Wait + Sync),
+    row: &Row,
+    threads: RoundThreads,
+    waits_in_vain: bool,
+) -> String {
+    let gate = Turns::of(row.turns);
+    let script = written_out(rt, "", row.script);
+    let report = report_past(rt, script.as_str(), threads, &gate);
+    let ran_out = gate.ran_out.load(Ordering::SeqCst);
+    assert!(rt;
+        ran_out == waits_in_vain,
+        "{}: {ran_out} {report}",
+        row.name
+    );
+    report
+}
+
+/// The same report is or has what the row says, and is lawful to the checker.
 pub fn check_turns(
     rt: &(impl Abort + AllocGlobal + Threads + Wait + Sync),
-    turned: &Turned,
+    row: &Row,
     threads: RoundThreads,
     waits_in_vain: bool,
 ) {
-    let gate = Turns::of(turned.turns);
-    let script = written_out(rt, "", turned.row.script);
-    let report = report_past(rt, script.as_str(), threads, &gate);
-    check_report(rt, &turned.row, report.as_str());
-    let ran_out = gate.ran_out.load(Ordering::SeqCst);
-    assert!(rt; ran_out == waits_in_vain, "{}: {ran_out}", turned.row.name);
+    let report = report_of_turns(rt, row, threads, waits_in_vain);
+    check_report(rt, row.name, row.texts, report.as_str());
 }

@@ -1,6 +1,7 @@
 //! What is generated, and what it comes to.
 use crate::help::{check_row, id};
-use crate::scripts::Asks::{Begin, Commit, Drop, Release, Save, See, Snap, Undo, Write};
+use crate::scripts::Line::Of;
+use crate::scripts::Word::{Begin, Commit, Drop, Release, Save, See, Snap, Undo, Write};
 use crate::scripts::check_script;
 use script_gen::{Summary, generate};
 use session_lang::{Item, Items, Script};
@@ -79,21 +80,21 @@ pub fn first_script_of_the_format_is_drawn_as_it_says(rt: &(impl Abort + AllocGl
         4,
         &[b"a"],
         &[
-            (0, Begin),
-            (0, Write),
-            (0, Save),
-            (0, Write),
-            (0, Undo),
-            (0, Save),
-            (0, Write),
-            (0, Undo),
-            (0, Save),
-            (0, Write),
-            (0, Release),
-            (0, Snap(b"s")),
-            (0, See(b"s", 3)),
-            (0, Drop(b"s")),
-            (0, Commit),
+            Of(0, Begin, b"", 0),
+            Of(0, Write, b"", 0),
+            Of(0, Save, b"", 0),
+            Of(0, Write, b"", 0),
+            Of(0, Undo, b"", 0),
+            Of(0, Save, b"", 0),
+            Of(0, Write, b"", 0),
+            Of(0, Undo, b"", 0),
+            Of(0, Save, b"", 0),
+            Of(0, Write, b"", 0),
+            Of(0, Release, b"", 0),
+            Of(0, Snap, b"s", 0),
+            Of(0, See, b"s", 3),
+            Of(0, Drop, b"s", 0),
+            Of(0, Commit, b"", 0),
         ],
     );
 }

@@ -9,7 +9,7 @@ use report_read::{ReadRefusal, read_report};
 use report_text::print_report;
 use std::alloc::AllocGlobal;
 use std::process::Abort;
-use tx_model::Report;
+use tx_model::{LifeReport, Report};
 
 /// This is the text of the report.
 fn check_printed(rt: &(impl Abort + AllocGlobal), report: &Report, wanted: &str) {
@@ -26,15 +26,18 @@ fn read_back(rt: &(impl Abort + AllocGlobal), text: &str) -> Report {
     report
 }
 
+fn has_nothing_before(report: &LifeReport) -> bool {
+    report.life.committed.items().is_empty() && report.life.recorded.items().is_empty()
+}
+
 /// The lives of a run are read back: its two, with no ids committed and no multixacts recorded before them.
 fn the_lives_of_a_run_are_read_back(rt: &(impl Abort + AllocGlobal)) {
     let report = read_back(rt, FROZEN);
-    let lives = report.lives.items();
-    assert!(rt; report.names.items().len() == 2 && lives.len() == 2);
-    for report in lives {
-        let life = &report.life;
-        assert!(rt; life.committed.items().is_empty() && life.recorded.items().is_empty());
-    }
+    let [first, second] = report.lives.items() else {
+        panic!(rt; "there are two lives")
+    };
+    assert!(rt; report.names.items().len() == 2);
+    assert!(rt; has_nothing_before(first) && has_nothing_before(second));
 }
 
 /// A wrong line of a text, and its number.
@@ -97,15 +100,17 @@ const WRONG_LINES: [WrongLine; 18] = [
     ),
 ];
 
+fn check_wrong_line(rt: &(impl Abort + AllocGlobal), text: &str, wanted: u64) {
+    let found = match read_report(rt.alloc(), text.as_bytes()) {
+        Err(ReadRefusal::Line { line }) => line,
+        _ => 0,
+    };
+    check_row(rt, found == wanted, text);
+}
+
 fn the_first_wrong_line_is_named(rt: &(impl Abort + AllocGlobal)) {
-    for (pieces, wanted) in WRONG_LINES {
-        let text = joined(rt, pieces);
-        let text = text.as_str();
-        let found = match read_report(rt.alloc(), text.as_bytes()) {
-            Err(ReadRefusal::Line { line }) => line,
-            _ => 0,
-        };
-        check_row(rt, found == wanted, text);
+    for (pieces, wanted) in &WRONG_LINES {
+        check_wrong_line(rt, joined(rt, pieces).as_str(), *wanted);
     }
 }
 

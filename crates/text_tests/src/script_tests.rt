@@ -6,7 +6,8 @@ use crate::generated::{
     scripts_have_the_counts_that_were_printed_elsewhere,
 };
 use crate::help::{check_row, joined};
-use crate::scripts::Asks::{Crash, Did, Drop, Dump, Multi, See, SeeMulti, Snap, Status};
+use crate::scripts::Line::{Crash, Dump, Multi, Of};
+use crate::scripts::Word::{Did, Drop, See, SeeMulti, Snap, Status};
 use crate::scripts::check_script;
 use session_lang::{Kind, ParseRefusal, Script, line_of, parse};
 use std::alloc::AllocGlobal;
@@ -59,17 +60,37 @@ const FAULTS: [(&str, u64, Kind); 24] = [
 ];
 
 fn first_fault_is_told_with_its_line_and_kind(rt: &(impl Abort + AllocGlobal)) {
-    for (text, line, kind) in FAULTS {
-        check_fault(rt, text, line, kind);
+    for (text, line, kind) in &FAULTS {
+        check_fault(rt, text, *line, *kind);
     }
 }
 
-const fn pair(number: u32, mode: Mode) -> Pair {
+const UPD_AND_SH: [Pair; 2] = [
     Pair {
-        x: Xid { number },
-        mode,
-    }
-}
+        x: Xid { number: 3 },
+        mode: Mode::Upd,
+    },
+    Pair {
+        x: Xid { number: 4 },
+        mode: Mode::Sh,
+    },
+];
+
+const SH_AND_UPD: [Pair; 2] = [
+    Pair {
+        x: Xid { number: 3 },
+        mode: Mode::Sh,
+    },
+    Pair {
+        x: Xid { number: 4 },
+        mode: Mode::Upd,
+    },
+];
+
+const KEY_SH: [Pair; 1] = [Pair {
+    x: Xid { number: 5 },
+    mode: Mode::KeySh,
+}];
 
 /// The item at this place stands on this line, or on none, which is 0.
 fn check_line_of(rt: &impl Abort, text: &str, place: usize, line: u64) {
@@ -84,15 +105,15 @@ fn blanks_comments_and_line_ends_are_no_part_of_a_script(rt: &(impl Abort + Allo
         &read(rt, text),
         16,
         &[b"b"],
-        &[
-            (0, Multi(&[pair(3, Mode::Upd), pair(4, Mode::Sh)])),
-            (0, Crash(How::Torn)),
-            (0, Did(1)),
-        ],
+        &[Multi(0, &UPD_AND_SH), Crash(How::Torn), Of(0, Did, b"", 1)],
     );
     check_line_of(rt, text, 0, 4);
     check_line_of(rt, text, 1, 5);
     check_line_of(rt, text, 3, 0);
+}
+
+fn check_session_at(rt: &impl Abort, script: &Script, place: usize, session: Option<u32>) {
+    assert!(rt; script.items.items().session_at(place) == session);
 }
 
 fn each_command_has_its_own_name_and_number(rt: &(impl Abort + AllocGlobal)) {
@@ -106,15 +127,15 @@ fn each_command_has_its_own_name_and_number(rt: &(impl Abort + AllocGlobal)) {
         4,
         &[b"a", b"b"],
         &[
-            (0, Snap(b"first")),
-            (1, See(b"s", 7)),
-            (0, SeeMulti(b"second1", 9)),
-            (1, Status(4_294_967_303)),
-            (0, Drop(b"first")),
+            Of(0, Snap, b"first", 0),
+            Of(1, See, b"s", 7),
+            Of(0, SeeMulti, b"second1", 9),
+            Of(1, Status, b"", 4_294_967_303),
+            Of(0, Drop, b"first", 0),
         ],
     );
-    let items = script.items.items();
-    assert!(rt; items.session_at(4) == Some(0) && items.session_at(5).is_none());
+    check_session_at(rt, &script, 4, Some(0));
+    check_session_at(rt, &script, 5, None);
 }
 
 fn each_multixact_and_dump_has_its_own_part(rt: &(impl Abort + AllocGlobal)) {
@@ -126,10 +147,10 @@ fn each_multixact_and_dump_has_its_own_part(rt: &(impl Abort + AllocGlobal)) {
         4,
         &[b"a"],
         &[
-            (0, Multi(&[pair(3, Mode::Sh), pair(4, Mode::Upd)])),
-            (0, Dump(DumpOf::Log, 1_099_511_627_776, 64)),
-            (0, Multi(&[pair(5, Mode::KeySh)])),
-            (0, Dump(DumpOf::Xact { page: 7 }, 8, 9)),
+            Multi(0, &SH_AND_UPD),
+            Dump(DumpOf::Log, 1_099_511_627_776, 64),
+            Multi(0, &KEY_SH),
+            Dump(DumpOf::Xact { page: 7 }, 8, 9),
         ],
     );
 }
@@ -161,10 +182,14 @@ const SHORT_LINES: [&str; 24] = [
     ".dump xact 0 0 1",
 ];
 
+fn check_kept(rt: &(impl Abort + AllocGlobal), text: &str) {
+    let kept = read(rt, text).items.bytes_kept();
+    check_row(rt, kept <= text.len().saturating_mul(2), text);
+}
+
 fn shortest_line_of_each_kind_takes_at_most_twice_its_text(rt: &(impl Abort + AllocGlobal)) {
-    for text in SHORT_LINES {
-        let kept = read(rt, text).items.bytes_kept();
-        check_row(rt, kept <= text.len().saturating_mul(2), text);
+    for text in &SHORT_LINES {
+        check_kept(rt, text);
     }
 }
 

@@ -4,55 +4,105 @@ use std::alloc::AllocGlobal;
 use std::process::Abort;
 use tx_model::{Command, DumpOf, How, Pair};
 
-/// What a line of a script asks for.
+/// Which command a line has.
 #[derive(Clone, Copy, PartialEq, Eq)]
-pub enum Asks<'a> {
+pub enum Word {
     Begin,
     Save,
     Write,
     Release,
     Undo,
     Commit,
-    Snap(&'a [u8]),
-    Drop(&'a [u8]),
-    See(&'a [u8], u32),
-    SeeMulti(&'a [u8], u32),
-    Status(u64),
-    Did(u32),
-    Multi(&'a [Pair]),
-    Crash(How),
-    Dump(DumpOf, u64, u32),
+    Snap,
+    Drop,
+    See,
+    SeeMulti,
+    Status,
+    Did,
     Else,
 }
 
-fn asked_by(command: &Command) -> Asks<'_> {
+/// A line of a script.
+#[derive(Clone, Copy)]
+pub enum Line {
+    /// A session's command, with the name and the number behind it: no name and 0 where it has none.
+    Of(u32, Word, &'static [u8], u64),
+    /// A session's multixact of these members.
+    Multi(u32, &'static [Pair]),
+    Crash(How),
+    Dump(DumpOf, u64, u32),
+}
+
+fn word_of(command: &Command) -> Word {
     match command {
-        Command::Begin => Asks::Begin,
-        Command::Save => Asks::Save,
-        Command::Write => Asks::Write,
-        Command::Release => Asks::Release,
-        Command::Undo => Asks::Undo,
-        Command::Commit => Asks::Commit,
-        Command::Snap { name } => Asks::Snap(name.items()),
-        Command::DropSnap { name } => Asks::Drop(name.items()),
-        Command::See { name, x } => Asks::See(name.items(), x.number),
-        Command::SeeMulti { name, multi } => Asks::SeeMulti(name.items(), multi.number),
-        Command::Status { x } => Asks::Status(x.number()),
-        Command::Did { x } => Asks::Did(x.number),
-        Command::Multi { members } => Asks::Multi(members.items()),
-        _ => Asks::Else,
+        Command::Begin => Word::Begin,
+        Command::Save => Word::Save,
+        Command::Write => Word::Write,
+        Command::Release => Word::Release,
+        Command::Undo => Word::Undo,
+        Command::Commit => Word::Commit,
+        Command::Snap { .. } => Word::Snap,
+        Command::DropSnap { .. } => Word::Drop,
+        Command::See { .. } => Word::See,
+        Command::SeeMulti { .. } => Word::SeeMulti,
+        Command::Status { .. } => Word::Status,
+        Command::Did { .. } => Word::Did,
+        _ => Word::Else,
     }
 }
 
-/// The session of a line, which is 0 where the line is none of a session, and what it asks for.
-pub type Line<'a> = (u32, Asks<'a>);
+fn name_of(command: &Command) -> &[u8] {
+    match command {
+        Command::Snap { name } => name.items(),
+        Command::DropSnap { name } => name.items(),
+        Command::See { name, .. } => name.items(),
+        Command::SeeMulti { name, .. } => name.items(),
+        _ => &[],
+    }
+}
 
-fn line_of(item: &Item) -> Line<'_> {
-    match item {
-        Item::Run { session, command } => (*session, asked_by(command)),
-        Item::Crash { how } => (0, Asks::Crash(*how)),
-        Item::Dump { what, at, length } => (0, Asks::Dump(*what, *at, *length)),
-        _ => (0, Asks::Else),
+fn number_of(command: &Command) -> u64 {
+    match command {
+        Command::See { x, .. } => u64::from(x.number),
+        Command::SeeMulti { multi, .. } => u64::from(multi.number),
+        Command::Status { x } => x.number(),
+        Command::Did { x } => u64::from(x.number),
+        _ => 0,
+    }
+}
+
+fn is_of_session(session: u32, command: &Command, line: &Line) -> bool {
+    match line {
+        Line::Of(by, word, name, number) => {
+            session == *by
+                && word_of(command) == *word
+                && name_of(command) == *name
+                && number_of(command) == *number
+        }
+        Line::Multi(by, pairs) => match command {
+            Command::Multi { members } => session == *by && members.items() == *pairs,
+            _ => false,
+        },
+        _ => false,
+    }
+}
+
+fn is_line(item: &Item, line: &Line) -> bool {
+    match (item, line) {
+        (Item::Run { session, command }, line) => is_of_session(*session, command, line),
+        (Item::Crash { how }, Line::Crash(by)) => how == by,
+        (Item::Dump { what, at, length }, Line::Dump(of, from, count)) => {
+            what == of && at == from && length == count
+        }
+        _ => false,
+    }
+}
+
+fn check_names(rt: &impl Abort, script: &Script, names: &[&[u8]]) {
+    let found = script.names.items();
+    assert!(rt; found.len() == names.len());
+    for (name, wanted) in found.iter().zip(names) {
+        assert!(rt; name.items() == *wanted);
     }
 }
 
@@ -64,15 +114,11 @@ pub fn check_script(
     names: &[&[u8]],
     lines: &[Line],
 ) {
-    let found = script.names.items();
+    check_names(rt, script, names);
     let items = script.items.items();
-    assert!(rt; script.banks == banks);
-    assert!(rt; found.len() == names.len() && items.len() == lines.len());
-    for (name, wanted) in found.iter().zip(names) {
-        assert!(rt; name.items() == *wanted);
-    }
-    for (place, wanted) in lines.iter().enumerate() {
+    assert!(rt; script.banks == banks && items.len() == lines.len());
+    for (place, line) in lines.iter().enumerate() {
         let item = items.get(place).expect(rt, "memory").expect(rt, "an item");
-        assert!(rt; line_of(&item) == *wanted, "at {place}");
+        assert!(rt; is_line(&item, line), "at {place}");
     }
 }

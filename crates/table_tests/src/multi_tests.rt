@@ -1,4 +1,6 @@
 // Worked runs of the generator, with numbers and offsets from the rules.
+ghost use Rattle.std.specs.Prelude.{◌≡◌};
+
 use crate::numbers::{Why, id, multi, raised, refusal};
 use Step::{Counts, Events, Hold, Holds, Next, Raise, Unhold};
 use multi_store::{Held, MultiGen, MultiGiven, check_members};
@@ -239,7 +241,9 @@ const CHECKS: [(&[(Mode, usize)], Result<(), Refusal>); 5] = [
     (&[(Upd, 1), (NoKeyUpd, 1)], Err(Refusal::TwoUpdaters)),
 ];
 
-fn by(session: u32) -> By {
+fn by(session: u32) -> By
+    ensures { result.session ≡ session }
+{
     By {
         session,
         command: 1,

@@ -11,6 +11,9 @@ use std::thread::{Threads, yield_now};
 /// So often a session looks whether another one came, before it goes on.
 const LOOKS: u32 = 1_000_000;
 
+/// So often it looks where it is to wait in vain.
+const FEW_LOOKS: u32 = 1_000;
+
 /// No command of a row has as many critical sections.
 const MOST_SECTIONS: u64 = 1_000;
 
@@ -39,6 +42,7 @@ pub const C: u32 = 2;
 #[derive(Drop)]
 struct Turns {
     turns: &'static [Turn],
+    looks: u32,
     /// The place to which each session has come.
     came: [AtomicU64; 3],
     /// Whether a session was held for all its looks.
@@ -46,9 +50,10 @@ struct Turns {
 }
 
 impl Turns {
-    fn of(turns: &'static [Turn]) -> Turns {
+    fn of(turns: &'static [Turn], looks: u32) -> Turns {
         Turns {
             turns,
+            looks,
             came: [AtomicU64::new(0), AtomicU64::new(0), AtomicU64::new(0)],
             ran_out: AtomicBool::new(false),
         }
@@ -62,7 +67,7 @@ impl Turns {
     }
 
     fn wait_for(&self, session: u32, until: u64) {
-        for _ in 0..LOOKS {
+        for _ in 0..self.looks {
             if self.has_come(session, until) || self.ran_out.load(Ordering::SeqCst) {
                 return;
             }
@@ -102,7 +107,8 @@ pub fn report_of_turns(
     threads: RoundThreads,
     waits_in_vain: bool,
 ) -> String {
-    let gate = Turns::of(row.turns);
+    let looks = if waits_in_vain { FEW_LOOKS } else { LOOKS };
+    let gate = Turns::of(row.turns, looks);
     let script = written_out(rt, "", row.script);
     let report = report_past(rt, script.as_str(), threads, &gate);
     let ran_out = gate.ran_out.load(Ordering::SeqCst);

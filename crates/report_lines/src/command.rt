@@ -9,6 +9,7 @@ ghost use Rattle.report_lines.specs.Commands.{plain_command, named_command, numb
 ghost use Rattle.report_lines.specs.Fits.{FitsCommand, FitsLine};
 ghost use Rattle.report_lines.specs.Texts.{IsLineOf};
 
+use crate::word::is_word;
 use report_text::{Text, put_command_line};
 use report_words::{
     Unread, by_at, fits_by, fits_reply, full_id, full_multi, kind_of, name_of, number_at,
@@ -22,31 +23,31 @@ use tx_model::{Command, Line, Memory, NameList, PairList, is_name};
 fn plain_command(word: &[u8]) -> Option<Command>
     ensures { result ≡ plain_command word.now }
 {
-    if word == b"begin".as_slice() {
+    if is_word(word, b"begin") {
         return Some(Command::Begin);
     }
-    if word == b"save".as_slice() {
+    if is_word(word, b"save") {
         return Some(Command::Save);
     }
-    if word == b"write".as_slice() {
+    if is_word(word, b"write") {
         return Some(Command::Write);
     }
-    if word == b"release".as_slice() {
+    if is_word(word, b"release") {
         return Some(Command::Release);
     }
-    if word == b"undo".as_slice() {
+    if is_word(word, b"undo") {
         return Some(Command::Undo);
     }
-    if word == b"commit".as_slice() {
+    if is_word(word, b"commit") {
         return Some(Command::Commit);
     }
-    if word == b"abort".as_slice() {
+    if is_word(word, b"abort") {
         return Some(Command::Abort);
     }
-    if word == b"trim".as_slice() {
+    if is_word(word, b"trim") {
         return Some(Command::Trim);
     }
-    if word == b"horizon".as_slice() {
+    if is_word(word, b"horizon") {
         return Some(Command::Horizon);
     }
     None
@@ -62,13 +63,13 @@ fn named_command<'a>(
     ensures { Gives (λ x. (x.0, behind x.1.now)) result (named_command word.now name.now (behind rest.now)) }
 {
     let name = name_of(name)?;
-    if word == b"snap".as_slice() {
+    if is_word(word, b"snap") {
         return Ok((Command::Snap { name }, rest));
     }
-    if word == b"drop".as_slice() {
+    if is_word(word, b"drop") {
         return Ok((Command::DropSnap { name }, rest));
     }
-    if word == b"see".as_slice() {
+    if is_word(word, b"see") {
         let (number, rest) = number_at(rest)?;
         let number = small(number)?;
         return Ok((
@@ -79,7 +80,7 @@ fn named_command<'a>(
             rest,
         ));
     }
-    if word == b"seemulti".as_slice() {
+    if is_word(word, b"seemulti") {
         let (number, rest) = number_at(rest)?;
         let number = small(number)?;
         return Ok((
@@ -97,19 +98,19 @@ fn named_command<'a>(
 fn number_command(word: &[u8], number: u64) -> Result<Command, Unread>
     ensures { Gives (λ x. x) result (number_command word.now number) }
 {
-    if word == b"status".as_slice() {
+    if is_word(word, b"status") {
         let x = full_id(number)?;
         return Ok(Command::Status { x });
     }
-    if word == b"did".as_slice() {
+    if is_word(word, b"did") {
         let number = small(number)?;
         return Ok(Command::Did { x: Xid { number } });
     }
-    if word == b"freeze".as_slice() {
+    if is_word(word, b"freeze") {
         let oldest = full_id(number)?;
         return Ok(Command::Freeze { oldest });
     }
-    if word == b"multifreeze".as_slice() {
+    if is_word(word, b"multifreeze") {
         let multi = full_multi(number)?;
         return Ok(Command::MultiFreeze { multi });
     }
@@ -119,16 +120,16 @@ fn number_command(word: &[u8], number: u64) -> Result<Command, Unread>
 fn is_named(word: &[u8]) -> bool
     ensures { result ≡ is_named word.now }
 {
-    if word == b"snap".as_slice() {
+    if is_word(word, b"snap") {
         return true;
     }
-    if word == b"drop".as_slice() {
+    if is_word(word, b"drop") {
         return true;
     }
-    if word == b"see".as_slice() {
+    if is_word(word, b"see") {
         return true;
     }
-    word == b"seemulti".as_slice()
+    is_word(word, b"seemulti")
 }
 
 #[tactic(auto, unfolding(crate::specs::Commands::long_command))]
@@ -139,7 +140,7 @@ fn long_command<'a>(
 ) -> Result<(Command, &'a [u8]), Unread>
     ensures { Gives (λ x. (x.0, behind x.1.now)) result (long_command word.now (behind rest.now)) }
 {
-    if word == b"multi".as_slice() {
+    if is_word(word, b"multi") {
         let mut members = PairList::new(alloc)?;
         let rest = read_pairs(&mut members, rest)?;
         return Ok((Command::Multi { members }, rest));

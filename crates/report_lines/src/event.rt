@@ -8,6 +8,7 @@ ghost use Rattle.report_lines.specs.Events.{id_event, event_rest_at, event_at};
 ghost use Rattle.report_lines.specs.Fits.{FitsEvent};
 ghost use Rattle.report_lines.specs.Texts.{IsLineOf, event_line};
 
+use crate::word::is_word;
 use report_text::{Text, put_event};
 use report_words::{Unread, by_at, fits_by, full_id, id_fits, name_of, number_at, word_at};
 use tx_events::FullXid;
@@ -18,10 +19,10 @@ use tx_model::{By, Event, Memory, NameList, is_name};
 fn id_event(word: &[u8], by: By, id: FullXid, rest: &[u8]) -> Result<Event, Unread>
     ensures { Gives (λ x. x) result (id_event word.now by id (behind rest.now)) }
 {
-    if word == b"id".as_slice() {
+    if is_word(word, b"id") {
         return Ok(Event::Id { by, id });
     }
-    if word == b"sub".as_slice() {
+    if is_word(word, b"sub") {
         let (below, _rest) = number_at(rest)?;
         let below = full_id(below)?;
         return Ok(Event::Sub {
@@ -30,19 +31,19 @@ fn id_event(word: &[u8], by: By, id: FullXid, rest: &[u8]) -> Result<Event, Unre
             id: below,
         });
     }
-    if word == b"undo".as_slice() {
+    if is_word(word, b"undo") {
         return Ok(Event::Undo { by, id });
     }
-    if word == b"commit".as_slice() {
+    if is_word(word, b"commit") {
         return Ok(Event::Commit { by, top: id });
     }
-    if word == b"abort".as_slice() {
+    if is_word(word, b"abort") {
         return Ok(Event::Abort { by, top: id });
     }
-    if word == b"oldest".as_slice() {
+    if is_word(word, b"oldest") {
         return Ok(Event::Oldest { by, oldest: id });
     }
-    if word == b"ask".as_slice() {
+    if is_word(word, b"ask") {
         return Ok(Event::Ask { by, id });
     }
     Err(Unread::Form)
@@ -52,12 +53,12 @@ fn id_event(word: &[u8], by: By, id: FullXid, rest: &[u8]) -> Result<Event, Unre
 fn event_rest_at(word: &[u8], by: By, rest: &[u8]) -> Result<Event, Unread>
     ensures { Gives (λ x. x) result (event_rest_at word.now by (behind rest.now)) }
 {
-    if word == b"snap".as_slice() {
+    if is_word(word, b"snap") {
         let (name, _rest) = word_at(rest)?;
         let name = name_of(name)?;
         return Ok(Event::Snap { by, name });
     }
-    if word == b"drop".as_slice() {
+    if is_word(word, b"drop") {
         let (name, _rest) = word_at(rest)?;
         let name = name_of(name)?;
         return Ok(Event::SnapDrop { by, name });

@@ -11,6 +11,7 @@ mod life;
 mod multi;
 mod record;
 mod step;
+mod word;
 
 pub use command::read_line;
 pub use cut::next_line;

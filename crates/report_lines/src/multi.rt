@@ -8,6 +8,7 @@ ghost use Rattle.report_lines.specs.Events.{gen_at, multi_rest_at, multi_event_a
 ghost use Rattle.report_lines.specs.Fits.{FitsMultiEvent};
 ghost use Rattle.report_lines.specs.Texts.{IsLineOf, multi_line};
 
+use crate::word::is_word;
 use report_text::{Text, put_multi_event};
 use report_words::{
     Unread, by_at, fits_by, full_multi, members_fit, multi_fits, number_at, read_members, word_at,
@@ -41,16 +42,16 @@ fn multi_rest_at(
 ) -> Result<MultiEvent, Unread>
     ensures { Gives (λ x. x) result (multi_rest_at word.now by multi (behind rest.now)) }
 {
-    if word == b"gen".as_slice() {
+    if is_word(word, b"gen") {
         return gen_at(alloc, by, multi, rest);
     }
-    if word == b"hold".as_slice() {
+    if is_word(word, b"hold") {
         return Ok(MultiEvent::Hold { by, multi });
     }
-    if word == b"unhold".as_slice() {
+    if is_word(word, b"unhold") {
         return Ok(MultiEvent::Unhold { by, multi });
     }
-    if word == b"raise".as_slice() {
+    if is_word(word, b"raise") {
         let (offset, _rest) = number_at(rest)?;
         return Ok(MultiEvent::Raise { by, multi, offset });
     }

@@ -7,6 +7,7 @@ ghost use Rattle.report_lines.specs.Records.{ended_at, multi_record_at, truncate
 ghost use Rattle.report_lines.specs.Fits.{FitsRecord};
 ghost use Rattle.report_lines.specs.Texts.{IsLineOf, record_line};
 
+use crate::word::is_word;
 use report_text::{Text, put_record_line};
 use report_words::{
     Unread, counters_at, counters_fit, full_id, full_multi, id_fits, ids_fit, members_fit,
@@ -25,10 +26,10 @@ fn ended_at(alloc: Global, rest: &[u8]) -> Result<Rec, Unread>
     let top = full_id(top)?;
     let mut subs = IdList::new(alloc);
     let _rest = read_ids(&mut subs, rest)?;
-    if word == b"commit".as_slice() {
+    if is_word(word, b"commit") {
         return Ok(Rec::Commit { top, subs });
     }
-    if word == b"abort".as_slice() {
+    if is_word(word, b"abort") {
         return Ok(Rec::Abort { top, subs });
     }
     Err(Unread::Form)
@@ -71,14 +72,14 @@ fn record_at(alloc: Global, number: u64, rest: &[u8]) -> Result<Rec, Unread>
     ensures { Gives (λ x. x) result (record_at number (behind rest.now)) }
 {
     let (word, tail) = word_at(rest)?;
-    if word == b"multi".as_slice() {
+    if is_word(word, b"multi") {
         return multi_record_at(alloc, tail);
     }
-    if word == b"checkpoint".as_slice() {
+    if is_word(word, b"checkpoint") {
         let counters = counters_at(tail)?;
         return Ok(Rec::Checkpoint { number, counters });
     }
-    if word == b"truncate".as_slice() {
+    if is_word(word, b"truncate") {
         return truncate_at(tail);
     }
     ended_at(alloc, rest)

@@ -10,6 +10,7 @@ ghost use Rattle.report_lines.specs.Steps.{page_of, dumped_at, dump_at, checkpoi
 ghost use Rattle.report_lines.specs.Fits.{FitsDump, FitsStep};
 ghost use Rattle.report_lines.specs.Texts.{IsLineOf};
 
+use crate::word::is_word;
 use report_text::{Text, put_round_line, put_step};
 use report_words::{
     Unread, checkpoint_reply_at, dump_reply_at, fits_checkpoint_reply, fits_dump_reply, number_at,
@@ -22,16 +23,16 @@ use tx_model::{DumpOf, Memory, NameList, Step};
 fn page_of(word: &[u8], page: u32) -> Result<DumpOf, Unread>
     ensures { Gives (λ x. x) result (page_of word.now page) }
 {
-    if word == b"xact".as_slice() {
+    if is_word(word, b"xact") {
         return Ok(DumpOf::Xact { page });
     }
-    if word == b"subtrans".as_slice() {
+    if is_word(word, b"subtrans") {
         return Ok(DumpOf::Subtrans { page });
     }
-    if word == b"offsets".as_slice() {
+    if is_word(word, b"offsets") {
         return Ok(DumpOf::Offsets { page });
     }
-    if word == b"members".as_slice() {
+    if is_word(word, b"members") {
         return Ok(DumpOf::Members { page });
     }
     Err(Unread::Form)
@@ -42,7 +43,7 @@ fn dumped_at(rest: &[u8]) -> Result<(DumpOf, &[u8]), Unread>
     ensures { Gives (λ x. (x.0, behind x.1.now)) result (dumped_at (behind rest.now)) }
 {
     let (word, rest) = word_at(rest)?;
-    if word == b"log".as_slice() {
+    if is_word(word, b"log") {
         return Ok((DumpOf::Log, rest));
     }
     let (page, rest) = number_at(rest)?;
@@ -86,10 +87,10 @@ fn step_at(alloc: Global, names: &NameList, rest: &[u8]) -> Result<Step, Unread>
     ensures { Gives (λ x. x) result (step_at names.now (behind rest.now)) }
 {
     let (word, rest) = word_at(rest)?;
-    if word == b"checkpoint".as_slice() {
+    if is_word(word, b"checkpoint") {
         return checkpoint_at(names, rest);
     }
-    if word == b"dump".as_slice() {
+    if is_word(word, b"dump") {
         return dump_at(alloc, rest);
     }
     Err(Unread::Form)

@@ -1,4 +1,5 @@
 pub mod Events
+pub mod Plain
 pub mod Commands
 pub mod Steps
 pub mod Records

@@ -6,6 +6,7 @@ ghost use Rattle.report_words.specs.Reading.{Gives, IsOnly};
 ghost use Rattle.report_words.specs.Fits.{AreNames};
 ghost use Rattle.report_lines.specs.Events.{id_event, event_rest_at, event_at};
 ghost use Rattle.report_lines.specs.Fits.{FitsEvent};
+ghost use Rattle.report_lines.specs.Plain.{plain_event};
 ghost use Rattle.report_lines.specs.Texts.{IsLineOf, event_line};
 
 use crate::word::is_word;
@@ -13,6 +14,28 @@ use report_text::{Text, put_event};
 use report_words::{Unread, by_at, fits_by, full_id, id_fits, name_of, number_at, word_at};
 use tx_events::FullXid;
 use tx_model::{By, Event, Memory, NameList, is_name};
+
+/// An event that names one id that was given before.
+fn plain_event(word: &[u8], by: By, id: FullXid) -> Option<Event>
+    ensures { result ≡ plain_event word.now by id }
+{
+    if is_word(word, b"undo") {
+        return Some(Event::Undo { by, id });
+    }
+    if is_word(word, b"commit") {
+        return Some(Event::Commit { by, top: id });
+    }
+    if is_word(word, b"abort") {
+        return Some(Event::Abort { by, top: id });
+    }
+    if is_word(word, b"oldest") {
+        return Some(Event::Oldest { by, oldest: id });
+    }
+    if is_word(word, b"ask") {
+        return Some(Event::Ask { by, id });
+    }
+    None
+}
 
 /// An event that names an id first.
 #[tactic(auto, unfolding(crate::specs::Events::id_event))]
@@ -31,22 +54,10 @@ fn id_event(word: &[u8], by: By, id: FullXid, rest: &[u8]) -> Result<Event, Unre
             id: below,
         });
     }
-    if is_word(word, b"undo") {
-        return Ok(Event::Undo { by, id });
+    match plain_event(word, by, id) {
+        Some(event) => Ok(event),
+        None => Err(Unread::Form),
     }
-    if is_word(word, b"commit") {
-        return Ok(Event::Commit { by, top: id });
-    }
-    if is_word(word, b"abort") {
-        return Ok(Event::Abort { by, top: id });
-    }
-    if is_word(word, b"oldest") {
-        return Ok(Event::Oldest { by, oldest: id });
-    }
-    if is_word(word, b"ask") {
-        return Ok(Event::Ask { by, id });
-    }
-    Err(Unread::Form)
 }
 
 #[tactic(auto, unfolding(crate::specs::Events::event_rest_at))]

@@ -20,22 +20,22 @@ use std::alloc::Global;
 use tx_model::{DumpOf, Memory, NameList, Step};
 
 #[tactic(auto, unfolding(crate::specs::Steps::page_of))]
-fn page_of(word: &[u8], page: u32) -> Result<DumpOf, Unread>
-    ensures { Gives (λ x. x) result (page_of word.now page) }
+fn page_of(word: &[u8], page: u32) -> Option<DumpOf>
+    ensures { result ≡ page_of word.now page }
 {
     if is_word(word, b"xact") {
-        return Ok(DumpOf::Xact { page });
+        return Some(DumpOf::Xact { page });
     }
     if is_word(word, b"subtrans") {
-        return Ok(DumpOf::Subtrans { page });
+        return Some(DumpOf::Subtrans { page });
     }
     if is_word(word, b"offsets") {
-        return Ok(DumpOf::Offsets { page });
+        return Some(DumpOf::Offsets { page });
     }
     if is_word(word, b"members") {
-        return Ok(DumpOf::Members { page });
+        return Some(DumpOf::Members { page });
     }
-    Err(Unread::Form)
+    None
 }
 
 #[tactic(auto, unfolding(crate::specs::Steps::dumped_at))]
@@ -48,8 +48,10 @@ fn dumped_at(rest: &[u8]) -> Result<(DumpOf, &[u8]), Unread>
     }
     let (page, rest) = number_at(rest)?;
     let page = small(page)?;
-    let what = page_of(word, page)?;
-    Ok((what, rest))
+    match page_of(word, page) {
+        Some(what) => Ok((what, rest)),
+        None => Err(Unread::Form),
+    }
 }
 
 #[tactic(auto, unfolding(crate::specs::Steps::dump_at))]

@@ -25,4 +25,4 @@ pub use piece::small;
 pub use refusal::refusal_at;
 pub use reply::{Kind, checkpoint_reply_at, dump_reply_at, kind_of, reply_at};
 pub use unread::Unread;
-pub use word::{full_id, name_of, number_at, number_of, word_at};
+pub use word::{full_id, is_word, name_of, number_at, number_of, word_at};

@@ -6,7 +6,7 @@ ghost use Rattle.report_words.specs.Members.{pieces, beyond, mode_of, verdict_in
 
 use crate::piece::{first_piece, piece_at, small};
 use crate::unread::Unread;
-use crate::word::{full_id, number_of, word_at};
+use crate::word::{full_id, is_word, number_of, word_at};
 use std::alloc::Global;
 use tx_events::Xid;
 use tx_model::{Member, MemberList, MemberVerdict, Mode, Pair, PairList, Verdict, VerdictList};
@@ -15,22 +15,22 @@ use tx_model::{Member, MemberList, MemberVerdict, Mode, Pair, PairList, Verdict,
 fn mode_of(word: &[u8]) -> Result<Mode, Unread>
     ensures { Gives (λ x. x) result (mode_of word.now) }
 {
-    if word == b"keysh".as_slice() {
+    if is_word(word, b"keysh") {
         return Ok(Mode::KeySh);
     }
-    if word == b"sh".as_slice() {
+    if is_word(word, b"sh") {
         return Ok(Mode::Sh);
     }
-    if word == b"fornokeyupd".as_slice() {
+    if is_word(word, b"fornokeyupd") {
         return Ok(Mode::ForNoKeyUpd);
     }
-    if word == b"forupd".as_slice() {
+    if is_word(word, b"forupd") {
         return Ok(Mode::ForUpd);
     }
-    if word == b"nokeyupd".as_slice() {
+    if is_word(word, b"nokeyupd") {
         return Ok(Mode::NoKeyUpd);
     }
-    if word == b"upd".as_slice() {
+    if is_word(word, b"upd") {
         return Ok(Mode::Upd);
     }
     Err(Unread::Form)
@@ -40,13 +40,13 @@ fn mode_of(word: &[u8]) -> Result<Mode, Unread>
 fn verdict_in(word: &[u8]) -> Result<Verdict, Unread>
     ensures { Gives (λ x. x) result (verdict_in word.now) }
 {
-    if word == b"visible".as_slice() {
+    if is_word(word, b"visible") {
         return Ok(Verdict::Visible);
     }
-    if word == b"hidden".as_slice() {
+    if is_word(word, b"hidden") {
         return Ok(Verdict::Hidden);
     }
-    if word == b"too-old".as_slice() {
+    if is_word(word, b"too-old") {
         return Ok(Verdict::TooOld);
     }
     Err(Unread::Form)

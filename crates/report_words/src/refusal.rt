@@ -7,7 +7,7 @@ ghost use Rattle.report_words.specs.Refusals.{own_refusal, other_refusal, bank_l
 use crate::list::full_multi;
 use crate::piece::small;
 use crate::unread::Unread;
-use crate::word::{full_id, number_at, word_at};
+use crate::word::{full_id, is_word, number_at, word_at};
 use tx_events::{FullMulti, FullXid, Xid};
 use tx_model::{Lock, Refusal};
 
@@ -15,25 +15,25 @@ use tx_model::{Lock, Refusal};
 fn own_refusal(word: &[u8]) -> Option<Refusal>
     ensures { result ≡ own_refusal word.now }
 {
-    if word == b"already-open".as_slice() {
+    if is_word(word, b"already-open") {
         return Some(Refusal::AlreadyOpen);
     }
-    if word == b"no-transaction".as_slice() {
+    if is_word(word, b"no-transaction") {
         return Some(Refusal::NoTransaction);
     }
-    if word == b"no-savepoint".as_slice() {
+    if is_word(word, b"no-savepoint") {
         return Some(Refusal::NoSavepoint);
     }
-    if word == b"depth-limit".as_slice() {
+    if is_word(word, b"depth-limit") {
         return Some(Refusal::DepthLimit);
     }
-    if word == b"commit-pending".as_slice() {
+    if is_word(word, b"commit-pending") {
         return Some(Refusal::CommitPending);
     }
-    if word == b"abort-pending".as_slice() {
+    if is_word(word, b"abort-pending") {
         return Some(Refusal::AbortPending);
     }
-    if word == b"undo-pending".as_slice() {
+    if is_word(word, b"undo-pending") {
         return Some(Refusal::UndoPending);
     }
     None
@@ -43,31 +43,31 @@ fn own_refusal(word: &[u8]) -> Option<Refusal>
 fn other_refusal(word: &[u8]) -> Option<Refusal>
     ensures { result ≡ other_refusal word.now }
 {
-    if word == b"log-fault".as_slice() {
+    if is_word(word, b"log-fault") {
         return Some(Refusal::LogFault);
     }
-    if word == b"log-full".as_slice() {
+    if is_word(word, b"log-full") {
         return Some(Refusal::Full);
     }
-    if word == b"name-taken".as_slice() {
+    if is_word(word, b"name-taken") {
         return Some(Refusal::NameTaken);
     }
-    if word == b"snap-limit".as_slice() {
+    if is_word(word, b"snap-limit") {
         return Some(Refusal::SnapLimit);
     }
-    if word == b"no-snapshot".as_slice() {
+    if is_word(word, b"no-snapshot") {
         return Some(Refusal::NoSnapshot);
     }
-    if word == b"two-updaters".as_slice() {
+    if is_word(word, b"two-updaters") {
         return Some(Refusal::TwoUpdaters);
     }
-    if word == b"member-count".as_slice() {
+    if is_word(word, b"member-count") {
         return Some(Refusal::MemberCount);
     }
-    if word == b"multi-pending".as_slice() {
+    if is_word(word, b"multi-pending") {
         return Some(Refusal::MultiPending);
     }
-    if word == b"memory".as_slice() {
+    if is_word(word, b"memory") {
         return Some(Refusal::Memory);
     }
     None
@@ -77,16 +77,16 @@ fn other_refusal(word: &[u8]) -> Option<Refusal>
 fn bank_lock(word: &[u8], bank: u32) -> Result<Lock, Unread>
     ensures { Gives (λ x. x) result (bank_lock word.now bank) }
 {
-    if word == b"xact".as_slice() {
+    if is_word(word, b"xact") {
         return Ok(Lock::Xact(bank));
     }
-    if word == b"subtrans".as_slice() {
+    if is_word(word, b"subtrans") {
         return Ok(Lock::Subtrans(bank));
     }
-    if word == b"offsets".as_slice() {
+    if is_word(word, b"offsets") {
         return Ok(Lock::Offsets(bank));
     }
-    if word == b"members".as_slice() {
+    if is_word(word, b"members") {
         return Ok(Lock::Members(bank));
     }
     Err(Unread::Form)
@@ -97,7 +97,7 @@ fn lock_at(rest: &[u8]) -> Result<Lock, Unread>
     ensures { Gives (λ x. x) result (lock_at (behind rest.now)) }
 {
     let (word, rest) = word_at(rest)?;
-    if word == b"log".as_slice() {
+    if is_word(word, b"log") {
         return Ok(Lock::Log);
     }
     let (bank, _rest) = number_at(rest)?;
@@ -109,13 +109,13 @@ fn lock_at(rest: &[u8]) -> Result<Lock, Unread>
 fn id_refusal(word: &[u8], id: FullXid) -> Option<Refusal>
     ensures { result ≡ id_refusal word.now id }
 {
-    if word == b"too-old".as_slice() {
+    if is_word(word, b"too-old") {
         return Some(Refusal::TooOld { oldest: id });
     }
-    if word == b"future".as_slice() {
+    if is_word(word, b"future") {
         return Some(Refusal::Future { next: id });
     }
-    if word == b"too-new".as_slice() {
+    if is_word(word, b"too-new") {
         return Some(Refusal::TooNew { limit: id });
     }
     None
@@ -125,16 +125,16 @@ fn id_refusal(word: &[u8], id: FullXid) -> Option<Refusal>
 fn multi_refusal(word: &[u8], multi: FullMulti) -> Option<Refusal>
     ensures { result ≡ multi_refusal word.now multi }
 {
-    if word == b"not-yet".as_slice() {
+    if is_word(word, b"not-yet") {
         return Some(Refusal::NotYet { multi });
     }
-    if word == b"multi-too-old".as_slice() {
+    if is_word(word, b"multi-too-old") {
         return Some(Refusal::MultiTooOld { oldest: multi });
     }
-    if word == b"multi-future".as_slice() {
+    if is_word(word, b"multi-future") {
         return Some(Refusal::MultiFuture { next: multi });
     }
-    if word == b"held".as_slice() {
+    if is_word(word, b"held") {
         return Some(Refusal::Held { limit: multi });
     }
     None
@@ -144,13 +144,13 @@ fn multi_refusal(word: &[u8], multi: FullMulti) -> Option<Refusal>
 fn number_refusal(word: &[u8], number: u64) -> Option<Refusal>
     ensures { result ≡ number_refusal word.now number }
 {
-    if word == b"log-down".as_slice() {
+    if is_word(word, b"log-down") {
         return Some(Refusal::LogDown { at: number });
     }
-    if word == b"backward".as_slice() {
+    if is_word(word, b"backward") {
         return Some(Refusal::Backward { now: number });
     }
-    if word == b"not-given".as_slice() {
+    if is_word(word, b"not-given") {
         return match u32::try_from(number) {
             Ok(number) => Some(Refusal::NotGiven { x: Xid { number } }),
             Err(_e) => None,
@@ -163,17 +163,17 @@ fn number_refusal(word: &[u8], number: u64) -> Option<Refusal>
 fn stop_refusal(word: &[u8], next: u64, stop: u64) -> Result<Refusal, Unread>
     ensures { Gives (λ x. x) result (stop_refusal word.now next stop) }
 {
-    if word == b"stop".as_slice() {
+    if is_word(word, b"stop") {
         let next = full_id(next)?;
         let stop = full_id(stop)?;
         return Ok(Refusal::Stop { next, stop });
     }
-    if word == b"multi-stop".as_slice() {
+    if is_word(word, b"multi-stop") {
         let next = full_multi(next)?;
         let stop = full_multi(stop)?;
         return Ok(Refusal::MultiStop { next, stop });
     }
-    if word == b"member-stop".as_slice() {
+    if is_word(word, b"member-stop") {
         return Ok(Refusal::MemberStop { next, stop });
     }
     Err(Unread::Form)
@@ -221,7 +221,7 @@ pub fn refusal_at(word: &[u8], rest: &[u8]) -> Result<Refusal, Unread>
     if let Some(refusal) = other_refusal(word) {
         return Ok(refusal);
     }
-    if word == b"disk-fault".as_slice() {
+    if is_word(word, b"disk-fault") {
         let lock = lock_at(rest)?;
         return Ok(Refusal::DiskFault { lock });
     }

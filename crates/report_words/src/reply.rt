@@ -12,7 +12,7 @@ use crate::names::name_place;
 use crate::piece::small;
 use crate::refusal::refusal_at;
 use crate::unread::Unread;
-use crate::word::{full_id, number_at, word_at};
+use crate::word::{full_id, is_word, number_at, word_at};
 use std::alloc::Global;
 use tx_model::{ByteList, Command, IdList, NameList, Refusal, Reply, Status, VerdictList};
 
@@ -125,30 +125,30 @@ fn ok_at(alloc: Global, kind: Kind, rest: &[u8]) -> Result<Reply, Unread>
 fn is_answer(word: &[u8]) -> bool
     ensures { result ≡ is_answer word.now }
 {
-    word == b"visible".as_slice()
-        || word == b"hidden".as_slice()
-        || word == b"in-progress".as_slice()
-        || word == b"committed".as_slice()
-        || word == b"aborted".as_slice()
-        || word == b"yes".as_slice()
-        || word == b"no".as_slice()
+    is_word(word, b"visible")
+        || is_word(word, b"hidden")
+        || is_word(word, b"in-progress")
+        || is_word(word, b"committed")
+        || is_word(word, b"aborted")
+        || is_word(word, b"yes")
+        || is_word(word, b"no")
 }
 
 #[tactic(auto, unfolding(crate::specs::Replies::status_in))]
 fn status_in(word: &[u8]) -> Result<Reply, Unread>
     ensures { Gives (λ x. x) result (status_in word.now) }
 {
-    if word == b"in-progress".as_slice() {
+    if is_word(word, b"in-progress") {
         return Ok(Reply::Known {
             status: Status::InProgress,
         });
     }
-    if word == b"committed".as_slice() {
+    if is_word(word, b"committed") {
         return Ok(Reply::Known {
             status: Status::Committed,
         });
     }
-    if word == b"aborted".as_slice() {
+    if is_word(word, b"aborted") {
         return Ok(Reply::Known {
             status: Status::Aborted,
         });
@@ -162,12 +162,12 @@ fn answer_in(kind: Kind, word: &[u8]) -> Result<Reply, Unread>
 {
     match kind {
         Kind::Look => {
-            let visible = word == b"visible".as_slice();
+            let visible = is_word(word, b"visible");
             Ok(Reply::Seen { visible })
         }
         Kind::Status => status_in(word),
         Kind::Did => {
-            let yes = word == b"yes".as_slice();
+            let yes = is_word(word, b"yes");
             Ok(Reply::Did { yes })
         }
         _ => Err(Unread::Form),
@@ -180,7 +180,7 @@ pub fn reply_at(alloc: Global, kind: Kind, rest: &[u8]) -> Result<Reply, Unread>
     ensures { Gives (λ x. x) result (reply_at kind (behind rest.now)) }
 {
     let (word, rest) = word_at(rest)?;
-    if word == b"ok".as_slice() {
+    if is_word(word, b"ok") {
         return ok_at(alloc, kind, rest);
     }
     if is_answer(word) {
@@ -210,13 +210,13 @@ pub fn checkpoint_reply_at(names: &NameList, rest: &[u8]) -> Result<Reply, Unrea
     ensures { Gives (λ x. x) result (checkpoint_reply_at names.now (behind rest.now)) }
 {
     let (word, rest) = word_at(rest)?;
-    if word == b"ok".as_slice() {
+    if is_word(word, b"ok") {
         return Ok(Reply::Done);
     }
-    if word == b"commit-pending".as_slice() {
+    if is_word(word, b"commit-pending") {
         return pending_at(names, Refusal::CommitPending, rest);
     }
-    if word == b"multi-pending".as_slice() {
+    if is_word(word, b"multi-pending") {
         return pending_at(names, Refusal::MultiPending, rest);
     }
     let refusal = refusal_at(word, rest)?;
@@ -289,7 +289,7 @@ pub fn dump_reply_at(alloc: Global, rest: &[u8]) -> Result<Reply, Unread>
     if word.len() < 3 {
         return bytes_at(alloc, rest);
     }
-    if word == b"cut".as_slice() {
+    if is_word(word, b"cut") {
         return cut_at(tail);
     }
     let refusal = refusal_at(word, tail)?;

@@ -1,12 +1,20 @@
 //! Words and numbers.
 ghost use Rattle.std.specs.Prelude.{◌≡◌, ◌≤◌, ◌∷◌, [], length, not, IfErr};
 ghost use Rattle.std.specs.List.{prefix_len};
+ghost use Rattle.std.specs.Str.{bytes_eq};
 ghost use Rattle.report_words.specs.Words.{behind, is_space};
 ghost use Rattle.report_words.specs.Reading.{Gives, word_at, number_of, number_at, full_id, name_of, next};
 
 use crate::unread::Unread;
 use tx_events::FullXid;
 use tx_model::{Name, is_name};
+
+/// Whether the words are the same.
+pub fn is_word(word: &[u8], known: &[u8]) -> bool
+    ensures { result ≡ bytes_eq word.now known.now }
+{
+    word == known
+}
 
 /// How many bytes stand before the first space, or in all.
 #[tactic(auto, using(std::proofs::lemmas::List::Sums::prefix_len_is))]

@@ -5,7 +5,7 @@ use Rattle.tx_events.specs.declared.event.By.{By}
 use Rattle.tx_events.specs.declared.event.Event.{Event}
 use Rattle.tx_events.specs.declared.event.Event.TheVariants as events
 
-abbrev pub plain_event : List ℕ → By → ℕ → Option Event
+unfoldable pub plain_event : List ℕ → By → ℕ → Option Event
 plain_event word by id =
     cond (bytes_eq word (codes "undo")) (Some (events.Undo by id))
     (cond (bytes_eq word (codes "commit")) (Some (events.Commit by id))

@@ -9,10 +9,9 @@ ghost use Rattle.report_lines.specs.Commands.{plain_command, named_command, numb
 ghost use Rattle.report_lines.specs.Fits.{FitsCommand, FitsLine};
 ghost use Rattle.report_lines.specs.Texts.{IsLineOf};
 
-use crate::word::is_word;
 use report_text::{Text, put_command_line};
 use report_words::{
-    Unread, by_at, fits_by, fits_reply, full_id, full_multi, kind_of, name_of, number_at,
+    Unread, by_at, fits_by, fits_reply, full_id, full_multi, is_word, kind_of, name_of, number_at,
     pairs_fit, read_pairs, reply_at, small, word_at,
 };
 use std::alloc::Global;

@@ -9,13 +9,15 @@ ghost use Rattle.report_lines.specs.Fits.{FitsEvent};
 ghost use Rattle.report_lines.specs.Plain.{plain_event};
 ghost use Rattle.report_lines.specs.Texts.{IsLineOf, event_line};
 
-use crate::word::is_word;
 use report_text::{Text, put_event};
-use report_words::{Unread, by_at, fits_by, full_id, id_fits, name_of, number_at, word_at};
+use report_words::{
+    Unread, by_at, fits_by, full_id, id_fits, is_word, name_of, number_at, word_at,
+};
 use tx_events::FullXid;
 use tx_model::{By, Event, Memory, NameList, is_name};
 
 /// An event that names one id that was given before.
+#[tactic(auto, unfolding(crate::specs::Plain::plain_event))]
 fn plain_event(word: &[u8], by: By, id: FullXid) -> Option<Event>
     ensures { result ≡ plain_event word.now by id }
 {
@@ -38,7 +40,7 @@ fn plain_event(word: &[u8], by: By, id: FullXid) -> Option<Event>
 }
 
 /// An event that names an id first.
-#[tactic(auto, unfolding(crate::specs::Events::id_event))]
+#[tactic(auto, unfolding(crate::specs::Events::id_event, crate::specs::Plain::plain_event))]
 fn id_event(word: &[u8], by: By, id: FullXid, rest: &[u8]) -> Result<Event, Unread>
     ensures { Gives (λ x. x) result (id_event word.now by id (behind rest.now)) }
 {

@@ -11,7 +11,6 @@ mod life;
 mod multi;
 mod record;
 mod step;
-mod word;
 
 pub use command::read_line;
 pub use cut::next_line;

@@ -8,10 +8,10 @@ ghost use Rattle.report_lines.specs.Events.{gen_at, multi_rest_at, multi_event_a
 ghost use Rattle.report_lines.specs.Fits.{FitsMultiEvent};
 ghost use Rattle.report_lines.specs.Texts.{IsLineOf, multi_line};
 
-use crate::word::is_word;
 use report_text::{Text, put_multi_event};
 use report_words::{
-    Unread, by_at, fits_by, full_multi, members_fit, multi_fits, number_at, read_members, word_at,
+    Unread, by_at, fits_by, full_multi, is_word, members_fit, multi_fits, number_at, read_members,
+    word_at,
 };
 use std::alloc::Global;
 use tx_events::FullMulti;

@@ -7,10 +7,9 @@ ghost use Rattle.report_lines.specs.Records.{ended_at, multi_record_at, truncate
 ghost use Rattle.report_lines.specs.Fits.{FitsRecord};
 ghost use Rattle.report_lines.specs.Texts.{IsLineOf, record_line};
 
-use crate::word::is_word;
 use report_text::{Text, put_record_line};
 use report_words::{
-    Unread, counters_at, counters_fit, full_id, full_multi, id_fits, ids_fit, members_fit,
+    Unread, counters_at, counters_fit, full_id, full_multi, id_fits, ids_fit, is_word, members_fit,
     multi_fits, number_at, read_ids, read_members, word_at,
 };
 use std::alloc::Global;

@@ -10,11 +10,10 @@ ghost use Rattle.report_lines.specs.Steps.{page_of, dumped_at, dump_at, checkpoi
 ghost use Rattle.report_lines.specs.Fits.{FitsDump, FitsStep};
 ghost use Rattle.report_lines.specs.Texts.{IsLineOf};
 
-use crate::word::is_word;
 use report_text::{Text, put_round_line, put_step};
 use report_words::{
-    Unread, checkpoint_reply_at, dump_reply_at, fits_checkpoint_reply, fits_dump_reply, number_at,
-    small, word_at,
+    Unread, checkpoint_reply_at, dump_reply_at, fits_checkpoint_reply, fits_dump_reply, is_word,
+    number_at, small, word_at,
 };
 use std::alloc::Global;
 use tx_model::{DumpOf, Memory, NameList, Step};

@@ -12,7 +12,7 @@ use std::thread::{Threads, yield_now};
 const LOOKS: u32 = 1_000_000;
 
 /// So often it looks where it is to wait in vain.
-const FEW_LOOKS: u32 = 20_000;
+const FEW_LOOKS: u32 = 1_000;
 
 /// No command of a row has as many critical sections.
 const MOST_SECTIONS: u64 = 1_000;

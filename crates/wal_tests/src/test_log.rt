@@ -1,5 +1,4 @@
-//! A log over the volume of these tests: its calls without their contracts, so that a test proves no more than that they
-//! are safe.
+//! A log over the volume of these tests: its calls without their contracts, so that a test proves no more than that they are safe.
 use crate::test_disk::TestDisk;
 use crate::test_rec::{Record, rec_of};
 use disk_core::Crash;
@@ -42,7 +41,7 @@ pub enum Call<'a> {
 
 #[derive(Clone, Copy, Debug, PartialEq, Eq)]
 pub enum Answer {
-    /// Wanted where any answer will do.
+    /// As a wanted one.
     Any,
     Done,
     Refused(LogRefusal),

@@ -14,7 +14,7 @@ ghost use Rattle.session_lang.specs.Script.{at_line, place_of, with_turn, comman
 use crate::items::ItemList;
 use crate::script::ParseRefusal;
 use script_lines::{
-    Directive, Header, Kind, Stop, command_at, directive_at, is_header_word, is_plain, next_word,
+    Directive, Header, Kind, Stop, command_at, directive_at, is_header_word, next_word,
 };
 use std::alloc::Global;
 use tx_model::{Command, Memory, Name, NameList, is_name};
@@ -314,13 +314,19 @@ impl Reading {
 
     /// Adds the line of this number.
     #[tactic(auto, unfolding(crate::specs::Script::read_line))]
-    pub fn read_line(&mut self, alloc: Global, number: u64, line: &[u8]) -> Result<(), ParseRefusal>
+    pub fn read_line(
+        &mut self,
+        alloc: Global,
+        number: u64,
+        plain: bool,
+        line: &[u8],
+    ) -> Result<(), ParseRefusal>
+        requires tested { plain ≡ is_plain line.now }
         requires so_far { HasRead self.old.front.names self.old.commands.items self.old.front.items }
         ensures adds { ReadsAs (λ _. self.new.front) result (read_line self.old.front number line.now) }
         ensures so_far { OnOk result (HasRead self.new.front.names self.new.commands.items self.new.front.items) }
         ensures few { OnOk result (length self.new.front.items ≤ length self.old.front.items + length line.now) }
     {
-        let plain = is_plain(line);
         if is_passed(plain, line) {
             return Ok(());
         }

@@ -1,12 +1,19 @@
 //! The lines of a text, and on which of them a script's items stand.
 
-ghost use Rattle.std.specs.Prelude.{◌≡◌, ℕ, ◌+◌, ◌<◌, ◌≤◌, List, [], ◌∷◌, true, not, cond, get_or, length, take};
+ghost use Rattle.std.specs.Prelude.{◌≡◌, ℕ, ◌+◌, ◌<◌, ◌≤◌, List, [], ◌∷◌, ◌&&◌, nat_le, true, not, cond, get_or, length, take};
 ghost use Rattle.std.specs.List.{prefix_len};
 ghost use Rattle.script_lines.specs.LineWords.{is_plain, words_in};
 ghost use Rattle.session_lang.specs.Lines.{is_line_end, lines_of, without_cr};
 ghost use Rattle.session_lang.specs.Places.{is_item_line, item_lines};
 
 use script_lines::{is_header_word, is_plain, next_word};
+
+/// Whether a byte is printable ASCII.
+fn is_printable(b: u8) -> bool
+    ensures { result ≡ (nat_le 32 b && nat_le b 126) }
+{
+    b' ' <= b && b <= b'~'
+}
 
 /// How many bytes stand before the first LF, or in all, and whether all of them may stand in a line.
 #[tactic(auto, using(std::proofs::lemmas::List::Sums::prefix_len_is))]
@@ -17,7 +24,7 @@ fn line_len(bytes: &[u8]) -> (usize, bool)
 {
     let mut plain = true;
     for (i, b) in bytes.iter().enumerate() {
-        if *b < b' ' || *b > b'~' {
+        if !is_printable(*b) {
             if *b == b'\n' {
                 return (i, plain);
             }

@@ -3,7 +3,7 @@
 //!
 //! Without an argument it prints what the calls came to, which is the same in every run; the report comes from standard
 //! input. With the word of a part it runs this one alone, and with a number behind it takes so many turns, and prints how
-//! many there were in a second.
+//! many there were in a second. Another word is refused.
 #![tactic(auto)]
 
 mod bank_part;

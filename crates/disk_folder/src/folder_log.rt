@@ -1,8 +1,7 @@
 //! A log volume in a folder.
 ghost use Rattle.std.specs.Prelude.{◌≡◌, ◌≤◌, length, IfOk};
 
-use crate::file_calls::{count, put_number, read_at, read_number, sync_at, write_at};
-use crate::folder::path_in;
+use crate::file_calls::{count, path_in, put_number, read_at, read_number, sync_at, write_at};
 use disk_core::{Extent, Failed, LogDisk};
 use std::alloc::Global;
 use std::fs::{Files, OpenFile, OpenOptions};
@@ -33,7 +32,7 @@ impl<R: Files + Clone + Drop> FolderLog<R> {
             .read(true)
             .write(true)
             .open(rt, path.as_str())?;
-        let start = read_number(rt, path_in(alloc, folder, "start")?.as_str())?;
+        let start = read_number(rt, alloc, folder, "start")?;
         if file.metadata()?.len() < start {
             return Err(io::ErrorKind::UnexpectedEof.into());
         }
@@ -73,9 +72,8 @@ impl<R: Files + Drop> FolderLog<R> {
         if upto <= self.start {
             return Ok(());
         }
-        let path = path_in(self.alloc, self.folder.as_str(), "start")?;
         self.is_moved = true;
-        put_number(&self.rt, self.alloc, path.as_str(), upto)?;
+        put_number(&self.rt, self.alloc, self.folder.as_str(), "start", upto)?;
         self.start = upto;
         Ok(())
     }

@@ -4,7 +4,7 @@ ghost use Rattle.disk_core.specs.Faults.{CountsFault, counted_by};
 
 use disk_core::Failed;
 use std::alloc::{AllocError, Global};
-use std::fs::{self, File, Files, OpenFile};
+use std::fs::{self, File, Files, OpenFile, ReadDir};
 use std::io::{self, Read, Seek, SeekFrom, Write};
 
 /// Reads at a place, fewer bytes than asked for only at the end.
@@ -82,6 +82,15 @@ pub(crate) fn put_number<R: Files>(
     draft.push_str(".new")?;
     write_number(rt, draft.as_str(), number)?;
     fs::rename(rt, draft.as_str(), path.as_str())
+}
+
+/// What a folder has.
+pub(crate) fn entries_of<R: Files + Clone + Drop>(
+    rt: &R,
+    alloc: Global,
+    folder: &str,
+) -> io::Result<ReadDir<(R, Global), Global>> {
+    fs::read_dir(&(rt.clone()?, alloc), folder)
 }
 
 /// Syncs what a file holds, or which names a folder has.

@@ -1,9 +1,9 @@
 //! A folder as a whole: how it is made, and how one that was made before is taken.
 ghost use Rattle.std.specs.Prelude.{◌≡◌, ◌≤◌, IfOk};
 
-use crate::file_calls::{path_in, put_number, read_number, sync_at};
+use crate::file_calls::{entries_of, path_in, put_number, read_number, sync_at};
 use std::alloc::Global;
-use std::fs::{self, File, Files, OpenFile, OpenOptions};
+use std::fs::{self, Files, OpenFile, OpenOptions};
 use std::io;
 
 /// Makes the folder, where it isn't there. An earlier making may have been cut short right behind that, so its own name
@@ -22,7 +22,7 @@ fn may_be_there(name: &str) -> bool {
 
 /// Fails where a folder holds something else, which isn't ours.
 fn check_names<R: Files + Clone + Drop>(rt: &R, alloc: Global, folder: &str) -> io::Result<()> {
-    for entry in fs::read_dir(&(rt.clone()?, alloc), folder)? {
+    for entry in entries_of(rt, alloc, folder)? {
         if !may_be_there(entry?.file_name()) {
             return Err(io::ErrorKind::AlreadyExists.into());
         }
@@ -61,8 +61,8 @@ fn make<R: Files + Clone + Drop>(
 /// Syncs every file of a folder, and its names. An earlier program may have ended with something unsynced, which is read
 /// now and not written again.
 fn settle<R: Files + Clone + Drop>(rt: &R, alloc: Global, folder: &str) -> io::Result<()> {
-    for entry in fs::read_dir(&(rt.clone()?, alloc), folder)? {
-        File::open(rt, entry?.path())?.sync_all()?;
+    for entry in entries_of(rt, alloc, folder)? {
+        sync_at(rt, entry?.path().as_str())?;
     }
     sync_at(rt, folder)
 }

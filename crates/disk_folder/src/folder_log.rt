@@ -22,20 +22,26 @@ pub struct FolderLog<R: Files + Drop> {
     faults: u64,
 }
 
+/// The log's file, which doesn't end before this start.
+fn open_file<R: Files>(rt: &R, alloc: Global, folder: &str, start: u64) -> io::Result<R::File> {
+    let path = path_in(alloc, folder, "log")?;
+    let file = OpenOptions::new()
+        .read(true)
+        .write(true)
+        .open(rt, path.as_str())?;
+    if file.metadata()?.len() < start {
+        return Err(io::ErrorKind::UnexpectedEof.into());
+    }
+    Ok(file)
+}
+
 impl<R: Files + Clone + Drop> FolderLog<R> {
     /// Fails where a file is missing, or the log ends before its start.
     pub(crate) fn open(rt: &R, alloc: Global, folder: &str) -> io::Result<FolderLog<R>>
         ensures { IfOk result (λ log. log.faults ≡ 0) }
     {
-        let path = path_in(alloc, folder, "log")?;
-        let file = OpenOptions::new()
-            .read(true)
-            .write(true)
-            .open(rt, path.as_str())?;
         let start = read_number(rt, alloc, folder, "start")?;
-        if file.metadata()?.len() < start {
-            return Err(io::ErrorKind::UnexpectedEof.into());
-        }
+        let file = open_file(rt, alloc, folder, start)?;
         Ok(FolderLog {
             rt: rt.clone()?,
             alloc,

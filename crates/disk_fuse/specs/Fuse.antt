@@ -1,5 +1,5 @@
 -- A volume that fails some of its calls without doing them.
-use Rattle.std.specs.Prelude.{◌≡◌, ℕ, ◌+◌, ◌-◌, ◌^◌, ◌==◌, min, Bool, true, false, IsTrue, Result, IsErr}
+use Rattle.std.specs.Prelude.{◌≡◌, ℕ, ◌+◌, ◌-◌, ◌^◌, ◌==◌, min, Bool, false, IsTrue, Result, IsErr}
 use Rattle.disk_core.specs.Faults.{CountsFault}
 use Rattle.disk_fuse.specs.declared.fails.Fails.{Fails}
 use Rattle.disk_fuse.specs.declared.fails.Fails.TheVariants.{Never, Behind, At}

@@ -5,3 +5,5 @@ pub mod PlanLemmas
 pub mod Counting
 mod StreamLemmas
 mod RunLemmas
+mod Fronts
+mod Weaving

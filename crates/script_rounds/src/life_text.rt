@@ -5,16 +5,18 @@ ghost use Rattle.tx_events.specs.Ids.{IsFullMulti};
 ghost use Rattle.tx_io.specs.Causes.{HasCause};
 ghost use Rattle.run_law.specs.Lives.{IsFrontOf};
 
+use crate::Steps;
 use report_text::{Text, begin_report, put_life_line};
 use std::alloc::Global;
 use tx_io::{Failed, Sink, write_all};
 use tx_model::{Counters, Memory};
 
-/// The text of a life: what stands before its steps, and the rest.
+/// The text of a life: what stands before its steps, these, and what stands behind them.
 #[derive(Drop)]
 pub struct LifeText {
     pub front: Text,
-    pub rest: Text,
+    pub steps: Steps,
+    pub end: Text,
 }
 
 /// The next multixact and the oldest one of counters are numbers of multixacts.
@@ -40,13 +42,23 @@ pub fn front_of(alloc: Global, number: u64, from: u64, base: &Counters) -> Resul
     Ok(text)
 }
 
+// The steps and what stands behind them, or a front of both.
+fn put_rest<K: Sink>(sink: &mut K, steps: &Steps, end: &Text) -> Result<(), Failed>
+    ensures ok { OnOk result (Appends (K.held sink.old) (K.held sink.new) (steps.now ++ end.now)) }
+    ensures front { OnErr result ((n : ℕ) × Appends (K.held sink.old) (K.held sink.new) (take n (steps.now ++ end.now))) }
+    ensures cause { HasCause (K.faults sink.old) (K.faults sink.new) result }
+{
+    steps.write(sink)?;
+    write_all(sink, end.bytes())
+}
+
 /// Writes the text of a life, or a front of it.
 pub fn put_life<K: Sink>(sink: &mut K, text: &LifeText) -> Result<(), Failed>
-    ensures ok { OnOk result (Appends (K.held sink.old) (K.held sink.new) (text.now.front ++ text.now.rest)) }
+    ensures ok { OnOk result (Appends (K.held sink.old) (K.held sink.new) (text.now.front ++ (text.now.steps ++ text.now.end))) }
     ensures front { OnErr result ((n : ℕ)
-        × Appends (K.held sink.old) (K.held sink.new) (take n (text.now.front ++ text.now.rest))) }
+        × Appends (K.held sink.old) (K.held sink.new) (take n (text.now.front ++ (text.now.steps ++ text.now.end)))) }
     ensures cause { HasCause (K.faults sink.old) (K.faults sink.new) result }
 {
     write_all(sink, text.front.bytes())?;
-    write_all(sink, text.rest.bytes())
+    put_rest(sink, &text.steps, &text.end)
 }

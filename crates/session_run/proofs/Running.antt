@@ -48,7 +48,7 @@ so_whole names (q ∷ lives) r = whole_text names q (lives ++ r ∷ [])
 -- what was kept of a life's lines is its text
 pub told_life : {L P : Type 0} (l : logs.Ghosts L) (p : disks.Ghosts P) (keep : keepers.Ghosts (List ℕ)) (c : Cluster) (b : Beginning) (mounted : Volumes L P) (names : List (List ℕ)) (its : List Item) (number : ℕ) (crash : Option How) (closed : ClosedLife L P l) (kept : List ℕ) (base : Counters) (text : LifeText)
     → (ran : HasRunLife l p keep c b mounted names its [] kept closed) → kept ≡ flat_map (step_text names) ran.steps → base ≡ c.base → IsFrontOf number (number_of closed) base text.front
-    → text.rest ≡ kept ++ (rest_text names (life_of c b closed) crash ++ last_text crash) → IsFullMulti base.multi × IsFullMulti base.oldest_multi → IsToldLife l p names its number crash c b mounted closed text
+    → text.steps ++ text.end ≡ kept ++ (rest_text names (life_of c b closed) crash ++ last_text crash) → IsFullMulti base.multi × IsFullMulti base.oldest_multi → IsToldLife l p names its number crash c b mounted closed text
 told_life l p keep c b mounted names its number crash closed kept base text ran told same front rest multis = record {
   steps = ran.steps;
   lived = ran.lived;
@@ -83,7 +83,7 @@ module _ {L P : Type 0} {l : logs.Ghosts L} {p : disks.Ghosts P} (s : Script) (b
     pub part_are : AreRunLives p.tells banks start (done ++ part_of its crash ∷ []) (lives ++ told_of ∷ [])
     part_are = run_lives_push p.tells banks start done lives (part_of its crash) told_of run.are lawful refl first begins (λ tells. run.behind tells told_of.life refl refl)
 
-    pub part_text : text_so_far s.names lives ++ (text.front ++ text.rest) ≡ text_so_far s.names (lives ++ told_of ∷ []) ++ last_text crash
+    pub part_text : text_so_far s.names lives ++ (text.front ++ (text.steps ++ text.end)) ≡ text_so_far s.names (lives ++ told_of ∷ []) ++ last_text crash
     part_text =
         ap (λ (t : List ℕ). text_so_far s.names lives ++ (text.front ++ t)) told.rest
         ∙ so_far_push s.names lives told_of number text.front count told.front
@@ -93,7 +93,7 @@ module _ {L P : Type 0} {l : logs.Ghosts L} {p : disks.Ghosts P} (s : Script) (b
       are = part_are;
       lawful = lawful;
       crash_is = refl;
-      text = text.front ++ text.rest;
+      text = text.front ++ (text.steps ++ text.end);
       exact = part_text;
       last = record {
         mounted = run.mounted;

@@ -49,7 +49,7 @@ module _ {L P : Type 0} (l : logs.Ghosts L) (p : disks.Ghosts P) where
     pub lived : HasLived p.tells c.banks its (life_of c b closed) steps
     pub left : HasLeft l p c b mounted steps closed
     pub front : IsFrontOf number b.number c.base text.front
-    pub rest : text.rest ≡ life_rest names (report_of (life_of c b closed) steps crash)
+    pub rest : text.steps ++ text.end ≡ life_rest names (report_of (life_of c b closed) steps crash)
     pub multis : IsFullMulti c.base.multi × IsFullMulti c.base.oldest_multi
 
   -- The crash fell, and a life is open over what it left, in so many banks. If the pages tell what they hold, the log does, and

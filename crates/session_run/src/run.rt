@@ -37,7 +37,8 @@ use notes::Note;
 use report_text::Text;
 use script_gen::Summary;
 use script_rounds::{
-    LifeText, LineKeeper, RoundThreads, Tally, front_of, have_full_multis, next_part, put_life,
+    LifeText, LineKeeper, RoundThreads, Steps, Tally, front_of, have_full_multis, next_part,
+    put_life,
 };
 use session_lang::{Items, Script};
 use std::alloc::Global;
@@ -89,16 +90,17 @@ fn tell_life<L: LogDisk + Send + Sync + Drop, P: PageDisk + Send + Sync + Drop>(
         → IfOk result.1 (IsToldLife L.LogDisk P.PageDisk names.now part.entry number crash c b mounted result.0) }
 {
     let base = life.host.cluster.base.same();
-    let mut rest = Text::new(alloc);
-    let (closed, ran) = run_life(rt, alloc, life, names, part, &mut rest, threads, gate);
+    let mut steps = Steps::none(alloc);
+    let (closed, ran) = run_life(rt, alloc, life, names, part, &mut steps, threads, gate);
     let Ok(()) = ran else {
         return (closed, Err(Memory));
     };
-    let Ok(()) = put_end(&mut rest, names, &closed, crash) else {
+    let mut end = Text::new(alloc);
+    let Ok(()) = put_end(&mut end, names, &closed, crash) else {
         return (closed, Err(Memory));
     };
     match front_of(alloc, number, closed.number(), &base) {
-        Ok(front) => (closed, Ok(LifeText { front, rest })),
+        Ok(front) => (closed, Ok(LifeText { front, steps, end })),
         Err(Memory) => (closed, Err(Memory)),
     }
 }

@@ -12,7 +12,6 @@ mod known;
 mod law;
 mod life;
 mod lives;
-mod parts;
 mod records;
 mod round_lines;
 mod steps;

@@ -14,9 +14,10 @@ use tx_model::{By, Command, Memory, NameList, Reply, Step};
 /// The text of steps. The end of a snapshot's line stands once where the same comes again and again.
 #[derive(Drop)]
 pub struct Steps {
+    alloc: Global,
     text: Woven,
-    /// Room for a line.
-    line: Text,
+    /// Room for a line, once a snapshot was told.
+    line: Option<Box<Text>>,
 }
 
 impl Model for Steps {
@@ -52,8 +53,9 @@ impl LineKeeper for Steps {
 
     fn none(alloc: Global) -> Steps {
         Steps {
+            alloc,
             text: Woven::new(alloc),
-            line: Text::new(alloc),
+            line: None,
         }
     }
 
@@ -65,6 +67,7 @@ impl LineKeeper for Steps {
         self.text.add_round(number)
     }
 
+    #[inline(always)]
     fn add_line(
         &mut self,
         names: &NameList,
@@ -72,13 +75,19 @@ impl LineKeeper for Steps {
         command: &Command,
         reply: &Reply,
     ) -> Result<(), Memory> {
-        match reply {
-            Reply::Snapped { lists: _ } => {
-                self.line.clear();
-                put_command_line(&mut self.line, names, by, command, reply)?;
-                self.text.add_again(self.line.bytes())
+        let Reply::Snapped { lists: _ } = reply else {
+            return self.text.add_line(names, by, command, reply);
+        };
+        if self.line.is_none() {
+            self.line = Box::new(self.alloc, Text::new(self.alloc)).ok();
+        }
+        match &mut self.line {
+            Some(line) => {
+                line.clear();
+                put_command_line(line, names, by, command, reply)?;
+                self.text.add_again(line.bytes())
             }
-            _ => self.text.add_line(names, by, command, reply),
+            None => self.text.add_line(names, by, command, reply),
         }
     }
 

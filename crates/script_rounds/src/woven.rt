@@ -106,6 +106,7 @@ impl Woven {
     }
 
     /// Adds the line of a command with its reply. Where there is no memory the text is taken off.
+    #[inline(always)]
     pub fn add_line(
         &mut self,
         names: &NameList,

@@ -183,6 +183,7 @@ impl<M: Media> Media for Fuse<M> {
     fn rest(&mut self, volumes: Volumes<FusedLog<M::Log>, FusedPages<M::Pages>>)
         ensures idle { IsTrue (not self.new.is_mounted) }
         ensures at { self.new.at ≡ self.old.at }
+        ensures fails { self.new.fails ≡ self.old.fails }
         ensures old { fuse_is_new (M.is_new self.new.inner) self.new.held ≡ false }
         ensures same { Only volumes (fuse_gives (M.gives self.new.inner) self.new.held self.new.at self.new.fails self.new.refused) }
         ensures faults { M.faults self.new.inner + self.new.faults ≡ M.faults self.old.inner + self.old.faults }

@@ -5,7 +5,7 @@ ghost use Rattle.tx_io.specs.Causes.{HasCause};
 
 use tx_io::{Failed, Sink, write_all};
 
-// So many bytes are gathered at most.
+// A call of a sink may be a call of the system: so many bytes go in one.
 const ROOM: usize = 65_536;
 
 /// Writes what was gathered, and then a piece.

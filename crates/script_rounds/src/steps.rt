@@ -11,12 +11,12 @@ use std::marker::Model;
 use tx_io::{Failed, Sink};
 use tx_model::{By, Command, Memory, NameList, Reply, Step};
 
-/// The text of steps. The end of a snapshot's line stands once where the same comes again and again.
+/// The text of steps. A snapshot's line shares its long end with the ones before that had the same.
 #[derive(Drop)]
 pub struct Steps {
     alloc: Global,
     text: Woven,
-    /// Room for a line, once a snapshot was told.
+    /// Room for a line. Each session of a round has a keeper, most of which tell of no snapshot.
     line: Option<Box<Text>>,
 }
 

@@ -13,7 +13,7 @@ use std::sync::Arc;
 use tx_io::{Failed, Sink};
 use tx_model::{By, Command, Memory, NameList, Reply, Step};
 
-// Shorter ends aren't shared.
+// A shared piece's place takes 16 bytes, so a shorter end isn't worth one.
 const LONG: usize = 64;
 
 /// A piece that others may share.
@@ -49,8 +49,8 @@ impl Model for Woven {
     ghost invariant = { λ w. (w.before ≡ own_before w.shared.items) × (w.before ≤ length w.own) };
 }
 
-/// Where a line's end begins that may come again: at its arrow.
-fn end_of_line(line: &[u8]) -> usize
+/// Where a line's reply begins, behind the arrow's dash.
+fn reply_at(line: &[u8]) -> usize
     ensures { result ≤ length line.now }
 {
     let mut at = 0;
@@ -60,7 +60,8 @@ fn end_of_line(line: &[u8]) -> usize
     at
 }
 
-/// Takes a whole text off. Its room stays.
+/// Takes a whole text off. Its room stays. Where memory was wanting, nothing is known of the own bytes, among which the
+/// pieces have their places.
 fn take_off(own: &mut Text, shared: &mut Vec<Shared>, before: &mut usize)
     ensures own { own.new ≡ [] }
     ensures shared { shared.new.items ≡ [] }
@@ -189,7 +190,7 @@ impl Woven {
     pub fn add_again(&mut self, line: &[u8]) -> Result<(), Memory>
         ensures { OnOk result (self.new ≡ self.old ++ line.now) }
     {
-        let (start, end) = line.split_at(end_of_line(line));
+        let (start, end) = line.split_at(reply_at(line));
         match self.again(end) {
             Some(piece) => {
                 self.put(start)?;

@@ -276,7 +276,8 @@ a 65 snap t -> snap-limit
 a 66 drop sss7 -> ok
 a 67 snap t -> ok xmin 3 xmax 3 xip - sub - overflow no
 === snapshot_overflows_at_65_subids
-# With 64 running subtransactions a snapshot still lists all; the 65th takes them out, and parents are asked.
+# With 64 running subtransactions a snapshot still lists all, three times in the same words; the 65th takes them out,
+# and parents are asked.
 a begin
 64 times a save
 a write
@@ -286,6 +287,8 @@ c write
 c commit
 .round
 b snap s
+d snap s
+d snap t
 .round
 a save
 a write
@@ -308,6 +311,8 @@ b snap u
 b see u 67
 --- part
 b 1 snap s -> ok xmin 3 xmax 69 xip 3 sub 4 5 6 7 8 9 10 11 12 13 14 15 16 17 18 19 20 21 22 23 24 25 26 27 28 29 30 31 32 33 34 35 36 37 38 39 40 41 42 43 44 45 46 47 48 49 50 51 52 53 54 55 56 57 58 59 60 61 62 63 64 65 66 67 overflow no
+d 1 snap s -> ok xmin 3 xmax 69 xip 3 sub 4 5 6 7 8 9 10 11 12 13 14 15 16 17 18 19 20 21 22 23 24 25 26 27 28 29 30 31 32 33 34 35 36 37 38 39 40 41 42 43 44 45 46 47 48 49 50 51 52 53 54 55 56 57 58 59 60 61 62 63 64 65 66 67 overflow no
+d 2 snap t -> ok xmin 3 xmax 69 xip 3 sub 4 5 6 7 8 9 10 11 12 13 14 15 16 17 18 19 20 21 22 23 24 25 26 27 28 29 30 31 32 33 34 35 36 37 38 39 40 41 42 43 44 45 46 47 48 49 50 51 52 53 54 55 56 57 58 59 60 61 62 63 64 65 66 67 overflow no
 round 4
 --- part
 b 2 snap t -> ok xmin 3 xmax 71 xip 3 sub - overflow yes

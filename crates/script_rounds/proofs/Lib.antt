@@ -5,3 +5,4 @@ pub mod PlanLemmas
 pub mod Counting
 mod StreamLemmas
 mod RunLemmas
+mod Fronts

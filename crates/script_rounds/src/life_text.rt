@@ -10,11 +10,12 @@ use std::alloc::Global;
 use tx_io::{Failed, Sink, write_all};
 use tx_model::{Counters, Memory};
 
-/// The text of a life: what stands before its steps, and the rest.
+/// The text of a life: what stands before its steps, these with its histories, and its log and what stands behind that.
 #[derive(Drop)]
 pub struct LifeText {
     pub front: Text,
     pub rest: Text,
+    pub log: Text,
 }
 
 /// The next multixact and the oldest one of counters are numbers of multixacts.
@@ -40,13 +41,24 @@ pub fn front_of(alloc: Global, number: u64, from: u64, base: &Counters) -> Resul
     Ok(text)
 }
 
+// One text behind the other, or a front of both.
+fn put_both<K: Sink>(sink: &mut K, first: &Text, second: &Text) -> Result<(), Failed>
+    ensures ok { OnOk result (Appends (K.held sink.old) (K.held sink.new) (first.now ++ second.now)) }
+    ensures front { OnErr result ((n : ℕ)
+        × Appends (K.held sink.old) (K.held sink.new) (take n (first.now ++ second.now))) }
+    ensures cause { HasCause (K.faults sink.old) (K.faults sink.new) result }
+{
+    write_all(sink, first.bytes())?;
+    write_all(sink, second.bytes())
+}
+
 /// Writes the text of a life, or a front of it.
 pub fn put_life<K: Sink>(sink: &mut K, text: &LifeText) -> Result<(), Failed>
-    ensures ok { OnOk result (Appends (K.held sink.old) (K.held sink.new) (text.now.front ++ text.now.rest)) }
+    ensures ok { OnOk result (Appends (K.held sink.old) (K.held sink.new) (text.now.front ++ (text.now.rest ++ text.now.log))) }
     ensures front { OnErr result ((n : ℕ)
-        × Appends (K.held sink.old) (K.held sink.new) (take n (text.now.front ++ text.now.rest))) }
+        × Appends (K.held sink.old) (K.held sink.new) (take n (text.now.front ++ (text.now.rest ++ text.now.log)))) }
     ensures cause { HasCause (K.faults sink.old) (K.faults sink.new) result }
 {
     write_all(sink, text.front.bytes())?;
-    write_all(sink, text.rest.bytes())
+    put_both(sink, &text.rest, &text.log)
 }

@@ -1,8 +1,7 @@
 -- A run goes on from life to life.
-use Rattle.std.proofs.Common.{List, None, Option, [], ap, arith, length, refl, subst, sym, ℕ, ◌++◌, ◌+◌, ◌∙◌, ◌∷◌, ◌≡◌, ◌≤◌}
+use Rattle.std.proofs.Common.{Err, List, None, Option, Result, [], ap, arith, inl, length, refl, subst, sym, ℕ, ◌++◌, ◌+◌, ◌∙◌, ◌∷◌, ◌≡◌, ◌≤◌}
 use Rattle.std.proofs.KnownBytes.{Appends-trans}
 use Rattle.std.specs.Io.KnownBytes.{Appends}
-use Rattle.std.specs.List.{flat_map}
 use Rattle.std.specs.Prelude.{IsSomeAnd}
 use Rattle.disk_core.specs.declared.log_disk.LogDisk as logs
 use Rattle.disk_core.specs.declared.page_disk.PageDisk as disks
@@ -16,8 +15,7 @@ use Rattle.tx_model.specs.declared.report.How.{How}
 use Rattle.tx_model.specs.declared.report.LifeReport.{LifeReport}
 use Rattle.tx_model.specs.declared.report.Report.{Report}
 use Rattle.life_law.specs.LawfulLife.{IsLawfulLife}
-use Rattle.report_text.specs.ReportText.{end_text, report_text, rest_text, step_text}
-use Rattle.script_rounds.specs.declared.keeper.LineKeeper as keepers
+use Rattle.report_text.specs.ReportText.{end_text, report_text, rest_text}
 use Rattle.session_lang.specs.declared.script.Item.{Item}
 use Rattle.session_lang.specs.declared.script.Script.{Script}
 use Rattle.session_lang.specs.Rounds.{asked_of}
@@ -29,11 +27,14 @@ use Rattle.engine_host.specs.Opening.{Beginning}
 use Rattle.engine_life.specs.declared.closed.ClosedLife.{ClosedLife}
 use Rattle.engine_life.specs.declared.life.OpenLife.{OpenLife}
 use Rattle.engine_life.specs.Lives.{number_of, volumes_left}
-use Rattle.session_run.specs.OneLife.{HasRunLife, life_of}
+use Rattle.session_run.specs.OneLife.{life_of}
 use Rattle.session_run.specs.Parts.{report_of}
 use Rattle.session_run.specs.Records.{BankHolds}
 use Rattle.script_rounds.specs.declared.life_text.LifeText.{LifeText}
-use Rattle.session_run.specs.Going.{IsPartTold, IsRunning, IsToldLife, part_of}
+use Rattle.session_run.specs.declared.run.Lived.{Lived}
+use Rattle.session_run.specs.declared.stop.Stopped.{Stopped}
+use Rattle.session_run.specs.declared.stop.Stopped.TheVariants as stops
+use Rattle.session_run.specs.Going.{HasRunPart, HasRunPartOf, IsPartTold, IsRunning, IsToldLife, IsWritten, PartStopped, part_of}
 use Rattle.session_run.specs.Leaves.{LeavesVolumes}
 use Rattle.session_run.specs.Lives.{ComesTo, HasEndedOn, HasFallen}
 
@@ -45,17 +46,17 @@ pub so_whole : (names : List (List ℕ)) (lives : List LifeReport) (r : LifeRepo
 so_whole names [] r = whole_text names r []
 so_whole names (q ∷ lives) r = whole_text names q (lives ++ r ∷ [])
 
--- what was kept of a life's lines is its text
-pub told_life : {L P : Type 0} (l : logs.Ghosts L) (p : disks.Ghosts P) (keep : keepers.Ghosts (List ℕ)) (c : Cluster) (b : Beginning) (mounted : Volumes L P) (names : List (List ℕ)) (its : List Item) (number : ℕ) (crash : Option How) (closed : ClosedLife L P l) (kept : List ℕ) (base : Counters) (text : LifeText)
-    → (ran : HasRunLife l p keep c b mounted names its [] kept closed) → kept ≡ flat_map (step_text names) ran.steps → base ≡ c.base → IsFrontOf number (number_of closed) base text.front
-    → text.rest ≡ kept ++ (rest_text names (life_of c b closed) crash ++ last_text crash) → IsFullMulti base.multi × IsFullMulti base.oldest_multi → IsToldLife l p names its number crash c b mounted closed text
-told_life l p keep c b mounted names its number crash closed kept base text ran told same front rest multis = record {
+-- a life that ran its part is told by its front, and by what stands behind the text of its steps
+pub told_life : {L P : Type 0} (l : logs.Ghosts L) (p : disks.Ghosts P) (c : Cluster) (b : Beginning) (mounted : Volumes L P) (names : List (List ℕ)) (its : List Item) (number : ℕ) (crash : Option How) (closed : ClosedLife L P l) (base : Counters) (steps : List ℕ) (text : LifeText)
+    → HasRunPartOf l p names its c b mounted closed base steps → IsFrontOf number (number_of closed) base text.front
+    → text.rest ++ text.log ≡ steps ++ (rest_text names (life_of c b closed) crash ++ last_text crash) → IsFullMulti base.multi × IsFullMulti base.oldest_multi → IsToldLife l p names its number crash c b mounted closed text
+told_life l p c b mounted names its number crash closed base steps text ran front rest multis = record {
   steps = ran.steps;
   lived = ran.lived;
   left = ran.left;
-  front = subst (λ (x : ℕ × Counters). IsFrontOf number x.0 x.1 text.front) (λ j. (ran.number j, same j)) front;
-  rest = rest ∙ ap (λ (t : List ℕ). t ++ (rest_text names (life_of c b closed) crash ++ last_text crash)) told;
-  multis = subst (λ (k : Counters). IsFullMulti k.multi × IsFullMulti k.oldest_multi) same multis;
+  front = subst (λ (x : ℕ × Counters). IsFrontOf number x.0 x.1 text.front) (λ j. (ran.number j, ran.base_is j)) front;
+  rest = rest ∙ ap (λ (t : List ℕ). t ++ (rest_text names (life_of c b closed) crash ++ last_text crash)) ran.text_is;
+  multis = subst (λ (k : Counters). IsFullMulti k.multi × IsFullMulti k.oldest_multi) ran.base_is multis;
 }
 
 module _ {L P : Type 0} {l : logs.Ghosts L} {p : disks.Ghosts P} (s : Script) (banks : ℕ) (start : RunStart) (falls : Crash → Volumes L P → Volumes L P → Type 0) where
@@ -83,7 +84,7 @@ module _ {L P : Type 0} {l : logs.Ghosts L} {p : disks.Ghosts P} (s : Script) (b
     pub part_are : AreRunLives p.tells banks start (done ++ part_of its crash ∷ []) (lives ++ told_of ∷ [])
     part_are = run_lives_push p.tells banks start done lives (part_of its crash) told_of run.are lawful refl first begins (λ tells. run.behind tells told_of.life refl refl)
 
-    pub part_text : text_so_far s.names lives ++ (text.front ++ text.rest) ≡ text_so_far s.names (lives ++ told_of ∷ []) ++ last_text crash
+    pub part_text : text_so_far s.names lives ++ (text.front ++ (text.rest ++ text.log)) ≡ text_so_far s.names (lives ++ told_of ∷ []) ++ last_text crash
     part_text =
         ap (λ (t : List ℕ). text_so_far s.names lives ++ (text.front ++ t)) told.rest
         ∙ so_far_push s.names lives told_of number text.front count told.front
@@ -93,7 +94,7 @@ module _ {L P : Type 0} {l : logs.Ghosts L} {p : disks.Ghosts P} (s : Script) (b
       are = part_are;
       lawful = lawful;
       crash_is = refl;
-      text = text.front ++ text.rest;
+      text = text.front ++ (text.rest ++ text.log);
       exact = part_text;
       last = record {
         mounted = run.mounted;
@@ -110,6 +111,34 @@ module _ {L P : Type 0} {l : logs.Ghosts L} {p : disks.Ghosts P} (s : Script) (b
         };
       };
     }
+
+  -- ---- how its text was written
+
+  module _ (begun : Volumes L P) (done : List LifePart) (lives : List LifeReport) (names : List (List ℕ)) (number : ℕ) (its : List Item) (lived : Lived L P l)
+      (ran : HasRunPart l p names number s banks start begun falls done lives its lived) (crash : Option How) (held held' : Option (List ℕ)) (faults faults' : ℕ) where
+    abbrev closed : ClosedLife L P l
+    closed = lived.ended.closed
+
+    abbrev Written : {T : Type 0} → Result T Stopped → Type 0
+    Written r = IsWritten l p names its number crash ran.running.cluster ran.running.begins ran.running.mounted closed held held' faults faults' r
+
+    abbrev Told : LifeText → Type 0
+    Told text = IsToldLife l p names its number crash ran.running.cluster ran.running.begins ran.running.mounted closed text
+
+    module _ (text : LifeText) (told : Told text) where
+      by_script : IsToldLife l p s.names its number crash ran.running.cluster ran.running.begins ran.running.mounted closed text
+      by_script = subst (λ (n : List (List ℕ)). IsToldLife l p n its number crash ran.running.cluster ran.running.begins ran.running.mounted closed text) ran.names_are told
+
+      abbrev pub report_told : LifeReport
+      report_told = told_of begun done lives ran.life ran.running its number crash closed text ran.count by_script
+
+      abbrev pub told_so : IsPartTold l p s banks start begun falls done lives (part_of its crash) report_told (volumes_left closed)
+      told_so = part_told begun done lives ran.life ran.running its number crash closed text ran.count by_script
+
+    pub not_written : {T : Type 0} (before now : ℕ) (gives : Volumes L P → Type 0) → Only (volumes_left closed) gives → (stop : Stopped) → Written {T = T} (Err stop)
+        → PartStopped l p s banks start begun falls done lives (part_of its crash) held held' faults faults' before now gives stop
+    not_written before now gives only stops.Sink w = (w.0, report_told w.1 w.2, volumes_left closed, told_so w.1 w.2, w.3, w.4, only)
+    not_written before now gives only (stops.NoLife refusal) w = inl w
 
   -- ---- a crash, and the next life
 

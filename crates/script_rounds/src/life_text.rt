@@ -3,12 +3,12 @@ ghost use Rattle.std.specs.Prelude.{◌≡◌, ◌++◌, ℕ, IfOk, OnErr, OnOk,
 ghost use Rattle.std.specs.Io.KnownBytes.{Appends};
 ghost use Rattle.tx_events.specs.Ids.{IsFullMulti};
 ghost use Rattle.tx_io.specs.Causes.{HasCause};
-ghost use Rattle.run_law.specs.Lives.{IsFrontOf};
+ghost use Rattle.run_law.specs.Lives.{IsFrontOf, last_text};
 
 use report_text::{Text, begin_report, put_life_line};
 use std::alloc::Global;
 use tx_io::{Failed, Sink, write_all};
-use tx_model::{Counters, Memory};
+use tx_model::{Counters, How, Memory};
 
 /// The text of a life: what stands before its steps, these with its histories, and its log and what stands behind that.
 #[derive(Drop)]
@@ -27,11 +27,9 @@ pub fn have_full_multis(base: &Counters)
 }
 
 /// What stands before the steps of the life of this number, the first one of which begins the report.
-pub fn front_of(alloc: Global, number: u64, from: u64, base: &Counters) -> Result<Text, Memory>
+fn front_of(alloc: Global, number: u64, from: u64, base: &Counters) -> Result<Text, Memory>
     ensures front { IfOk result (λ text. IsFrontOf number from base.now text) }
-    ensures multis { IsFullMulti base.now.multi × IsFullMulti base.now.oldest_multi }
 {
-    have_full_multis(base);
     let mut text = Text::new(alloc);
     if number == 1 {
         begin_report(&mut text, from, base)?;
@@ -39,6 +37,31 @@ pub fn front_of(alloc: Global, number: u64, from: u64, base: &Counters) -> Resul
         put_life_line(&mut text, number, from, base)?;
     }
     Ok(text)
+}
+
+/// The text of the life of this number, of which this is the text from its steps up to its log, and that from there on:
+/// with its front, and behind the last life the report's end.
+pub fn whole_text(
+    alloc: Global,
+    number: u64,
+    from: u64,
+    base: &Counters,
+    rest: Text,
+    log: Text,
+    crash: Option<How>,
+) -> Result<LifeText, Memory>
+    ensures front { IfOk result (λ text. IsFrontOf number from base.now text.front) }
+    ensures rest { IfOk result (λ text. text.rest ≡ rest) }
+    ensures log { IfOk result (λ text. text.log ≡ log ++ last_text crash) }
+    ensures multis { IsFullMulti base.now.multi × IsFullMulti base.now.oldest_multi }
+{
+    have_full_multis(base);
+    let mut log = log;
+    if crash.is_none() {
+        log.short_line(b"end")?;
+    }
+    let front = front_of(alloc, number, from, base)?;
+    Ok(LifeText { front, rest, log })
 }
 
 // One text behind the other, or a front of both.

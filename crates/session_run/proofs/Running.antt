@@ -1,5 +1,5 @@
 -- A run goes on from life to life.
-use Rattle.std.proofs.Common.{Err, List, None, Option, Result, [], ap, arith, inl, length, refl, subst, sym, ℕ, ◌++◌, ◌+◌, ◌∙◌, ◌∷◌, ◌≡◌, ◌≤◌}
+use Rattle.std.proofs.Common.{Err, List, None, Option, Result, [], ap, append_assoc, arith, inl, length, refl, subst, sym, ℕ, ◌++◌, ◌+◌, ◌∙◌, ◌∷◌, ◌≡◌, ◌≤◌}
 use Rattle.std.proofs.KnownBytes.{Appends-trans}
 use Rattle.std.specs.Io.KnownBytes.{Appends}
 use Rattle.std.specs.Prelude.{IsSomeAnd}
@@ -34,7 +34,7 @@ use Rattle.script_rounds.specs.declared.life_text.LifeText.{LifeText}
 use Rattle.session_run.specs.declared.run.Lived.{Lived}
 use Rattle.session_run.specs.declared.stop.Stopped.{Stopped}
 use Rattle.session_run.specs.declared.stop.Stopped.TheVariants as stops
-use Rattle.session_run.specs.Going.{HasRunPart, HasRunPartOf, IsPartTold, IsRunning, IsToldLife, IsWritten, PartStopped, part_of}
+use Rattle.session_run.specs.Going.{HasRunPart, HasRunPartOf, IsPartTold, IsRunning, IsToldLife, IsWritten, StopsPart, TellsPart, part_of}
 use Rattle.session_run.specs.Leaves.{LeavesVolumes}
 use Rattle.session_run.specs.Lives.{ComesTo, HasEndedOn, HasFallen}
 
@@ -45,6 +45,12 @@ push_some (y ∷ xs) x e = cc
 pub so_whole : (names : List (List ℕ)) (lives : List LifeReport) (r : LifeReport) → text_so_far names (lives ++ r ∷ []) ++ end_text ≡ report_text (record { names = names; lives = lives ++ r ∷ [] })
 so_whole names [] r = whole_text names r []
 so_whole names (q ∷ lives) r = whole_text names q (lives ++ r ∷ [])
+
+-- the pieces of the text that stands behind a life's front
+pub pieces : (rest log last steps told a b : List ℕ) → a ≡ rest → b ≡ log ++ last → rest ++ log ≡ steps ++ told → a ++ b ≡ steps ++ (told ++ last)
+pieces rest log last steps told a b one two ends =
+    ap (λ (t : List ℕ). t ++ b) one
+    ∙ (ap (λ (t : List ℕ). rest ++ t) two ∙ (sym (append_assoc rest log last) ∙ (ap (λ (t : List ℕ). t ++ last) ends ∙ append_assoc steps told last)))
 
 -- a life that ran its part is told by its front, and by what stands behind the text of its steps
 pub told_life : {L P : Type 0} (l : logs.Ghosts L) (p : disks.Ghosts P) (c : Cluster) (b : Beginning) (mounted : Volumes L P) (names : List (List ℕ)) (its : List Item) (number : ℕ) (crash : Option How) (closed : ClosedLife L P l) (base : Counters) (steps : List ℕ) (text : LifeText)
@@ -112,34 +118,6 @@ module _ {L P : Type 0} {l : logs.Ghosts L} {p : disks.Ghosts P} (s : Script) (b
       };
     }
 
-  -- ---- how its text was written
-
-  module _ (begun : Volumes L P) (done : List LifePart) (lives : List LifeReport) (names : List (List ℕ)) (number : ℕ) (its : List Item) (lived : Lived L P l)
-      (ran : HasRunPart l p names number s banks start begun falls done lives its lived) (crash : Option How) (held held' : Option (List ℕ)) (faults faults' : ℕ) where
-    abbrev closed : ClosedLife L P l
-    closed = lived.ended.closed
-
-    abbrev Written : {T : Type 0} → Result T Stopped → Type 0
-    Written r = IsWritten l p names its number crash ran.running.cluster ran.running.begins ran.running.mounted closed held held' faults faults' r
-
-    abbrev Told : LifeText → Type 0
-    Told text = IsToldLife l p names its number crash ran.running.cluster ran.running.begins ran.running.mounted closed text
-
-    module _ (text : LifeText) (told : Told text) where
-      by_script : IsToldLife l p s.names its number crash ran.running.cluster ran.running.begins ran.running.mounted closed text
-      by_script = subst (λ (n : List (List ℕ)). IsToldLife l p n its number crash ran.running.cluster ran.running.begins ran.running.mounted closed text) ran.names_are told
-
-      abbrev pub report_told : LifeReport
-      report_told = told_of begun done lives ran.life ran.running its number crash closed text ran.count by_script
-
-      abbrev pub told_so : IsPartTold l p s banks start begun falls done lives (part_of its crash) report_told (volumes_left closed)
-      told_so = part_told begun done lives ran.life ran.running its number crash closed text ran.count by_script
-
-    pub not_written : {T : Type 0} (before now : ℕ) (gives : Volumes L P → Type 0) → Only (volumes_left closed) gives → (stop : Stopped) → Written {T = T} (Err stop)
-        → PartStopped l p s banks start begun falls done lives (part_of its crash) held held' faults faults' before now gives stop
-    not_written before now gives only stops.Sink w = (w.0, report_told w.1 w.2, volumes_left closed, told_so w.1 w.2, w.3, w.4, only)
-    not_written before now gives only (stops.NoLife refusal) w = inl w
-
   -- ---- a crash, and the next life
 
   pub comes_push : (lives : List LifeReport) (r : LifeReport) (begun mounted left next : Volumes L P) → ComesTo l p falls lives begun mounted → HasEndedOn l p r mounted left → IsSomeAnd r.crash (λ how. HasFallen l p falls how left next) → ComesTo l p falls (lives ++ r ∷ []) begun next
@@ -160,3 +138,29 @@ module _ {L P : Type 0} {l : logs.Ghosts L} {p : disks.Ghosts P} (s : Script) (b
             (Appends-trans first held held' (text_so_far s.names lives) told.text so_far wrote),
         record { left = left; have_left = record { before = lives; last = r; lives_are = refl; begun = begun; began = began; has_left = told.last }; only = only },
       )
+
+-- ---- how the text of a part was written
+
+module _ {L P : Type 0} (l : logs.Ghosts L) (p : disks.Ghosts P) (falls : Crash → Volumes L P → Volumes L P → Type 0) (names : List (List ℕ)) (number : ℕ) (lived : Lived L P l)
+    (ran : HasRunPart l p falls names number lived) (crash : Option How) where
+  abbrev closed : ClosedLife L P l
+  closed = lived.ended.closed
+
+  abbrev Told : List (List ℕ) → LifeText → Type 0
+  Told names text = IsToldLife l p names ran.its number crash ran.running.cluster ran.running.begins ran.running.mounted closed text
+
+  module _ (text : LifeText) (told : Told names text) where
+    by_script : Told ran.script.names text
+    by_script = subst (λ (n : List (List ℕ)). Told n text) ran.names_are told
+
+    abbrev pub report_told : LifeReport
+    report_told = told_of ran.script ran.banks ran.start falls ran.begun ran.done ran.lives ran.life ran.running ran.its number crash closed text ran.count by_script
+
+    abbrev pub told_so : TellsPart l p ran crash report_told
+    told_so = part_told ran.script ran.banks ran.start falls ran.begun ran.done ran.lives ran.life ran.running ran.its number crash closed text ran.count by_script
+
+  module _ {T : Type 0} (held held' : Option (List ℕ)) (faults faults' before now : ℕ) (gives : Volumes L P → Type 0) (only : Only (volumes_left closed) gives) where
+    pub not_written : (stop : Stopped) → IsWritten l p {T = T} names ran.its number crash ran.running.cluster ran.running.begins ran.running.mounted closed held held' faults faults' (Err stop)
+        → StopsPart l p ran crash held held' faults faults' before now gives stop
+    not_written stops.Sink w = (w.0, report_told w.1 w.2, volumes_left closed, told_so w.1 w.2, w.3, w.4, only)
+    not_written (stops.NoLife refusal) w = inl w

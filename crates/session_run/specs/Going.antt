@@ -29,7 +29,7 @@ use Rattle.engine_life.specs.declared.life.OpenLife.{OpenLife}
 use Rattle.engine_life.specs.declared.refusal.NoLife.{NoLife}
 use Rattle.engine_life.specs.declared.refusal.NoLife.TheVariants as no_lives
 use Rattle.engine_life.specs.FirstLives.{IsFirstLife, with_banks}
-use Rattle.engine_life.specs.Lives.{FitsLog, number_of}
+use Rattle.engine_life.specs.Lives.{FitsLog, number_of, volumes_left}
 use Rattle.engine_life.specs.Refusals.{IsUnopened}
 use Rattle.session_run.specs.OneLife.{HasLeft, IsOpened, life_of}
 use Rattle.session_run.specs.Parts.{HasLived, report_of}
@@ -125,28 +125,7 @@ module _ {L P : Type 0} (l : logs.Ghosts L) (p : disks.Ghosts P) where
     pub exact : text_so_far s.names lives ++ text ≡ text_so_far s.names (lives ++ r ∷ []) ++ last_text part.crash
     pub last : HasLeftLast l p begun falls lives r left
 
-  -- Behind these lives a life ran these items of the script, and is over: the life of this number.
-  pub record HasRunPart (names : List (List ℕ)) (number : ℕ) (s : Script) (banks : ℕ) (start : RunStart) (begun : Volumes L P) (falls : Crash → Volumes L P → Volumes L P → Type 0) (done : List LifePart) (lives : List LifeReport) (its : List Item) (lived : Lived L P l) : Type 0 where
-    pub names_are : names ≡ s.names
-    pub count : number ≡ length lives + 1
-    pub life : OpenLife L P l p
-    pub running : IsRunning s banks start begun falls done lives life
-    pub is : IsLived l p names its running.cluster running.begins running.faults running.mounted lived
-
-  -- It was the last one.
-  abbrev pub LastWent : Script → ℕ → RunStart → Volumes L P → (Crash → Volumes L P → Volumes L P → Type 0) → List LifePart → List LifeReport → List Item → Option (List ℕ) → Option (List ℕ) → (Volumes L P → Type 0) → Type 0
-  LastWent s banks start begun falls done lives its held held' gives =
-      (r : LifeReport) × (left : Volumes L P)
-      × (told : IsPartTold s banks start begun falls done lives (part_of its None) r left) × Appends held held' told.text × Only left gives
-
-  -- It crashed, and the next life is open.
-  abbrev pub NextWent : Script → ℕ → RunStart → Volumes L P → (Crash → Volumes L P → Volumes L P → Type 0) → List LifePart → List LifeReport → LifePart → Option (List ℕ) → Option (List ℕ) → OpenLife L P l p → Type 0
-  NextWent s banks start begun falls done lives part held held' life =
-      (r : LifeReport) × (left : Volumes L P)
-      × (told : IsPartTold s banks start begun falls done lives part r left) × Appends held held' told.text
-      × IsRunning s banks start begun falls (done ++ part ∷ []) (lives ++ r ∷ []) life
-
-  -- The run stopped. Where the sink failed it holds a front of the part's text, and the media has what the life left; where
+  -- The run stopped at a part. Where the sink failed it holds a front of the part's text, and the media has what the life left; where
   -- memory was wanting for that text nothing of it was written.
   abbrev pub PartStopped : Script → ℕ → RunStart → Volumes L P → (Crash → Volumes L P → Volumes L P → Type 0) → List LifePart → List LifeReport → LifePart → Option (List ℕ) → Option (List ℕ) → ℕ → ℕ
       → ℕ → ℕ → (Volumes L P → Type 0) → Stopped → Type 0
@@ -159,3 +138,39 @@ module _ {L P : Type 0} (l : logs.Ghosts L) (p : disks.Ghosts P) where
       × (told : IsPartTold s banks start begun falls done lives part r left) × Appends held held' told.text
       × IsCrashed l p (cluster_of s) falls how before now left gives refusal
       × KeepsLog l p r.life left (HasFallen l p falls how left) before now gives refusal)
+
+  -- A life of a script ran these items behind these lives, and is over: the life of this number.
+  pub record HasRunPart (falls : Crash → Volumes L P → Volumes L P → Type 0) (names : List (List ℕ)) (number : ℕ) (lived : Lived L P l) : Type 0 where
+    pub script : Script
+    pub banks : ℕ
+    pub start : RunStart
+    pub begun : Volumes L P
+    pub done : List LifePart
+    pub lives : List LifeReport
+    pub its : List Item
+    pub names_are : names ≡ script.names
+    pub count : number ≡ length lives + 1
+    pub life : OpenLife L P l p
+    pub running : IsRunning script banks start begun falls done lives life
+    pub is : IsLived l p names its running.cluster running.begins running.faults running.mounted lived
+
+  module _ {falls : Crash → Volumes L P → Volumes L P → Type 0} {names : List (List ℕ)} {number : ℕ} {lived : Lived L P l} (ran : HasRunPart falls names number lived) where
+    -- its report, with the crash that ended it, if one did
+    abbrev pub TellsPart : Option How → LifeReport → Type 0
+    TellsPart crash r = IsPartTold ran.script ran.banks ran.start ran.begun falls ran.done ran.lives (part_of ran.its crash) r (volumes_left lived.ended.closed)
+
+    -- It was the last one.
+    abbrev pub LastWent : Option (List ℕ) → Option (List ℕ) → (Volumes L P → Type 0) → Type 0
+    LastWent held held' gives =
+        (r : LifeReport) × (told : TellsPart None r) × Appends held held' told.text × Only (volumes_left lived.ended.closed) gives
+
+    -- It crashed, and the next life is open.
+    abbrev pub NextWent : How → Option (List ℕ) → Option (List ℕ) → OpenLife L P l p → Type 0
+    NextWent how held held' life =
+        (r : LifeReport) × (told : TellsPart (Some how) r) × Appends held held' told.text
+        × IsRunning ran.script ran.banks ran.start ran.begun falls (ran.done ++ part_of ran.its (Some how) ∷ []) (ran.lives ++ r ∷ []) life
+
+    -- The run stopped.
+    abbrev pub StopsPart : Option How → Option (List ℕ) → Option (List ℕ) → ℕ → ℕ → ℕ → ℕ → (Volumes L P → Type 0) → Stopped → Type 0
+    StopsPart crash held held' faults faults' before now gives stop =
+        PartStopped ran.script ran.banks ran.start ran.begun falls ran.done ran.lives (part_of ran.its crash) held held' faults faults' before now gives stop

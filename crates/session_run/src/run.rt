@@ -8,8 +8,7 @@ ghost use Rattle.tx_model.specs.declared.report.Report.{Report};
 ghost use Rattle.report_text.specs.ReportText.{report_text};
 ghost use Rattle.recoverable.specs.Fit.{KeptLog};
 ghost use Rattle.session_lang.specs.declared.script.Item.{Item};
-ghost use Rattle.session_lang.specs.declared.script.Script.{Script as Scripted};
-ghost use Rattle.run_law.specs.Lives.{LifePart, RunStart};
+ghost use Rattle.run_law.specs.Lives.{RunStart};
 ghost use Rattle.run_law.specs.Tool.{IsReportOf};
 ghost use Rattle.script_gen.specs.Summaries.{IsSummaryOf};
 ghost use Rattle.engine_host.specs.declared.cluster.Cluster.{Cluster as Clustered};
@@ -20,7 +19,7 @@ ghost use Rattle.engine_life.specs.Refusals.{IsOfVolumes};
 ghost use Rattle.session_run.specs.Fits.{FitWhereTold};
 ghost use Rattle.session_run.specs.OneLife.{IsOpened, MayRunIn, life_over};
 ghost use Rattle.session_run.specs.Parts.{IsTakenPart};
-ghost use Rattle.session_run.specs.Going.{HasGoneOn, HasRunPart, IsCrashed, IsLived, IsWritten, LastWent, NextWent, PartStopped, part_of};
+ghost use Rattle.session_run.specs.Going.{HasGoneOn, HasRunPart, IsCrashed, IsLived, IsWritten, LastWent, NextWent, StopsPart};
 ghost use Rattle.session_run.specs.Lives.{HasFallen, crash_of};
 ghost use Rattle.session_run.specs.Leaves.{LeavesVolumes};
 ghost use Rattle.session_run.specs.Runs.{IsTaken, IsTakenAlone, cluster_of};
@@ -30,16 +29,17 @@ ghost use Rattle.session_run.specs.Stops.{IsStopped, IsUnopenedFirst, MountsFirs
 use crate::ended::{Ended, FittedLog, log_left};
 use crate::life::run_life;
 use crate::stop::Stopped;
-use crate::text::tell_life;
 use disk_core::{Crash, LogDisk, Media, PageDisk, Volumes};
 use engine_host::Cluster;
 use engine_life::laws::crash_goes_on;
-use engine_life::{NoLife, OpenLife, open_life};
+use engine_life::{EndText, NoLife, OpenLife, end_life, open_life};
 use engine_parts::Gate;
 use notes::Note;
 use report_text::Text;
 use script_gen::Summary;
-use script_rounds::{LineKeeper, RoundThreads, Tally, have_full_multis, next_part, put_life};
+use script_rounds::{
+    LineKeeper, RoundThreads, Tally, have_full_multis, next_part, put_life, whole_text,
+};
 use session_lang::{Items, Script};
 use std::alloc::Global;
 use std::sync::Wait;
@@ -152,8 +152,12 @@ fn tell_part<K: Sink, L: LogDisk + Drop, P: PageDisk + Drop>(
     };
     let log = log_left(&ended);
     let Ended { start: _, closed } = ended;
-    let (volumes, told) = tell_life(alloc, names, closed, number, &base, steps, crash);
-    let Ok(text) = told else {
+    let from = closed.number();
+    let (volumes, ended) = end_life(alloc, closed, names, steps, crash);
+    let Ok(EndText { rest, log: end }) = ended else {
+        return (volumes, Err(Stopped::NoLife(NoLife::Memory)));
+    };
+    let Ok(text) = whole_text(alloc, number, from, &base, rest, end, crash) else {
         return (volumes, Err(Stopped::NoLife(NoLife::Memory)));
     };
     match put_life(sink, &text) {
@@ -202,18 +206,11 @@ fn end_run<K: Sink, M: Media>(
     sink: &mut K,
     media: &mut M,
 ) -> Result<(), Stopped>
-    requires lived { (s : Scripted) × (banks : ℕ) × (start : RunStart) × (begun : Mounted M.Log M.Pages) × (done : List LifePart)
-        × (lives : List LifeReport) × (its : List Item)
-        × HasRunPart M.Log.LogDisk M.Pages.PageDisk names.now number s banks start begun M.falls done lives its lived }
-    ensures last { (s : Scripted) (banks : ℕ) (start : RunStart) (begun : Mounted M.Log M.Pages) (done : List LifePart)
-        (lives : List LifeReport) (its : List Item)
-        → HasRunPart M.Log.LogDisk M.Pages.PageDisk names.now number s banks start begun M.falls done lives its lived
-        → OnOk result (LastWent M.Log.LogDisk M.Pages.PageDisk s banks start begun M.falls done lives its
-        (K.held sink.old) (K.held sink.new) (M.gives media.new)) }
-    ensures stopped { (s : Scripted) (banks : ℕ) (start : RunStart) (begun : Mounted M.Log M.Pages) (done : List LifePart)
-        (lives : List LifeReport) (its : List Item)
-        → HasRunPart M.Log.LogDisk M.Pages.PageDisk names.now number s banks start begun M.falls done lives its lived
-        → IfErr result (PartStopped M.Log.LogDisk M.Pages.PageDisk s banks start begun M.falls done lives (part_of its None)
+    requires ran { HasRunPart M.Log.LogDisk M.Pages.PageDisk M.falls names.now number lived }
+    ensures last { (ran : HasRunPart M.Log.LogDisk M.Pages.PageDisk M.falls names.now number lived)
+        → OnOk result (LastWent M.Log.LogDisk M.Pages.PageDisk ran (K.held sink.old) (K.held sink.new) (M.gives media.new)) }
+    ensures stopped { (ran : HasRunPart M.Log.LogDisk M.Pages.PageDisk M.falls names.now number lived)
+        → IfErr result (StopsPart M.Log.LogDisk M.Pages.PageDisk ran None
         (K.held sink.old) (K.held sink.new) (K.faults sink.old) (K.faults sink.new)
         (M.faults media.old) (M.faults media.new) (M.gives media.new)) }
     ensures idle { IsTrue (M.is_idle media.new) }
@@ -241,20 +238,13 @@ fn end_part<K: Sink, M: Media>(
     media: &mut M,
 ) -> Result<OpenLife<M::Log, M::Pages>, Stopped>
     requires cluster { IsCluster cluster.now }
-    requires lived { (s : Scripted) × (banks : ℕ) × (start : RunStart) × (begun : Mounted M.Log M.Pages) × (done : List LifePart)
-        × (lives : List LifeReport) × (its : List Item)
-        × HasRunPart M.Log.LogDisk M.Pages.PageDisk names.now number s banks start begun M.falls done lives its lived }
-    ensures next { (s : Scripted) (banks : ℕ) (start : RunStart) (begun : Mounted M.Log M.Pages) (done : List LifePart)
-        (lives : List LifeReport) (its : List Item)
-        → HasRunPart M.Log.LogDisk M.Pages.PageDisk names.now number s banks start begun M.falls done lives its lived
-        → cluster.now ≡ cluster_of s
-        → IfOk result (NextWent M.Log.LogDisk M.Pages.PageDisk s banks start begun M.falls done lives (part_of its (Some how))
-        (K.held sink.old) (K.held sink.new)) }
-    ensures stopped { (s : Scripted) (banks : ℕ) (start : RunStart) (begun : Mounted M.Log M.Pages) (done : List LifePart)
-        (lives : List LifeReport) (its : List Item)
-        → HasRunPart M.Log.LogDisk M.Pages.PageDisk names.now number s banks start begun M.falls done lives its lived
-        → cluster.now ≡ cluster_of s
-        → IfErr result (PartStopped M.Log.LogDisk M.Pages.PageDisk s banks start begun M.falls done lives (part_of its (Some how))
+    requires ran { HasRunPart M.Log.LogDisk M.Pages.PageDisk M.falls names.now number lived }
+    ensures next { (ran : HasRunPart M.Log.LogDisk M.Pages.PageDisk M.falls names.now number lived)
+        → cluster.now ≡ cluster_of ran.script
+        → IfOk result (NextWent M.Log.LogDisk M.Pages.PageDisk ran how (K.held sink.old) (K.held sink.new)) }
+    ensures stopped { (ran : HasRunPart M.Log.LogDisk M.Pages.PageDisk M.falls names.now number lived)
+        → cluster.now ≡ cluster_of ran.script
+        → IfErr result (StopsPart M.Log.LogDisk M.Pages.PageDisk ran (Some how)
         (K.held sink.old) (K.held sink.new) (K.faults sink.old) (K.faults sink.new)
         (M.faults media.old) (M.faults media.new) (M.gives media.new)) }
     ensures idle { OnErr result (IsTrue (M.is_idle media.new)) }

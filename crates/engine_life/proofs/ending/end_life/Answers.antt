@@ -13,14 +13,14 @@ returns-in-Ok-put_histories-clause-text g c = λ base committed recorded.
     let crash = c.args.crash in
     let steps = c.args.steps in
     let taken = c.into_histories-volumes.ensures in
-    let out = c.put_histories.new.rest in
+    let out = c.put_histories.new.out in
     let log = c.in-Ok.log in
     let histories = history_text names closed.events ++ multis_text names closed.multis.value.events in
     let told = life_told (number_of closed) base committed recorded closed.events closed.multis.value.events closed.log in
     let rest : out ≡ steps ++ histories =
-        subst (λ (x : List Event × List MultiEvent). out ≡ steps ++ (history_text names x.0 ++ multis_text names x.1))
-        (λ j. ((c.items.ensures ∙ taken.events) j, (c.events.ensures.value ∙ ap (λ m. m.value.events) taken.multis) j)) c.in-Ok-put_histories.ensures.ok in
+    subst (λ (x : List Event × List MultiEvent). out ≡ steps ++ (history_text names x.0 ++ multis_text names x.1))
+    (λ j. ((c.items.ensures ∙ taken.events) j, (c.events.ensures.value ∙ ap (λ m. m.value.events) taken.multis) j)) c.in-Ok-put_histories.ensures.ok in
     let ends : log ≡ log_text told ++ crash_text crash =
-        subst (λ n. log ≡ log_text (life_told n base committed recorded closed.events closed.multis.value.events closed.log) ++ crash_text crash) c.number.ensures
-        ((rw c.in-Ok.is at c.log_end-log.ensures) base committed recorded closed.events closed.multis.value.events) in
+    subst (λ n. log ≡ log_text (life_told n base committed recorded closed.events closed.multis.value.events closed.log) ++ crash_text crash) c.number.ensures
+    ((rw c.in-Ok.is at c.log_end-log.ensures) base committed recorded closed.events closed.multis.value.events) in
     behind_text steps histories (log_text told) (crash_text crash) out log rest ends

@@ -16,18 +16,18 @@ use Rattle.session_run.proofs.run.end_part.Goals as goal
 
 pub tell_part-volumes-requires-clause-lived : goal.tell_part-volumes-requires-clause-lived
 tell_part-volumes-requires-clause-lived g c =
-    let r = c.requires.lived in
-    let ran = r.7 in
-    (r.6, ran.running.cluster, ran.running.begins, ran.running.faults, ran.running.mounted, ran.is)
+    let ran = c.requires.ran in
+    let run = ran.running in
+    (ran.its, run.cluster, run.begins, run.faults, run.mounted, ran.is)
 
 pub returns-in-Err-clause-stopped : goal.returns-in-Err-clause-stopped
-returns-in-Err-clause-stopped g c = λ s banks start begun done lives its ran cluster.
+returns-in-Err-clause-stopped g c = λ ran cluster.
     let m = g.M.Media in
     let k = g.K.Sink in
     let run = ran.running in
     let new = c.tell_part-volumes.new.sink in
-    let w = rw c.in-Err.is at (c.tell_part-volumes.ensures.told its run.cluster run.begins run.faults run.mounted ran.is) in
-    not_written s banks start m.falls begun done lives c.args.names.now c.args.number its c.args.lived ran (Some c.args.how) (k.held c.args.sink.now) (k.held new) (k.faults c.args.sink.now) (k.faults new)
+    let w = rw c.in-Err.is at (c.tell_part-volumes.ensures.told ran.its run.cluster run.begins run.faults run.mounted ran.is) in
+    not_written g.M.Log.LogDisk g.M.Pages.PageDisk m.falls c.args.names.now c.args.number c.args.lived ran (Some c.args.how) (k.held c.args.sink.now) (k.held new) (k.faults c.args.sink.now) (k.faults new)
     (m.faults c.args.media.now) (m.faults c.rest.new.self) (m.gives c.rest.new.self)
     (subst (λ volumes. Only volumes (m.gives c.rest.new.self)) c.tell_part-volumes.ensures.volumes c.rest.ensures.same) c.in-Err.stop w
 
@@ -36,9 +36,9 @@ go_on-requires g c κs within =
     let l = g.M.Log.LogDisk in
     let p = g.M.Pages.PageDisk in
     let closed = c.args.lived.ended.closed in
-    let r = c.requires.lived in
-    let run = r.7.running in
-    let w = rw c.in-Ok.is at (c.tell_part-volumes.ensures.told r.6 run.cluster run.begins run.faults run.mounted r.7.is) in
+    let ran = c.requires.ran in
+    let run = ran.running in
+    let w = rw c.in-Ok.is at (c.tell_part-volumes.ensures.told ran.its run.cluster run.begins run.faults run.mounted ran.is) in
     let has = same_banks l p run.cluster.banks run.mounted (volumes_left closed) run.opened.banks w.1.left.same in
     let many : HasBanks (length (volumes_left closed).xact.items) (volumes_left closed) = subst (λ n. HasBanks n (volumes_left closed)) (sym has.xact) has in
     let back = c.tell_part-volumes.ensures.volumes in
@@ -54,7 +54,7 @@ go_on-requires g c κs within =
     )
 
 pub returns-in-Ok-go_on-clause-next : goal.returns-in-Ok-go_on-clause-next
-returns-in-Ok-go_on-clause-next g c = λ s banks start begun done lives its ran cluster.
+returns-in-Ok-go_on-clause-next g c = λ ran cluster.
     let m = g.M.Media in
     let k = g.K.Sink in
     let l = g.M.Log.LogDisk in
@@ -65,25 +65,24 @@ returns-in-Ok-go_on-clause-next g c = λ s banks start begun done lives its ran 
     let kept = c.in-Ok.log.value.kept in
     let run = ran.running in
     let new = c.tell_part-volumes.new.sink in
-    let w = rw c.in-Ok.is at (c.tell_part-volumes.ensures.told its run.cluster run.begins run.faults run.mounted ran.is) in
+    let w = rw c.in-Ok.is at (c.tell_part-volumes.ensures.told ran.its run.cluster run.begins run.faults run.mounted ran.is) in
     let fits = rw c.in-Ok.is at c.tell_part-volumes.ensures.fits in
     let held = k.held c.args.sink.now in
-    let r = report_told s banks start m.falls begun done lives c.args.names.now c.args.number its c.args.lived ran (Some how) held (k.held new) (k.faults c.args.sink.now) (k.faults new) w.0 w.1 in
-    let part = told_so s banks start m.falls begun done lives c.args.names.now c.args.number its c.args.lived ran (Some how) held (k.held new) (k.faults c.args.sink.now) (k.faults new) w.0 w.1 in
+    let r = report_told l p m.falls c.args.names.now c.args.number c.args.lived ran (Some how) w.0 w.1 in
+    let part = told_so l p m.falls c.args.names.now c.args.number c.args.lived ran (Some how) w.0 w.1 in
     let same = life_over_is run.cluster run.begins run.faults c.args.lived.ended.start.value closed ran.is.start_is in
     let has = same_banks l p run.cluster.banks run.mounted (volumes_left closed) run.opened.banks w.1.left.same in
     let gone = subst (λ (x : Cluster × ℕ). HasGoneOn l p m.falls how kept x.0 x.1 (volumes_left closed) next) (λ j. ((c.same.ensures ∙ cluster) j, (has.xact ∙ run.banks_are) j))
     (subst (λ volumes. HasGoneOn l p m.falls how kept c.same.result (length volumes.xact.items) volumes next) c.tell_part-volumes.ensures.volumes c.in-Ok-go_on.ensures.next) in (
       r,
-      volumes_left closed,
       part,
       w.2,
-      running_on s banks start m.falls begun done lives (part_of its (Some how)) r (volumes_left closed) part how refl next kept gone
+      running_on ran.script ran.banks ran.start m.falls ran.begun ran.done ran.lives (part_of ran.its (Some how)) r (volumes_left closed) part how refl next kept gone
           (λ pt. subst (λ (life : Life). FitsLife l p life (volumes_left closed) kept) same (fits pt (gone.tells pt))),
     )
 
 pub returns-clause-stopped : goal.returns-clause-stopped
-returns-clause-stopped g c = λ s banks start begun done lives its ran cluster.
+returns-clause-stopped g c = λ ran cluster.
     let m = g.M.Media in
     let k = g.K.Sink in
     let l = g.M.Log.LogDisk in
@@ -94,7 +93,7 @@ returns-clause-stopped g c = λ s banks start begun done lives its ran cluster.
     let kept = c.in-Ok.log.value.kept in
     let run = ran.running in
     let new = c.tell_part-volumes.new.sink in
-    let w = rw c.in-Ok.is at (c.tell_part-volumes.ensures.told its run.cluster run.begins run.faults run.mounted ran.is) in
+    let w = rw c.in-Ok.is at (c.tell_part-volumes.ensures.told ran.its run.cluster run.begins run.faults run.mounted ran.is) in
     let fits = rw c.in-Ok.is at c.tell_part-volumes.ensures.fits in
     let held = k.held c.args.sink.now in
     let same = life_over_is run.cluster run.begins run.faults c.args.lived.ended.start.value closed ran.is.start_is in
@@ -105,9 +104,9 @@ returns-clause-stopped g c = λ s banks start begun done lives its ran cluster.
     inr (
       how,
       refl,
-      report_told s banks start m.falls begun done lives c.args.names.now c.args.number its c.args.lived ran (Some how) held (k.held new) (k.faults c.args.sink.now) (k.faults new) w.0 w.1,
+      report_told l p m.falls c.args.names.now c.args.number c.args.lived ran (Some how) w.0 w.1,
       volumes_left closed,
-      told_so s banks start m.falls begun done lives c.args.names.now c.args.number its c.args.lived ran (Some how) held (k.held new) (k.faults c.args.sink.now) (k.faults new) w.0 w.1,
+      told_so l p m.falls c.args.names.now c.args.number c.args.lived ran (Some how) w.0 w.1,
       w.2,
       subst (λ (x : Cluster). IsCrashed l p x m.falls how before now (volumes_left closed) gives refusal) (c.same.ensures ∙ cluster)
           (subst (λ volumes. IsCrashed l p c.same.result m.falls how before now volumes gives refusal) back c.in-Err-go_on.ensures.refused),

@@ -8,6 +8,7 @@ use Rattle.run_law.proofs.Lives.{rest_shorter}
 use Rattle.engine_host.specs.declared.cluster.Cluster.{Cluster}
 use Rattle.engine_host.specs.Opening.{IsCluster}
 use Rattle.engine_life.specs.FirstLives.{MayMount}
+use Rattle.engine_life.specs.Lives.{volumes_left}
 use Rattle.session_run.proofs.GoingOn.{err_so}
 use Rattle.session_run.proofs.LivesRun.{HasCome, come_first, come_on, part_stops, part_taken, run_ends, unopened_stops}
 use Rattle.session_run.proofs.Opening.{is_first, may_over, unopened_first}
@@ -69,13 +70,12 @@ run_part-lived-requires-clause-may g c κs within =
 
 -- ---- the last part
 
-pub end_run-requires-clause-lived : goal.end_run-requires-clause-lived
-end_run-requires-clause-lived g c κs within =
+pub end_run-requires-clause-ran : goal.end_run-requires-clause-ran
+end_run-requires-clause-ran g c κs within =
     let at = c.loop in
     let h = at.invariant.0 in
     let run = h.running in
-    (c.args.script, h.banks, h.start, h.begun, h.done, h.lives, c.next_part-part.result.0,
-    record { names_are = refl; count = h.count; life = at.life; running = run; is = c.run_part-lived.ensures run.cluster run.begins run.faults run.mounted run.opened })
+    record { script = c.args.script; banks = h.banks; start = h.start; begun = h.begun; done = h.done; lives = h.lives; its = c.next_part-part.result.0; names_are = refl; count = h.count; life = at.life; running = run; is = c.run_part-lived.ensures run.cluster run.begins run.faults run.mounted run.opened }
 
 pub returns-in-None-clause-report : goal.returns-in-None-clause-report
 returns-in-None-clause-report g c =
@@ -89,10 +89,10 @@ returns-in-None-clause-report g c =
     let new = c.end_run.new in
     on_ok_weaker c.end_run.result
     (λ w.
-    let e = run_ends c.args.script (MayMount (m.is_new c.args.media.now) (m.begins c.args.media.now) (m.gives c.args.media.now)) g.kept (m.is_new c.args.media.now ≡ false) m.falls (k.held c.args.sink.now) (k.held at.sink) at.items at.number at.life h part.0 None part.2 is (k.held new.sink) w.0 w.1 w.2 (m.gives new.media) refl w.3 w.4 in
+    let e = run_ends c.args.script (MayMount (m.is_new c.args.media.now) (m.begins c.args.media.now) (m.gives c.args.media.now)) g.kept (m.is_new c.args.media.now ≡ false) m.falls (k.held c.args.sink.now) (k.held at.sink) at.items at.number at.life h part.0 None part.2 is (k.held new.sink) w.0 (volumes_left c.run_part-lived.result.ended.closed) w.1 (m.gives new.media) refl w.2 w.3 in
     (h.banks, h.start, e.0, e.1, e.2, e.3))
-    (c.end_run.ensures.last c.args.script h.banks h.start h.begun h.done h.lives part.0
-    (record { names_are = refl; count = h.count; life = at.life; running = run; is = c.run_part-lived.ensures run.cluster run.begins run.faults run.mounted run.opened }))
+    (c.end_run.ensures.last
+    (record { script = c.args.script; banks = h.banks; start = h.start; begun = h.begun; done = h.done; lives = h.lives; its = c.next_part-part.result.0; names_are = refl; count = h.count; life = at.life; running = run; is = c.run_part-lived.ensures run.cluster run.begins run.faults run.mounted run.opened }))
 
 pub returns-in-None-clause-stopped : goal.returns-in-None-clause-stopped
 returns-in-None-clause-stopped g c =
@@ -107,21 +107,20 @@ returns-in-None-clause-stopped g c =
     err_so _ _ c.end_run.result
     (λ stop w. part_stops c.args.script (MayMount (m.is_new c.args.media.now) (m.begins c.args.media.now) (m.gives c.args.media.now)) g.kept (m.is_new c.args.media.now ≡ false) m.falls (k.held c.args.sink.now) (k.held at.sink) (k.held new.sink) at.items at.number at.life h part.0 None part.2 is
     (m.faults c.args.media.now) (m.faults at.media) (m.faults new.media) (m.gives new.media) (k.faults c.args.sink.now) (k.faults at.sink) (k.faults new.sink) at.invariant.1 at.invariant.2 stop w)
-    (c.end_run.ensures.stopped c.args.script h.banks h.start h.begun h.done h.lives part.0
-    (record { names_are = refl; count = h.count; life = at.life; running = run; is = c.run_part-lived.ensures run.cluster run.begins run.faults run.mounted run.opened }))
+    (c.end_run.ensures.stopped
+    (record { script = c.args.script; banks = h.banks; start = h.start; begun = h.begun; done = h.done; lives = h.lives; its = c.next_part-part.result.0; names_are = refl; count = h.count; life = at.life; running = run; is = c.run_part-lived.ensures run.cluster run.begins run.faults run.mounted run.opened }))
 
 -- ---- a part that crashed
 
 pub end_part-requires-clause-cluster : goal.end_part-requires-clause-cluster
 end_part-requires-clause-cluster g c κs within = c.cluster_of-cluster.ensures.cluster
 
-pub end_part-requires-clause-lived : goal.end_part-requires-clause-lived
-end_part-requires-clause-lived g c κs within =
+pub end_part-requires-clause-ran : goal.end_part-requires-clause-ran
+end_part-requires-clause-ran g c κs within =
     let at = c.loop in
     let h = at.invariant.0 in
     let run = h.running in
-    (c.args.script, h.banks, h.start, h.begun, h.done, h.lives, c.next_part-part.result.0,
-    record { names_are = refl; count = h.count; life = at.life; running = run; is = c.run_part-lived.ensures run.cluster run.begins run.faults run.mounted run.opened })
+    record { script = c.args.script; banks = h.banks; start = h.start; begun = h.begun; done = h.done; lives = h.lives; its = c.next_part-part.result.0; names_are = refl; count = h.count; life = at.life; running = run; is = c.run_part-lived.ensures run.cluster run.begins run.faults run.mounted run.opened }
 
 pub returns-in_err-end_part-clause-stopped : goal.returns-in_err-end_part-clause-stopped
 returns-in_err-end_part-clause-stopped g c =
@@ -134,8 +133,8 @@ returns-in_err-end_part-clause-stopped g c =
     let how = c.in-Some.how in
     let is = subst (λ (o : Option How). IsFirstPart at.items part.0 o part.2) c.in-Some.is c.next_part-part.ensures in
     let new = c.end_part.new in
-    let w = c.in_err-end_part.ensures.stopped c.args.script h.banks h.start h.begun h.done h.lives part.0
-    (record { names_are = refl; count = h.count; life = at.life; running = run; is = c.run_part-lived.ensures run.cluster run.begins run.faults run.mounted run.opened }) c.cluster_of-cluster.ensures.is in
+    let w = c.in_err-end_part.ensures.stopped
+    (record { script = c.args.script; banks = h.banks; start = h.start; begun = h.begun; done = h.done; lives = h.lives; its = c.next_part-part.result.0; names_are = refl; count = h.count; life = at.life; running = run; is = c.run_part-lived.ensures run.cluster run.begins run.faults run.mounted run.opened }) c.cluster_of-cluster.ensures.is in
     let stopped = part_stops c.args.script (MayMount (m.is_new c.args.media.now) (m.begins c.args.media.now) (m.gives c.args.media.now)) g.kept (m.is_new c.args.media.now ≡ false) m.falls (k.held c.args.sink.now) (k.held at.sink) (k.held new.sink) at.items at.number at.life h part.0 (Some how) part.2 is
     (m.faults c.args.media.now) (m.faults at.media) (m.faults new.media) (m.gives new.media) (k.faults c.args.sink.now) (k.faults at.sink) (k.faults new.sink) at.invariant.1 at.invariant.2 c.in_err-end_part.field-0.0 w in
     let err = err_from_is_err_and c.from_residual.result c.from_residual.ensures.1 in
@@ -159,13 +158,13 @@ loop-preserved g c =
     let is = subst (λ (o : Option How). IsFirstPart at.items part.0 o part.2) c.in-Some.is c.next_part-part.ensures in
     let new = c.end_part.new in
     let ran = c.in_ok-end_part.ensures in
-    let w = ran.next c.args.script h.banks h.start h.begun h.done h.lives part.0
-    (record { names_are = refl; count = h.count; life = at.life; running = run; is = c.run_part-lived.ensures run.cluster run.begins run.faults run.mounted run.opened }) c.cluster_of-cluster.ensures.is in
+    let w = ran.next
+    (record { script = c.args.script; banks = h.banks; start = h.start; begun = h.begun; done = h.done; lives = h.lives; its = c.next_part-part.result.0; names_are = refl; count = h.count; life = at.life; running = run; is = c.run_part-lived.ensures run.cluster run.begins run.faults run.mounted run.opened }) c.cluster_of-cluster.ensures.is in
     let media = at.invariant.1 in
     let sink = at.invariant.2 in
     let faults = ran.count in
     let later = ran.sink in (
-      come_on c.args.script (MayMount (m.is_new c.args.media.now) (m.begins c.args.media.now) (m.gives c.args.media.now)) g.kept (m.is_new c.args.media.now ≡ false) m.falls (k.held c.args.sink.now) (k.held at.sink) at.items at.number at.life h part.0 (Some how) part.2 is (k.held new.sink) w.0 w.1 w.2 how c.in_ok-end_part.field-0 refl w.3 w.4,
+      come_on c.args.script (MayMount (m.is_new c.args.media.now) (m.begins c.args.media.now) (m.gives c.args.media.now)) g.kept (m.is_new c.args.media.now ≡ false) m.falls (k.held c.args.sink.now) (k.held at.sink) at.items at.number at.life h part.0 (Some how) part.2 is (k.held new.sink) w.0 (volumes_left c.run_part-lived.result.ended.closed) w.1 how c.in_ok-end_part.field-0 refl w.2 w.3,
       omega (arith, media, faults),
       omega (arith, sink, later),
     )

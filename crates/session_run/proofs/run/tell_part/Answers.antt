@@ -1,10 +1,13 @@
-use Rattle.std.proofs.Common.{refl, subst, sym, ◌∙◌}
+use Rattle.std.proofs.Common.{refl, subst, sym, ◌++◌, ◌≡◌}
 use Rattle.std.proofs.KnownBytes.{Appends-nil}
+use Rattle.report_text.specs.ReportText.{rest_text}
+use Rattle.run_law.specs.Lives.{IsFrontOf, last_text}
 use Rattle.tx_model.specs.declared.report.Life.{Life}
-use Rattle.engine_life.specs.Lives.{volumes_left}
+use Rattle.engine_life.specs.Lives.{life_told, volumes_left}
 use Rattle.session_run.specs.Fits.{FitLife}
+use Rattle.session_run.specs.OneLife.{life_of}
 use Rattle.session_run.proofs.GoingOn.{life_over_is}
-use Rattle.session_run.proofs.Running.{told_life}
+use Rattle.session_run.proofs.Running.{pieces, told_life}
 use Rattle.session_run.proofs.run.tell_part.Goals as goal
 
 pub returns-else-clause-told : goal.returns-else-clause-told
@@ -25,23 +28,40 @@ log_left-log-requires g c =
 pub returns-else-2-clause-told : goal.returns-else-2-clause-told
 returns-else-2-clause-told g c = λ its k b faults mounted is. (refl, Appends-nil (g.K.Sink.held c.args.sink.now))
 
+pub returns-else-3-clause-told : goal.returns-else-3-clause-told
+returns-else-3-clause-told g c = λ its k b faults mounted is. (refl, Appends-nil (g.K.Sink.held c.args.sink.now))
+
 pub returns-in-Ok-put_life-clause-told : goal.returns-in-Ok-put_life-clause-told
 returns-in-Ok-put_life-clause-told g c = λ its k b faults mounted is.
-    let l = g.L.LogDisk in
-    let p = g.P.PageDisk in
     let lived = c.args.lived in
+    let names = c.args.names.now in
+    let crash = c.args.crash in
+    let closed = lived.ended.closed in
     let over = rw c.in-Ok.is at is.over in
-    let made = c.tell_life-volumes.ensures in
-    let text = c.in-Ok-2.text in
-    (text, told_life l p k b mounted c.args.names.now its c.args.number c.args.crash lived.ended.closed lived.base c.in-Ok.steps text over (rw c.in-Ok-2.is at made.front) (rw c.in-Ok-2.is at made.rest k b over.number) made.multis, c.in-Ok-put_life.ensures.ok)
+    let text = c.in-Ok-whole_text.text in
+    let made = c.in-Ok-whole_text.ensures in
+    let rest = c.in-Ok-EndText.rest in
+    let end = c.in-Ok-EndText.end in
+    let ends = subst (λ n. rest ++ end ≡ c.in-Ok.steps ++ rest_text names (life_told n k.base b.committed b.recorded closed.events closed.multis.value.events closed.log) crash) over.number ((rw c.in-Ok-EndText.is at c.end_life-volumes.ensures.text) k.base b.committed b.recorded) in
+    let told = told_life g.L.LogDisk g.P.PageDisk k b mounted names its c.args.number crash closed lived.base c.in-Ok.steps text over
+    (subst (λ n. IsFrontOf c.args.number n lived.base text.front) c.number.ensures made.front)
+    (pieces rest end (last_text crash) c.in-Ok.steps (rest_text names (life_of k b closed) crash) text.rest text.log made.rest made.log ends) c.whole_text.ensures.multis in
+    (text, told, c.in-Ok-put_life.ensures.ok)
 
 pub returns-clause-told : goal.returns-clause-told
 returns-clause-told g c = λ its k b faults mounted is.
-    let l = g.L.LogDisk in
-    let p = g.P.PageDisk in
     let lived = c.args.lived in
+    let names = c.args.names.now in
+    let crash = c.args.crash in
+    let closed = lived.ended.closed in
     let over = rw c.in-Ok.is at is.over in
-    let made = c.tell_life-volumes.ensures in
-    let text = c.in-Ok-2.text in
+    let text = c.in-Ok-whole_text.text in
+    let made = c.in-Ok-whole_text.ensures in
+    let rest = c.in-Ok-EndText.rest in
+    let end = c.in-Ok-EndText.end in
+    let ends = subst (λ n. rest ++ end ≡ c.in-Ok.steps ++ rest_text names (life_told n k.base b.committed b.recorded closed.events closed.multis.value.events closed.log) crash) over.number ((rw c.in-Ok-EndText.is at c.end_life-volumes.ensures.text) k.base b.committed b.recorded) in
+    let told = told_life g.L.LogDisk g.P.PageDisk k b mounted names its c.args.number crash closed lived.base c.in-Ok.steps text over
+    (subst (λ n. IsFrontOf c.args.number n lived.base text.front) c.number.ensures made.front)
+    (pieces rest end (last_text crash) c.in-Ok.steps (rest_text names (life_of k b closed) crash) text.rest text.log made.rest made.log ends) c.whole_text.ensures.multis in
     let front = c.in-Err-put_life.ensures.front in
-    (c.in-Err-put_life.ensures.cause.failed, text, told_life l p k b mounted c.args.names.now its c.args.number c.args.crash lived.ended.closed lived.base c.in-Ok.steps text over (rw c.in-Ok-2.is at made.front) (rw c.in-Ok-2.is at made.rest k b over.number) made.multis, front.0, front.1)
+    (c.in-Err-put_life.ensures.cause.failed, text, told, front.0, front.1)

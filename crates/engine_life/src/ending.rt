@@ -113,12 +113,12 @@ pub fn end_life<L: LogDisk + Drop, P: PageDisk + Drop>(
         closed.events closed.multis.value.events closed.log) crash) }
 {
     let log = log_end(alloc, closed.number(), &closed.log, crash);
-    let (volumes, events, multis) = closed.into_histories();
+    let (volumes, history, multis) = closed.into_histories();
     let Ok(log) = log else {
         return (volumes, Err(Memory));
     };
     let mut rest = steps;
-    match put_histories(&mut rest, names, events.items(), multis.events()) {
+    match put_histories(&mut rest, names, history.items(), multis.events()) {
         Ok(()) => (volumes, Ok(EndText { rest, log })),
         Err(Memory) => (volumes, Err(Memory)),
     }

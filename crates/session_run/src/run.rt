@@ -154,10 +154,11 @@ fn tell_part<K: Sink, L: LogDisk + Drop, P: PageDisk + Drop>(
     let Ended { start: _, closed } = ended;
     let from = closed.number();
     let (volumes, ended) = end_life(alloc, closed, names, steps, crash);
-    let Ok(EndText { rest, log: end }) = ended else {
+    let Ok(end) = ended else {
         return (volumes, Err(Stopped::NoLife(NoLife::Memory)));
     };
-    let Ok(text) = whole_text(alloc, number, from, &base, rest, end, crash) else {
+    let EndText { rest, log: last } = end;
+    let Ok(text) = whole_text(alloc, number, from, &base, rest, last, crash) else {
         return (volumes, Err(Stopped::NoLife(NoLife::Memory)));
     };
     match put_life(sink, &text) {

@@ -40,12 +40,11 @@ returns-in-Ok-put_life-clause-told g c = λ its k b faults mounted is.
     let over = rw c.in-Ok.is at is.over in
     let text = c.in-Ok-whole_text.text in
     let made = c.in-Ok-whole_text.ensures in
-    let rest = c.in-Ok-EndText.rest in
-    let end = c.in-Ok-EndText.end in
-    let ends = subst (λ n. rest ++ end ≡ c.in-Ok.steps ++ rest_text names (life_told n k.base b.committed b.recorded closed.events closed.multis.value.events closed.log) crash) over.number ((rw c.in-Ok-EndText.is at c.end_life-volumes.ensures.text) k.base b.committed b.recorded) in
+    let end = c.in-Ok-2.end in
+    let ends = subst (λ n. end.rest ++ end.log ≡ c.in-Ok.steps ++ rest_text names (life_told n k.base b.committed b.recorded closed.events closed.multis.value.events closed.log) crash) over.number ((rw c.in-Ok-2.is at c.end_life-volumes.ensures.text) k.base b.committed b.recorded) in
     let told = told_life g.L.LogDisk g.P.PageDisk k b mounted names its c.args.number crash closed lived.base c.in-Ok.steps text over
     (subst (λ n. IsFrontOf c.args.number n lived.base text.front) c.number.ensures made.front)
-    (pieces rest end (last_text crash) c.in-Ok.steps (rest_text names (life_of k b closed) crash) text.rest text.log made.rest made.log ends) c.whole_text.ensures.multis in
+    (pieces end.rest end.log (last_text crash) c.in-Ok.steps (rest_text names (life_of k b closed) crash) text.rest text.log made.rest made.log ends) c.whole_text.ensures.multis in
     (text, told, c.in-Ok-put_life.ensures.ok)
 
 pub returns-clause-told : goal.returns-clause-told
@@ -57,11 +56,10 @@ returns-clause-told g c = λ its k b faults mounted is.
     let over = rw c.in-Ok.is at is.over in
     let text = c.in-Ok-whole_text.text in
     let made = c.in-Ok-whole_text.ensures in
-    let rest = c.in-Ok-EndText.rest in
-    let end = c.in-Ok-EndText.end in
-    let ends = subst (λ n. rest ++ end ≡ c.in-Ok.steps ++ rest_text names (life_told n k.base b.committed b.recorded closed.events closed.multis.value.events closed.log) crash) over.number ((rw c.in-Ok-EndText.is at c.end_life-volumes.ensures.text) k.base b.committed b.recorded) in
+    let end = c.in-Ok-2.end in
+    let ends = subst (λ n. end.rest ++ end.log ≡ c.in-Ok.steps ++ rest_text names (life_told n k.base b.committed b.recorded closed.events closed.multis.value.events closed.log) crash) over.number ((rw c.in-Ok-2.is at c.end_life-volumes.ensures.text) k.base b.committed b.recorded) in
     let told = told_life g.L.LogDisk g.P.PageDisk k b mounted names its c.args.number crash closed lived.base c.in-Ok.steps text over
     (subst (λ n. IsFrontOf c.args.number n lived.base text.front) c.number.ensures made.front)
-    (pieces rest end (last_text crash) c.in-Ok.steps (rest_text names (life_of k b closed) crash) text.rest text.log made.rest made.log ends) c.whole_text.ensures.multis in
+    (pieces end.rest end.log (last_text crash) c.in-Ok.steps (rest_text names (life_of k b closed) crash) text.rest text.log made.rest made.log ends) c.whole_text.ensures.multis in
     let front = c.in-Err-put_life.ensures.front in
     (c.in-Err-put_life.ensures.cause.failed, text, told, front.0, front.1)

@@ -11,11 +11,9 @@ use Rattle.engine_life.specs.FirstLives.{with_banks}
 use Rattle.engine_life.specs.Refusals.{IsNoLife, IsUnopened}
 
 -- one text behind the other
-pub behind_text : (steps histories log crash a b : List ℕ) → a ≡ steps ++ histories → b ≡ log ++ crash → a ++ b ≡ steps ++ ((histories ++ log) ++ crash)
-behind_text steps histories log crash a b one two =
-    ap (λ (t : List ℕ). t ++ b) one
-    ∙ (ap (λ (t : List ℕ). (steps ++ histories) ++ t) two
-    ∙ (append_assoc steps histories (log ++ crash) ∙ ap (λ (t : List ℕ). steps ++ t) (sym (append_assoc histories log crash))))
+pub behind_text : (histories log crash a b : List ℕ) → a ≡ histories → b ≡ log ++ crash → a ++ b ≡ (histories ++ log) ++ crash
+behind_text histories log crash a b one two =
+    ap (λ (t : List ℕ). t ++ b) one ∙ (ap (λ (t : List ℕ). histories ++ t) two ∙ sym (append_assoc histories log crash))
 
 pub of_err : {X E : Type 0} (r : Result X E) (P Q : E → Type 0) → ((e : E) → P e → Q e) → IfErr r P → IfErr r Q
 of_err (Ok x) P Q f k = tt

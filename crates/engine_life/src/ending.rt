@@ -90,26 +90,24 @@ fn put_histories(
     put_multis(out, names, multis)
 }
 
-/// The text of a life from its steps on: as far as its log, and the rest.
+/// What stands behind the steps of a life: its histories, and its log with the crash that ends it.
 #[derive(Drop)]
 pub struct EndText {
-    pub rest: Text,
+    pub histories: Text,
     pub log: Text,
 }
 
-/// Ends the text of a closed life, of which this is that of its steps: what stands behind them, with the crash that ends
-/// the life, if one does. The log is printed first, and its records go before the histories are printed. Gives the volumes
-/// back.
+/// The text of a closed life behind its steps, with the crash that ends it, if one does. The log is printed first, and its
+/// records go before the histories are printed. Gives the volumes back.
 pub fn end_life<L: LogDisk + Drop, P: PageDisk + Drop>(
     alloc: Global,
     closed: ClosedLife<L, P>,
     names: &NameList,
-    steps: Text,
     crash: Option<How>,
 ) -> (Volumes<L, P>, Result<EndText, Memory>)
     ensures volumes { result.0 ≡ volumes_left closed }
     ensures text { IfOk result.1 (λ end. (base : Counters) (committed : List ℕ) (recorded : List Rec)
-        → end.rest ++ end.log ≡ steps ++ rest_text names.now (life_told (number_of closed) base committed recorded
+        → end.histories ++ end.log ≡ rest_text names.now (life_told (number_of closed) base committed recorded
         closed.events closed.multis.value.events closed.log) crash) }
 {
     let log = log_end(alloc, closed.number(), &closed.log, crash);
@@ -117,9 +115,9 @@ pub fn end_life<L: LogDisk + Drop, P: PageDisk + Drop>(
     let Ok(log) = log else {
         return (volumes, Err(Memory));
     };
-    let mut rest = steps;
-    match put_histories(&mut rest, names, history.items(), multis.events()) {
-        Ok(()) => (volumes, Ok(EndText { rest, log })),
+    let mut histories = Text::new(alloc);
+    match put_histories(&mut histories, names, history.items(), multis.events()) {
+        Ok(()) => (volumes, Ok(EndText { histories, log })),
         Err(Memory) => (volumes, Err(Memory)),
     }
 }

@@ -1,4 +1,4 @@
--- A front of a text that is written in pieces.
+-- A front of a text, also of one that is written in pieces.
 use Rattle.std.proofs.Common.{Err, List, Ok, Option, Result, [], ap, length, refl, subst, suc, sym, take, zero, ℕ, ◌++◌, ◌+◌, ◌∙◌, ◌∷◌, ◌≡◌}
 use Rattle.std.proofs.KnownBytes.{Appends-trans}
 use Rattle.std.proofs.Math.Seq.{take-append-add}
@@ -6,14 +6,14 @@ use Rattle.std.specs.Io.KnownBytes.{Appends}
 use Rattle.std.specs.Prelude.{OnErr}
 
 -- a front of a front is one
-front_within : (n : ℕ) (xs ys : List ℕ) → (k : ℕ) × (take k (xs ++ ys) ≡ take n xs)
+pub front_within : (n : ℕ) (xs ys : List ℕ) → (k : ℕ) × (take k (xs ++ ys) ≡ take n xs)
 front_within zero [] ys = (0, refl)
 front_within zero (x ∷ xs) ys = (0, refl)
 front_within (suc n) [] [] = (0, refl)
 front_within (suc n) [] (y ∷ ys) = (0, refl)
 front_within (suc n) (x ∷ xs) ys = let k = front_within n xs ys in (suc k.0, ap (λ (t : List ℕ). x ∷ t) k.1)
 
-where_err : {T E X : Type 0} (r : Result T E) → X → OnErr r X
+pub where_err : {T E X : Type 0} (r : Result T E) → X → OnErr r X
 where_err (Ok y) x = tt
 where_err (Err e) x = x
 

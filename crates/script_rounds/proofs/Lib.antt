@@ -6,3 +6,4 @@ pub mod Counting
 mod StreamLemmas
 mod RunLemmas
 mod Fronts
+mod Weaving

@@ -1,3 +1,4 @@
 pub mod Plans
 pub mod Counted
 pub mod Sources
+pub mod Woven

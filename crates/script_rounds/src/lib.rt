@@ -5,14 +5,17 @@
 
 mod keeper;
 mod life_text;
+mod pieces;
 mod places;
 mod plan;
 mod round_threads;
 mod script;
 mod source;
+mod steps;
 mod tally;
 mod told;
 mod turns;
+mod woven;
 
 pub use keeper::{LineKeeper, fresh, keeper_laws};
 pub use life_text::{LifeText, have_full_multis, put_life, whole_text};
@@ -20,6 +23,7 @@ pub use plan::Plan;
 pub use round_threads::RoundThreads;
 pub use script::NoScript;
 pub use source::take_script;
+pub use steps::Steps;
 pub use tally::Tally;
 pub use told::ToldLines;
 pub use turns::{command_at, next_part, next_round};

@@ -5,16 +5,18 @@ ghost use Rattle.tx_events.specs.Ids.{IsFullMulti};
 ghost use Rattle.tx_io.specs.Causes.{HasCause};
 ghost use Rattle.run_law.specs.Lives.{IsFrontOf, last_text};
 
+use crate::Steps;
 use report_text::{Text, begin_report, put_life_line};
 use std::alloc::Global;
 use tx_io::{Failed, Sink, write_all};
 use tx_model::{Counters, How, Memory};
 
-/// The text of a life: what stands before its steps, these with its histories, and its log and what stands behind that.
+/// The text of a life: what stands before its steps, these, its histories, and its log and what stands behind that.
 #[derive(Drop)]
 pub struct LifeText {
     pub front: Text,
-    pub rest: Text,
+    pub steps: Steps,
+    pub histories: Text,
     pub log: Text,
 }
 
@@ -39,19 +41,21 @@ fn front_of(alloc: Global, number: u64, from: u64, base: &Counters) -> Result<Te
     Ok(text)
 }
 
-/// The text of the life of this number, of which this is the text from its steps up to its log, and that from there on:
-/// with its front, and behind the last life the report's end.
+/// The text of the life of this number, of which these are the texts of its steps, of its histories and of its log: with its
+/// front, and behind the last life the report's end.
 pub fn whole_text(
     alloc: Global,
     number: u64,
     from: u64,
     base: &Counters,
-    rest: Text,
+    steps: Steps,
+    histories: Text,
     log: Text,
     crash: Option<How>,
 ) -> Result<LifeText, Memory>
     ensures front { IfOk result (λ text. IsFrontOf number from base.now text.front) }
-    ensures rest { IfOk result (λ text. text.rest ≡ rest) }
+    ensures steps { IfOk result (λ text. text.steps ≡ steps) }
+    ensures histories { IfOk result (λ text. text.histories ≡ histories) }
     ensures log { IfOk result (λ text. text.log ≡ log ++ last_text crash) }
     ensures multis { IsFullMulti base.now.multi × IsFullMulti base.now.oldest_multi }
 {
@@ -61,7 +65,12 @@ pub fn whole_text(
         log.short_line(b"end")?;
     }
     let front = front_of(alloc, number, from, base)?;
-    Ok(LifeText { front, rest, log })
+    Ok(LifeText {
+        front,
+        steps,
+        histories,
+        log,
+    })
 }
 
 // One text behind the other, or a front of both.
@@ -75,13 +84,31 @@ fn put_both<K: Sink>(sink: &mut K, first: &Text, second: &Text) -> Result<(), Fa
     write_all(sink, second.bytes())
 }
 
+// What stands behind the front of a life, or a front of that.
+fn put_behind<K: Sink>(
+    sink: &mut K,
+    steps: &Steps,
+    histories: &Text,
+    log: &Text,
+) -> Result<(), Failed>
+    ensures ok { OnOk result (Appends (K.held sink.old) (K.held sink.new) (steps.now ++ (histories.now ++ log.now))) }
+    ensures front { OnErr result ((n : ℕ)
+        × Appends (K.held sink.old) (K.held sink.new) (take n (steps.now ++ (histories.now ++ log.now)))) }
+    ensures cause { HasCause (K.faults sink.old) (K.faults sink.new) result }
+{
+    steps.write(sink)?;
+    put_both(sink, histories, log)
+}
+
 /// Writes the text of a life, or a front of it.
 pub fn put_life<K: Sink>(sink: &mut K, text: &LifeText) -> Result<(), Failed>
-    ensures ok { OnOk result (Appends (K.held sink.old) (K.held sink.new) (text.now.front ++ (text.now.rest ++ text.now.log))) }
+    ensures ok { OnOk result (Appends (K.held sink.old) (K.held sink.new) (text.now.front
+        ++ (text.now.steps ++ (text.now.histories ++ text.now.log)))) }
     ensures front { OnErr result ((n : ℕ)
-        × Appends (K.held sink.old) (K.held sink.new) (take n (text.now.front ++ (text.now.rest ++ text.now.log)))) }
+        × Appends (K.held sink.old) (K.held sink.new) (take n (text.now.front
+        ++ (text.now.steps ++ (text.now.histories ++ text.now.log))))) }
     ensures cause { HasCause (K.faults sink.old) (K.faults sink.new) result }
 {
     write_all(sink, text.front.bytes())?;
-    put_both(sink, &text.rest, &text.log)
+    put_behind(sink, &text.steps, &text.histories, &text.log)
 }

@@ -47,15 +47,17 @@ so_whole names [] r = whole_text names r []
 so_whole names (q ∷ lives) r = whole_text names q (lives ++ r ∷ [])
 
 -- the pieces of the text that stands behind a life's front
-pub pieces : (rest log last steps told a b : List ℕ) → a ≡ rest → b ≡ log ++ last → rest ++ log ≡ steps ++ told → a ++ b ≡ steps ++ (told ++ last)
-pieces rest log last steps told a b one two ends =
-    ap (λ (t : List ℕ). t ++ b) one
-    ∙ (ap (λ (t : List ℕ). rest ++ t) two ∙ (sym (append_assoc rest log last) ∙ (ap (λ (t : List ℕ). t ++ last) ends ∙ append_assoc steps told last)))
+pub pieces : (steps histories log last told a b d : List ℕ) → a ≡ steps → b ≡ histories → d ≡ log ++ last → histories ++ log ≡ told → a ++ (b ++ d) ≡ steps ++ (told ++ last)
+pieces steps histories log last told a b d one two three ends =
+    ap (λ (t : List ℕ). t ++ (b ++ d)) one
+    ∙ (ap (λ (t : List ℕ). steps ++ (t ++ d)) two
+    ∙ (ap (λ (t : List ℕ). steps ++ (histories ++ t)) three
+    ∙ ap (λ (t : List ℕ). steps ++ t) (sym (append_assoc histories log last) ∙ ap (λ (t : List ℕ). t ++ last) ends)))
 
 -- a life that ran its part is told by its front, and by what stands behind the text of its steps
 pub told_life : {L P : Type 0} (l : logs.Ghosts L) (p : disks.Ghosts P) (c : Cluster) (b : Beginning) (mounted : Volumes L P) (names : List (List ℕ)) (its : List Item) (number : ℕ) (crash : Option How) (closed : ClosedLife L P l) (base : Counters) (steps : List ℕ) (text : LifeText)
     → HasRunPartOf l p names its c b mounted closed base steps → IsFrontOf number (number_of closed) base text.front
-    → text.rest ++ text.log ≡ steps ++ (rest_text names (life_of c b closed) crash ++ last_text crash) → IsFullMulti base.multi × IsFullMulti base.oldest_multi → IsToldLife l p names its number crash c b mounted closed text
+    → text.steps ++ (text.histories ++ text.log) ≡ steps ++ (rest_text names (life_of c b closed) crash ++ last_text crash) → IsFullMulti base.multi × IsFullMulti base.oldest_multi → IsToldLife l p names its number crash c b mounted closed text
 told_life l p c b mounted names its number crash closed base steps text ran front rest multis = record {
   steps = ran.steps;
   lived = ran.lived;
@@ -90,7 +92,7 @@ module _ {L P : Type 0} {l : logs.Ghosts L} {p : disks.Ghosts P} (s : Script) (b
     pub part_are : AreRunLives p.tells banks start (done ++ part_of its crash ∷ []) (lives ++ told_of ∷ [])
     part_are = run_lives_push p.tells banks start done lives (part_of its crash) told_of run.are lawful refl first begins (λ tells. run.behind tells told_of.life refl refl)
 
-    pub part_text : text_so_far s.names lives ++ (text.front ++ (text.rest ++ text.log)) ≡ text_so_far s.names (lives ++ told_of ∷ []) ++ last_text crash
+    pub part_text : text_so_far s.names lives ++ (text.front ++ (text.steps ++ (text.histories ++ text.log))) ≡ text_so_far s.names (lives ++ told_of ∷ []) ++ last_text crash
     part_text =
         ap (λ (t : List ℕ). text_so_far s.names lives ++ (text.front ++ t)) told.rest
         ∙ so_far_push s.names lives told_of number text.front count told.front
@@ -100,7 +102,7 @@ module _ {L P : Type 0} {l : logs.Ghosts L} {p : disks.Ghosts P} (s : Script) (b
       are = part_are;
       lawful = lawful;
       crash_is = refl;
-      text = text.front ++ (text.rest ++ text.log);
+      text = text.front ++ (text.steps ++ (text.histories ++ text.log));
       exact = part_text;
       last = record {
         mounted = run.mounted;

@@ -65,15 +65,15 @@ module _ {L P : Type 0} (l : logs.Ghosts L) (p : disks.Ghosts P) where
     pub lived : HasLived p.tells c.banks its (life_of c b closed) steps
     pub left : HasLeft l p c b mounted steps closed
     pub front : IsFrontOf number b.number c.base text.front
-    pub rest : text.rest ++ text.log ≡ life_rest names (report_of (life_of c b closed) steps crash)
+    pub rest : text.steps ++ (text.histories ++ text.log) ≡ life_rest names (report_of (life_of c b closed) steps crash)
     pub multis : IsFullMulti c.base.multi × IsFullMulti c.base.oldest_multi
 
   -- Its text was written, or a front of it where the sink failed, or nothing where memory was wanting for it.
   abbrev pub IsWritten : {T : Type 0} → List (List ℕ) → List Item → ℕ → Option How → Cluster → Beginning → Volumes L P → ClosedLife L P l → Option (List ℕ) → Option (List ℕ) → ℕ → ℕ → Result T Stopped → Type 0
   IsWritten names its number crash c b mounted closed held held' faults faults' (Ok x) =
-      (text : LifeText) × IsToldLife names its number crash c b mounted closed text × Appends held held' (text.front ++ (text.rest ++ text.log))
+      (text : LifeText) × IsToldLife names its number crash c b mounted closed text × Appends held held' (text.front ++ (text.steps ++ (text.histories ++ text.log)))
   IsWritten names its number crash c b mounted closed held held' faults faults' (Err stops.Sink) =
-      Rose faults faults' × (text : LifeText) × IsToldLife names its number crash c b mounted closed text × (n : ℕ) × Appends held held' (take n (text.front ++ (text.rest ++ text.log)))
+      Rose faults faults' × (text : LifeText) × IsToldLife names its number crash c b mounted closed text × (n : ℕ) × Appends held held' (take n (text.front ++ (text.steps ++ (text.histories ++ text.log))))
   IsWritten names its number crash c b mounted closed held held' faults faults' (Err (stops.NoLife refusal)) =
       (refusal ≡ no_lives.Memory) × Appends held held' []
 

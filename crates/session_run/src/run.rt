@@ -35,10 +35,9 @@ use engine_life::laws::crash_goes_on;
 use engine_life::{EndText, NoLife, OpenLife, end_life, open_life};
 use engine_parts::Gate;
 use notes::Note;
-use report_text::Text;
 use script_gen::Summary;
 use script_rounds::{
-    LineKeeper, RoundThreads, Tally, have_full_multis, next_part, put_life, whole_text,
+    LineKeeper, RoundThreads, Steps, Tally, have_full_multis, next_part, put_life, whole_text,
 };
 use session_lang::{Items, Script};
 use std::alloc::Global;
@@ -86,7 +85,7 @@ fn same(cluster: &Cluster) -> Cluster
 struct Lived<L: LogDisk, P> {
     ended: Ended<L, P>,
     base: Counters,
-    steps: Result<Text, Memory>,
+    steps: Result<Steps, Memory>,
 }
 
 /// Runs a part of a script in a life that is open, and closes it.
@@ -107,7 +106,7 @@ fn run_part<L: LogDisk + Send + Sync + Drop, P: PageDisk + Send + Sync + Drop>(
 {
     let start = Note::by(&life.host.start);
     let base = life.host.cluster.base.same();
-    let mut text = Text::new(alloc);
+    let mut text = Steps::none(alloc);
     let (closed, ran) = run_life(rt, alloc, life, names, part, &mut text, threads, gate);
     let ended = Ended { start, closed };
     match ran {
@@ -150,19 +149,19 @@ fn tell_part<K: Sink, L: LogDisk + Drop, P: PageDisk + Drop>(
         let Ended { start: _, closed } = ended;
         return (closed.into_volumes(), Err(Stopped::NoLife(NoLife::Memory)));
     };
-    let log = log_left(&ended);
+    let left = log_left(&ended);
     let Ended { start: _, closed } = ended;
     let from = closed.number();
-    let (volumes, ended) = end_life(alloc, closed, names, steps, crash);
+    let (volumes, ended) = end_life(alloc, closed, names, crash);
     let Ok(end) = ended else {
         return (volumes, Err(Stopped::NoLife(NoLife::Memory)));
     };
-    let EndText { rest, log: last } = end;
-    let Ok(text) = whole_text(alloc, number, from, &base, rest, last, crash) else {
+    let EndText { histories, log } = end;
+    let Ok(text) = whole_text(alloc, number, from, &base, steps, histories, log, crash) else {
         return (volumes, Err(Stopped::NoLife(NoLife::Memory)));
     };
     match put_life(sink, &text) {
-        Ok(()) => (volumes, Ok(log)),
+        Ok(()) => (volumes, Ok(left)),
         Err(Failed) => (volumes, Err(Stopped::Sink)),
     }
 }

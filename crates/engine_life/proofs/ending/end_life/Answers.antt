@@ -1,4 +1,4 @@
-use Rattle.std.proofs.Common.{List, ap, subst, ◌++◌, ◌∙◌, ◌≡◌}
+use Rattle.std.proofs.Common.{List, ap, subst, ℕ, ◌++◌, ◌∙◌, ◌≡◌}
 use Rattle.tx_events.specs.declared.event.Event.{Event}
 use Rattle.tx_events.specs.declared.multi.MultiEvent.{MultiEvent}
 use Rattle.report_text.specs.ReportText.{crash_text, history_text, log_text, multis_text}
@@ -11,16 +11,15 @@ returns-in-Ok-put_histories-clause-text g c = λ base committed recorded.
     let closed = c.args.closed in
     let names = c.args.names.now in
     let crash = c.args.crash in
-    let steps = c.args.steps in
     let taken = c.into_histories-volumes.ensures in
     let out = c.put_histories.new.out in
     let log = c.in-Ok.log in
     let histories = history_text names closed.events ++ multis_text names closed.multis.value.events in
     let told = life_told (number_of closed) base committed recorded closed.events closed.multis.value.events closed.log in
-    let rest : out ≡ steps ++ histories =
-    subst (λ (x : List Event × List MultiEvent). out ≡ steps ++ (history_text names x.0 ++ multis_text names x.1))
-    (λ j. ((c.items.ensures ∙ taken.events) j, (c.events.ensures.value ∙ (ap (λ m. m.events) c.deref.ensures ∙ ap (λ m. m.value.events) taken.multis)) j)) c.in-Ok-put_histories.ensures.ok in
+    let rest : out ≡ histories =
+    subst (λ (x : List ℕ × List Event × List MultiEvent). out ≡ x.0 ++ (history_text names x.1 ++ multis_text names x.2))
+    (λ j. (c.new-histories.ensures j, (c.items.ensures ∙ taken.events) j, (c.events.ensures.value ∙ (ap (λ m. m.events) c.deref.ensures ∙ ap (λ m. m.value.events) taken.multis)) j)) c.in-Ok-put_histories.ensures.ok in
     let ends : log ≡ log_text told ++ crash_text crash =
     subst (λ n. log ≡ log_text (life_told n base committed recorded closed.events closed.multis.value.events closed.log) ++ crash_text crash) c.number.ensures
     ((rw c.in-Ok.is at c.log_end-log.ensures) base committed recorded closed.events closed.multis.value.events) in
-    behind_text steps histories (log_text told) (crash_text crash) out log rest ends
+    behind_text histories (log_text told) (crash_text crash) out log rest ends

@@ -2,7 +2,6 @@ use Rattle.std.proofs.Common.{None, ap, arith, get_or, inl, length, refl, subst,
 use Rattle.std.proofs.Math.Seq.{take-length}
 use Rattle.std.proofs.lemmas.List.{drop_all, get_or_default, take_all}
 use Rattle.std.specs.List.{All}
-use Rattle.std.specs.Option.{is_some}
 use Rattle.session_lang.specs.Rounds.{crash_in}
 use Rattle.session_lang.specs.declared.script.Item.TheVariants as items
 use Rattle.run_law.specs.Lives.{IsFirstPart}

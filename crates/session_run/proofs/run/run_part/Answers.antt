@@ -1,5 +1,5 @@
 use Rattle.std.proofs.Common.{List, [], ap, refl, subst, ℕ, ◌∙◌}
-use Rattle.script_rounds.specs.contracts.keeper.TextLineKeeper.TheImpl as text_keeper
+use Rattle.script_rounds.specs.contracts.steps.StepsLineKeeper.TheImpl as steps_keeper
 use Rattle.session_run.specs.OneLife.{HasRunLife}
 use Rattle.session_run.proofs.RoundSteps.{kept_text}
 use Rattle.session_run.proofs.run.run_part.Goals as goal
@@ -12,7 +12,7 @@ returns-in-Ok g c = record {
       let names = c.args.names.now in
       let closed = c.run_life-closed.result.0 in
       let kept = c.run_life-closed.new.kept in
-      let ran = subst (λ (t : List ℕ). HasRunLife l p text_keeper.ghosts k b mounted names c.args.part t kept closed) c.new-text.ensures (rw c.in-Ok.is at (c.run_life-closed.ensures.ran k b faults mounted opened)) in
+      let ran = subst (λ (t : List ℕ). HasRunLife l p steps_keeper.ghosts k b mounted names c.args.part t kept closed) c.none-text.ensures (rw c.in-Ok.is at (c.run_life-closed.ensures.ran k b faults mounted opened)) in
       record {
         start_is = c.by-start.ensures ∙ (opened.begun.host.start ∙ opened.begun.start_is);
         over = record {
@@ -21,7 +21,7 @@ returns-in-Ok g c = record {
           left = ran.left;
           number = ran.number;
           base_is = c.same-base.ensures ∙ ap (λ x. x.base) opened.begun.cluster;
-          text_is = kept_text text_keeper.ghosts names [] kept ran.steps ran.kept_is (λ text n. refl) (λ text lines. refl) (λ text dump. refl);
+          text_is = kept_text steps_keeper.ghosts names [] kept ran.steps ran.kept_is (λ text n. refl) (λ text lines. refl) (λ text dump. refl);
         };
       };
 }

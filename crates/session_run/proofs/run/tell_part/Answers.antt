@@ -13,8 +13,8 @@ use Rattle.session_run.proofs.run.tell_part.Goals as goal
 pub returns-else-clause-told : goal.returns-else-clause-told
 returns-else-clause-told g c = λ its k b faults mounted is. (refl, Appends-nil (g.K.Sink.held c.args.sink.now))
 
-pub log_left-log-requires : goal.log_left-log-requires
-log_left-log-requires g c =
+pub log_left-left-requires : goal.log_left-left-requires
+log_left-left-requires g c =
     let l = g.L.LogDisk in
     let p = g.P.PageDisk in
     let lived = c.args.lived in
@@ -41,10 +41,10 @@ returns-in-Ok-put_life-clause-told g c = λ its k b faults mounted is.
     let text = c.in-Ok-whole_text.text in
     let made = c.in-Ok-whole_text.ensures in
     let end = c.in-Ok-2.end in
-    let ends = subst (λ n. end.rest ++ end.log ≡ c.in-Ok.steps ++ rest_text names (life_told n k.base b.committed b.recorded closed.events closed.multis.value.events closed.log) crash) over.number ((rw c.in-Ok-2.is at c.end_life-volumes.ensures.text) k.base b.committed b.recorded) in
+    let ends = subst (λ n. end.histories ++ end.log ≡ rest_text names (life_told n k.base b.committed b.recorded closed.events closed.multis.value.events closed.log) crash) over.number ((rw c.in-Ok-2.is at c.end_life-volumes.ensures.text) k.base b.committed b.recorded) in
     let told = told_life g.L.LogDisk g.P.PageDisk k b mounted names its c.args.number crash closed lived.base c.in-Ok.steps text over
     (subst (λ n. IsFrontOf c.args.number n lived.base text.front) c.number.ensures made.front)
-    (pieces end.rest end.log (last_text crash) c.in-Ok.steps (rest_text names (life_of k b closed) crash) text.rest text.log made.rest made.log ends) c.whole_text.ensures.multis in
+    (pieces c.in-Ok.steps end.histories end.log (last_text crash) (rest_text names (life_of k b closed) crash) text.steps text.histories text.log made.steps made.histories made.log ends) c.whole_text.ensures.multis in
     (text, told, c.in-Ok-put_life.ensures.ok)
 
 pub returns-clause-told : goal.returns-clause-told
@@ -57,9 +57,9 @@ returns-clause-told g c = λ its k b faults mounted is.
     let text = c.in-Ok-whole_text.text in
     let made = c.in-Ok-whole_text.ensures in
     let end = c.in-Ok-2.end in
-    let ends = subst (λ n. end.rest ++ end.log ≡ c.in-Ok.steps ++ rest_text names (life_told n k.base b.committed b.recorded closed.events closed.multis.value.events closed.log) crash) over.number ((rw c.in-Ok-2.is at c.end_life-volumes.ensures.text) k.base b.committed b.recorded) in
+    let ends = subst (λ n. end.histories ++ end.log ≡ rest_text names (life_told n k.base b.committed b.recorded closed.events closed.multis.value.events closed.log) crash) over.number ((rw c.in-Ok-2.is at c.end_life-volumes.ensures.text) k.base b.committed b.recorded) in
     let told = told_life g.L.LogDisk g.P.PageDisk k b mounted names its c.args.number crash closed lived.base c.in-Ok.steps text over
     (subst (λ n. IsFrontOf c.args.number n lived.base text.front) c.number.ensures made.front)
-    (pieces end.rest end.log (last_text crash) c.in-Ok.steps (rest_text names (life_of k b closed) crash) text.rest text.log made.rest made.log ends) c.whole_text.ensures.multis in
+    (pieces c.in-Ok.steps end.histories end.log (last_text crash) (rest_text names (life_of k b closed) crash) text.steps text.histories text.log made.steps made.histories made.log ends) c.whole_text.ensures.multis in
     let front = c.in-Err-put_life.ensures.front in
     (c.in-Err-put_life.ensures.cause.failed, text, told, front.0, front.1)

@@ -152,7 +152,7 @@ module _ {L P : Type 0} (l : logs.Ghosts L) (p : disks.Ghosts P) (falls : Crash 
   Told names text = IsToldLife l p names ran.its number crash ran.running.cluster ran.running.begins ran.running.mounted closed text
 
   module _ (text : LifeText) (told : Told names text) where
-    by_script : Told ran.script.names text
+    pub by_script : Told ran.script.names text
     by_script = subst (λ (n : List (List ℕ)). Told n text) ran.names_are told
 
     abbrev pub report_told : LifeReport
@@ -161,8 +161,8 @@ module _ {L P : Type 0} (l : logs.Ghosts L) (p : disks.Ghosts P) (falls : Crash 
     abbrev pub told_so : TellsPart l p ran crash report_told
     told_so = part_told ran.script ran.banks ran.start falls ran.begun ran.done ran.lives ran.life ran.running ran.its number crash closed text ran.count by_script
 
-  module _ {T : Type 0} (held held' : Option (List ℕ)) (faults faults' before now : ℕ) (gives : Volumes L P → Type 0) (only : Only (volumes_left closed) gives) where
-    pub not_written : (stop : Stopped) → IsWritten l p {T = T} names ran.its number crash ran.running.cluster ran.running.begins ran.running.mounted closed held held' faults faults' (Err stop)
+  module _ (held held' : Option (List ℕ)) (faults faults' before now : ℕ) (gives : Volumes L P → Type 0) (only : Only (volumes_left closed) gives) where
+    pub not_written : (stop : Stopped) → IsWritten l p {T = Unit {0}} names ran.its number crash ran.running.cluster ran.running.begins ran.running.mounted closed held held' faults faults' (Err stop)
         → StopsPart l p ran crash held held' faults faults' before now gives stop
     not_written stops.Sink w = (w.0, report_told w.1 w.2, volumes_left closed, told_so w.1 w.2, w.3, w.4, only)
     not_written (stops.NoLife refusal) w = inl w

@@ -314,7 +314,7 @@ where
     } = script;
     let mut items = list.items();
     let mut number = 1;
-    loop {
+    'lives: loop {
         let (part, crash, behind) = next_part(&items);
         let lived = run_part(rt, alloc, life, &names, part, threads, gate);
         let how = match crash {

@@ -42,8 +42,8 @@ returns-in-Err-clause-stopped g c =
     (unopened_first l p s g.kept (m.is_new c.args.media.now) (m.begins c.args.media.now) (m.gives c.args.media.now) m.falls before now gives c.same.result c.in-Err.refusal (c.same.ensures ∙ c.cluster_of-cluster.ensures.is) c.in-Err.ensures.refused
     (λ was told. c.in-Err.ensures.again told was))
 
-pub loop-init : goal.loop-init
-loop-init g c =
+pub loop-lives-init : goal.loop-lives-init
+loop-lives-init g c =
     let s = c.args.script in
     let m = g.M.Media in
     let held = g.K.Sink.held c.args.sink.now in
@@ -59,20 +59,20 @@ pub run_part-lived-requires-clause-taken : goal.run_part-lived-requires-clause-t
 run_part-lived-requires-clause-taken g c κs within =
     let m = g.M.Media in
     let k = g.K.Sink in
-    let at = c.loop in
+    let at = c.loop-lives in
     let part = c.next_part-part.result in
     part_taken c.args.script (MayMount (m.is_new c.args.media.now) (m.begins c.args.media.now) (m.gives c.args.media.now)) g.kept (m.is_new c.args.media.now ≡ false) m.falls (k.held c.args.sink.now) (k.held at.sink) at.items at.number at.life at.invariant.0 part.0 part.1 part.2 c.next_part-part.ensures (c.requires.1.1.1.1.1.1.1.1.1.1.1.1.0)
 
 pub run_part-lived-requires-clause-may : goal.run_part-lived-requires-clause-may
 run_part-lived-requires-clause-may g c κs within =
-    let run = c.loop.invariant.0.running in
+    let run = c.loop-lives.invariant.0.running in
     record { cluster = run.cluster; begins = run.begins; faults = run.faults; mounted = run.mounted; sessions_are = run.sessions; opened = run.opened }
 
 -- ---- the last part
 
 pub end_run-requires-clause-ran : goal.end_run-requires-clause-ran
 end_run-requires-clause-ran g c κs within =
-    let at = c.loop in
+    let at = c.loop-lives in
     let h = at.invariant.0 in
     let run = h.running in
     record { script = c.args.script; banks = h.banks; start = h.start; begun = h.begun; done = h.done; lives = h.lives; its = c.next_part-part.result.0; names_are = refl; count = h.count; life = at.life; running = run; is = c.run_part-lived.ensures run.cluster run.begins run.faults run.mounted run.opened }
@@ -81,7 +81,7 @@ pub returns-in-None-clause-report : goal.returns-in-None-clause-report
 returns-in-None-clause-report g c =
     let m = g.M.Media in
     let k = g.K.Sink in
-    let at = c.loop in
+    let at = c.loop-lives in
     let h = at.invariant.0 in
     let run = h.running in
     let part = c.next_part-part.result in
@@ -98,7 +98,7 @@ pub returns-in-None-clause-stopped : goal.returns-in-None-clause-stopped
 returns-in-None-clause-stopped g c =
     let m = g.M.Media in
     let k = g.K.Sink in
-    let at = c.loop in
+    let at = c.loop-lives in
     let h = at.invariant.0 in
     let run = h.running in
     let part = c.next_part-part.result in
@@ -117,7 +117,7 @@ end_part-requires-clause-cluster g c κs within = c.cluster_of-cluster.ensures.c
 
 pub end_part-requires-clause-ran : goal.end_part-requires-clause-ran
 end_part-requires-clause-ran g c κs within =
-    let at = c.loop in
+    let at = c.loop-lives in
     let h = at.invariant.0 in
     let run = h.running in
     record { script = c.args.script; banks = h.banks; start = h.start; begun = h.begun; done = h.done; lives = h.lives; its = c.next_part-part.result.0; names_are = refl; count = h.count; life = at.life; running = run; is = c.run_part-lived.ensures run.cluster run.begins run.faults run.mounted run.opened }
@@ -126,7 +126,7 @@ pub returns-in_err-end_part-clause-stopped : goal.returns-in_err-end_part-clause
 returns-in_err-end_part-clause-stopped g c =
     let m = g.M.Media in
     let k = g.K.Sink in
-    let at = c.loop in
+    let at = c.loop-lives in
     let h = at.invariant.0 in
     let run = h.running in
     let part = c.next_part-part.result in
@@ -140,17 +140,17 @@ returns-in_err-end_part-clause-stopped g c =
     let err = err_from_is_err_and c.from_residual.result c.from_residual.ensures.1 in
     rw (err.1, err.2) stopped
 
-pub loop-smaller : goal.loop-smaller
-loop-smaller g c =
-    let at = c.loop in
+pub loop-lives-smaller : goal.loop-lives-smaller
+loop-lives-smaller g c =
+    let at = c.loop-lives in
     let part = c.next_part-part.result in
     rest_shorter at.items part.0 part.1 part.2 c.next_part-part.ensures c.in-Some.how c.in-Some.is
 
-pub loop-preserved : goal.loop-preserved
-loop-preserved g c =
+pub loop-lives-preserved : goal.loop-lives-preserved
+loop-lives-preserved g c =
     let m = g.M.Media in
     let k = g.K.Sink in
-    let at = c.loop in
+    let at = c.loop-lives in
     let h = at.invariant.0 in
     let run = h.running in
     let part = c.next_part-part.result in

@@ -1,4 +1,4 @@
-//! The rows of the four stores, on the very bytes of their pages.
+//! What the four stores answer, and the very bytes of their pages.
 use crate::banks::memory_bank;
 use bank_stores::{
     Slot, climb_ends, offset, parent, read_member, set_offset, set_parent, trim_members,
@@ -11,10 +11,10 @@ use store_pages::{MemberPages, PageRule, XactPages};
 use tx_events::{FullMulti, FullXid, Mode, MultiId, Xid};
 
 /// The first sixteen bytes of a page.
-fn front<O: PageRule>(rt: &impl Abort, bank: &mut SlruBank<MemPages, O>, page: u32) -> [u8; 16] {
+fn front<O: PageRule>(bank: &mut SlruBank<MemPages, O>, page: u32) -> Option<[u8; 16]> {
     let mut bytes = [0; 16];
-    assert!(rt; bank.read(page, 0, &mut bytes).is_ok());
-    bytes
+    bank.read(page, 0, &mut bytes).ok()?;
+    Some(bytes)
 }
 
 /// Ids 3 and 5 committed, and 4 aborted.
@@ -29,21 +29,23 @@ fn set_three(rt: &impl Abort, bank: &mut SlruBank<MemPages, XactPages>) {
 fn check_states(
     rt: &impl Abort,
     bank: &mut SlruBank<MemPages, XactPages>,
+    when: &str,
     wanted: &[(u32, State)],
 ) {
     for (number, wanted) in wanted {
         let came = state(bank, Xid { number: *number });
-        assert!(rt; came == Ok(*wanted), "of {number}");
+        assert!(rt; came == Ok(*wanted), "{when}: of {number}: {came:?} came");
     }
 }
 
 pub fn status_bits_on_page(rt: &(impl Abort + AllocGlobal)) {
     let mut bank = memory_bank(rt);
     set_three(rt, &mut bank);
-    assert!(rt; front(rt, &mut bank, 0) == [64, 6, 0, 0, 0, 0, 0, 0, 0, 0, 0, 0, 0, 0, 0, 0]);
+    assert!(rt; front(&mut bank, 0) == Some([64, 6, 0, 0, 0, 0, 0, 0, 0, 0, 0, 0, 0, 0, 0, 0]));
     check_states(
         rt,
         &mut bank,
+        "set",
         &[
             (4, State::Aborted),
             (5, State::Committed),
@@ -55,6 +57,7 @@ pub fn status_bits_on_page(rt: &(impl Abort + AllocGlobal)) {
     check_states(
         rt,
         &mut bank,
+        "trimmed",
         &[(4, State::Aborted), (5, State::InProgress)],
     );
 }
@@ -101,7 +104,7 @@ pub fn parent_bytes_on_page(rt: &(impl Abort + AllocGlobal)) {
     let below = Xid { number: 32767 };
     let above = Xid { number: 32768 };
     assert!(rt; set_parent(&mut bank, above, below).is_ok());
-    assert!(rt; front(rt, &mut bank, 16) == [255, 127, 0, 0, 0, 0, 0, 0, 0, 0, 0, 0, 0, 0, 0, 0]);
+    assert!(rt; front(&mut bank, 16) == Some([255, 127, 0, 0, 0, 0, 0, 0, 0, 0, 0, 0, 0, 0, 0, 0]));
     assert!(rt; parent(&mut bank, above) == Ok(Some(below)));
     assert!(rt; parent(&mut bank, below) == Ok(None));
     // a climb ends above no parent, and above one that precedes the xmin
@@ -114,7 +117,7 @@ pub fn offset_bytes_on_page(rt: &(impl Abort + AllocGlobal)) {
     let mut bank = memory_bank(rt);
     let one = MultiId { number: 1 };
     assert!(rt; set_offset(&mut bank, one, 1).is_ok());
-    assert!(rt; front(rt, &mut bank, 0) == [0, 0, 0, 0, 1, 0, 0, 0, 0, 0, 0, 0, 0, 0, 0, 0]);
+    assert!(rt; front(&mut bank, 0) == Some([0, 0, 0, 0, 1, 0, 0, 0, 0, 0, 0, 0, 0, 0, 0, 0]));
     assert!(rt; offset(&mut bank, one) == Ok(Some(1)));
     assert!(rt; offset(&mut bank, MultiId { number: 2 }) == Ok(None));
     let next = FullMulti::new(1).expect(rt, "a multixact");
@@ -125,11 +128,15 @@ pub fn offset_bytes_on_page(rt: &(impl Abort + AllocGlobal)) {
 fn check_slot(
     rt: &impl Abort,
     bank: &mut SlruBank<MemPages, MemberPages>,
+    when: &str,
     place: u32,
     wanted: Slot,
 ) {
     let came = read_member(bank, place);
-    assert!(rt; came == Ok(wanted), "the member at {place}");
+    assert!(rt;
+        came == Ok(wanted),
+        "{when}: the member at {place}: {came:?} came"
+    );
 }
 
 pub fn member_bytes_on_page(rt: &(impl Abort + AllocGlobal)) {
@@ -138,11 +145,12 @@ pub fn member_bytes_on_page(rt: &(impl Abort + AllocGlobal)) {
     let four = Xid { number: 4 };
     assert!(rt; write_member(&mut bank, 1, three, Mode::KeySh).is_ok());
     assert!(rt; write_member(&mut bank, 2, four, Mode::Upd).is_ok());
-    assert!(rt; front(rt, &mut bank, 0) == [0, 0, 5, 0, 0, 0, 0, 0, 3, 0, 0, 0, 4, 0, 0, 0]);
-    check_slot(rt, &mut bank, 0, Slot::Unused);
+    assert!(rt; front(&mut bank, 0) == Some([0, 0, 5, 0, 0, 0, 0, 0, 3, 0, 0, 0, 4, 0, 0, 0]));
+    check_slot(rt, &mut bank, "set", 0, Slot::Unused);
     check_slot(
         rt,
         &mut bank,
+        "set",
         2,
         Slot::Is {
             x: four,
@@ -150,16 +158,17 @@ pub fn member_bytes_on_page(rt: &(impl Abort + AllocGlobal)) {
         },
     );
     assert!(rt; bank.set(0, 2, 255, 6).is_ok());
-    check_slot(rt, &mut bank, 2, Slot::Odd { byte: 6 });
+    check_slot(rt, &mut bank, "odd", 2, Slot::Odd { byte: 6 });
     assert!(rt; trim_members(&mut bank, 2).is_ok());
     check_slot(
         rt,
         &mut bank,
+        "trimmed",
         1,
         Slot::Is {
             x: three,
             mode: Mode::KeySh,
         },
     );
-    check_slot(rt, &mut bank, 2, Slot::Unused);
+    check_slot(rt, &mut bank, "trimmed", 2, Slot::Unused);
 }

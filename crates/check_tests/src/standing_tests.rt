@@ -30,6 +30,7 @@ const HELD: Option<Refusal> = Some(Refusal::CommitPending);
 /// Whether the line may come next, as far as the session's standing tells, is `wanted`.
 fn check<R: Abort>(
     rt: &R,
+    row: &str,
     standing: &Standing,
     command: Command,
     refusal: Option<Refusal>,
@@ -37,7 +38,10 @@ fn check<R: Abort>(
     wanted: bool,
 ) {
     let line = line_of(command, refusal);
-    assert!(rt; is_refused_by_standing(&line, standing, pending) == wanted);
+    assert!(rt;
+        is_refused_by_standing(&line, standing, pending) == wanted,
+        "{row}"
+    );
 }
 
 #[test]
@@ -46,6 +50,7 @@ fn release_and_undo_want_a_savepoint(rt: HostRuntime) {
     let mut standing = Standing::new(rt.alloc());
     check(
         &rt,
+        "a write without a transaction",
         &standing,
         Write,
         Some(Refusal::NoTransaction),
@@ -54,11 +59,36 @@ fn release_and_undo_want_a_savepoint(rt: HostRuntime) {
     );
     standing.levels.begin();
     let none = Some(Refusal::NoSavepoint);
-    check(&rt, &standing, Release, none, None, true);
-    check(&rt, &standing, Undo, None, None, false);
-    check(&rt, &standing, Undo, Some(Refusal::Memory), None, true);
     check(
         &rt,
+        "a release without a savepoint",
+        &standing,
+        Release,
+        none,
+        None,
+        true,
+    );
+    check(
+        &rt,
+        "an undo without one",
+        &standing,
+        Undo,
+        None,
+        None,
+        false,
+    );
+    check(
+        &rt,
+        "an undo for want of memory",
+        &standing,
+        Undo,
+        Some(Refusal::Memory),
+        None,
+        true,
+    );
+    check(
+        &rt,
+        "a begin in a transaction",
         &standing,
         Begin,
         Some(Refusal::AlreadyOpen),
@@ -66,10 +96,34 @@ fn release_and_undo_want_a_savepoint(rt: HostRuntime) {
         true,
     );
     assert!(rt; standing.levels.save().is_ok());
-    check(&rt, &standing, Undo, None, None, true);
-    check(&rt, &standing, Save, HELD, HELD, true);
-    check(&rt, &standing, Save, None, HELD, false);
-    check(&rt, &standing, Commit, None, HELD, true);
+    check(
+        &rt,
+        "an undo of a savepoint",
+        &standing,
+        Undo,
+        None,
+        None,
+        true,
+    );
+    check(
+        &rt,
+        "a savepoint refused by a pending commit",
+        &standing,
+        Save,
+        HELD,
+        HELD,
+        true,
+    );
+    check(
+        &rt,
+        "a savepoint beside a pending commit",
+        &standing,
+        Save,
+        None,
+        HELD,
+        false,
+    );
+    check(&rt, "a pending commit", &standing, Commit, None, HELD, true);
 }
 
 const FAULT: Option<Refusal> = Some(Refusal::LogFault);
@@ -79,6 +133,7 @@ const DOWN: Option<Refusal> = Some(Refusal::LogDown { at: 3 });
 /// What is pending behind the line is `wanted`.
 fn check_pending<R: Abort>(
     rt: &R,
+    row: &str,
     recorded: bool,
     before: Option<Refusal>,
     command: &Command,
@@ -86,7 +141,10 @@ fn check_pending<R: Abort>(
     wanted: Option<Refusal>,
 ) {
     let reply = reply_of(refusal);
-    assert!(rt; pending_after(recorded, before, command, &reply) == wanted);
+    assert!(rt;
+        pending_after(recorded, before, command, &reply) == wanted,
+        "{row}"
+    );
 }
 
 #[test]
@@ -95,12 +153,53 @@ fn faults_leave_an_end_pending(rt: HostRuntime) {
         lock: Lock::Xact(0),
     });
     let abort = Some(Refusal::AbortPending);
-    check_pending(&rt, false, None, &Command::Commit, FAULT, HELD);
-    check_pending(&rt, true, None, &Command::Commit, DOWN, HELD);
-    check_pending(&rt, false, None, &Command::Commit, DOWN, None);
-    check_pending(&rt, false, None, &Command::Abort, fault, abort);
-    check_pending(&rt, false, HELD, &Command::Commit, None, None);
-    check_pending(&rt, false, HELD, &Command::Save, FAULT, HELD);
+    let commit = Command::Commit;
+    check_pending(&rt, "a fault of the log", false, None, &commit, FAULT, HELD);
+    check_pending(
+        &rt,
+        "a log that is down, recorded",
+        true,
+        None,
+        &commit,
+        DOWN,
+        HELD,
+    );
+    check_pending(
+        &rt,
+        "a log that is down, not recorded",
+        false,
+        None,
+        &commit,
+        DOWN,
+        None,
+    );
+    check_pending(
+        &rt,
+        "an abort's fault of a bank",
+        false,
+        None,
+        &Command::Abort,
+        fault,
+        abort,
+    );
+    check_pending(
+        &rt,
+        "a pending commit that is done",
+        false,
+        HELD,
+        &commit,
+        None,
+        None,
+    );
+    check_pending(
+        &rt,
+        "a savepoint's fault",
+        false,
+        HELD,
+        &Command::Save,
+        FAULT,
+        HELD,
+    );
 }
 
 fn updater() -> Pair {
@@ -121,6 +220,7 @@ fn two_updaters<R: Abort + AllocGlobal>(rt: &R) -> Command {
 /// Behind a command with this refusal the multixact that was unfinished stands so.
 fn check_unfinished<R: Abort>(
     rt: &R,
+    row: &str,
     before: Unfinished,
     recorded: bool,
     command: &Command,
@@ -128,7 +228,10 @@ fn check_unfinished<R: Abort>(
     wanted: Unfinished,
 ) {
     let reply = Reply::Refused { refusal };
-    assert!(rt; unfinished_behind(before, recorded, command, &reply) == wanted);
+    assert!(rt;
+        unfinished_behind(before, recorded, command, &reply) == wanted,
+        "{row}"
+    );
 }
 
 #[test]
@@ -137,8 +240,40 @@ fn multixact_may_be_refused_or_unfinished(rt: HostRuntime) {
     let line = line_of(two_updaters(&rt), Some(Refusal::TwoUpdaters));
     assert!(rt; is_refused_by_members(&line));
     let multi = &line.command;
-    check_unfinished(&rt, Nothing, true, multi, Refusal::Full, Sure);
-    check_unfinished(&rt, Sure, false, multi, Refusal::Memory, Perhaps);
-    check_unfinished(&rt, Nothing, false, multi, Refusal::Memory, Nothing);
-    check_unfinished(&rt, Sure, false, &Command::Commit, Refusal::Memory, Sure);
+    check_unfinished(
+        &rt,
+        "recorded, the log is full",
+        Nothing,
+        true,
+        multi,
+        Refusal::Full,
+        Sure,
+    );
+    check_unfinished(
+        &rt,
+        "unfinished, for want of memory",
+        Sure,
+        false,
+        multi,
+        Refusal::Memory,
+        Perhaps,
+    );
+    check_unfinished(
+        &rt,
+        "for want of memory",
+        Nothing,
+        false,
+        multi,
+        Refusal::Memory,
+        Nothing,
+    );
+    check_unfinished(
+        &rt,
+        "another command",
+        Sure,
+        false,
+        &Command::Commit,
+        Refusal::Memory,
+        Sure,
+    );
 }

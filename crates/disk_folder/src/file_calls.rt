@@ -3,8 +3,8 @@ ghost use Rattle.std.specs.Prelude.{◌≡◌, ◌≤◌, length, Ok, IfOk};
 ghost use Rattle.disk_core.specs.Faults.{CountsFault, counted_by};
 
 use disk_core::Failed;
-use std::alloc::Global;
-use std::fs::{self, File, Files, OpenFile};
+use std::alloc::{AllocError, Global};
+use std::fs::{self, File, Files, OpenFile, ReadDir};
 use std::io::{self, Read, Seek, SeekFrom, Write};
 
 /// Reads at a place, fewer bytes than asked for only at the end.
@@ -31,8 +31,16 @@ pub(crate) fn write_at<F: Write + Seek>(file: &mut F, at: u64, from: &[u8]) -> i
     file.write_all(from)
 }
 
-/// The number in a file of 8 bytes.
-pub(crate) fn read_number<R: Files>(rt: &R, path: &str) -> io::Result<u64> {
+/// The path of a file in a folder.
+pub(crate) fn path_in(alloc: Global, folder: &str, name: &str) -> Result<String, AllocError> {
+    let mut path = String::from_str(alloc, folder)?;
+    path.push('/')?;
+    path.push_str(name)?;
+    Ok(path)
+}
+
+// The number in a file of 8 bytes.
+fn read_number_at<R: Files>(rt: &R, path: &str) -> io::Result<u64> {
     let mut file = File::open(rt, path)?;
     if file.metadata()?.len() != 8 {
         return Err(io::ErrorKind::InvalidData.into());
@@ -42,19 +50,47 @@ pub(crate) fn read_number<R: Files>(rt: &R, path: &str) -> io::Result<u64> {
     Ok(u64::from_le_bytes(bytes))
 }
 
-/// Puts a number into a file, which a crash leaves as it was or with the number. Until the folder's names are synced it
-/// may do either.
+/// The number in a file of 8 bytes of a folder.
+pub(crate) fn read_number<R: Files>(
+    rt: &R,
+    alloc: Global,
+    folder: &str,
+    name: &str,
+) -> io::Result<u64> {
+    let path = path_in(alloc, folder, name)?;
+    read_number_at(rt, path.as_str())
+}
+
+// Makes a file that holds the number.
+fn write_number<R: Files>(rt: &R, path: &str, number: u64) -> io::Result<()> {
+    let mut file = File::create(rt, path)?;
+    file.write_all(&number.to_le_bytes())?;
+    file.sync_all()
+}
+
+/// Puts a number into a file of a folder, which a crash leaves as it was or with the number. Until the folder's names are
+/// synced it may do either.
 pub(crate) fn put_number<R: Files>(
     rt: &R,
     alloc: Global,
-    path: &str,
+    folder: &str,
+    name: &str,
     number: u64,
 ) -> io::Result<()> {
-    let draft = format!(in alloc; "{path}.new")?;
-    let mut file = File::create(rt, draft.as_str())?;
-    file.write_all(&number.to_le_bytes())?;
-    file.sync_all()?;
-    fs::rename(rt, draft.as_str(), path)
+    let path = path_in(alloc, folder, name)?;
+    let mut draft = path.clone()?;
+    draft.push_str(".new")?;
+    write_number(rt, draft.as_str(), number)?;
+    fs::rename(rt, draft.as_str(), path.as_str())
+}
+
+/// What a folder has.
+pub(crate) fn entries_of<R: Files + Clone + Drop>(
+    rt: &R,
+    alloc: Global,
+    folder: &str,
+) -> io::Result<ReadDir<(R, Global), Global>> {
+    fs::read_dir(&(rt.clone()?, alloc), folder)
 }
 
 /// Syncs what a file holds, or which names a folder has.

@@ -1,15 +1,10 @@
 //! A folder as a whole: how it is made, and how one that was made before is taken.
 ghost use Rattle.std.specs.Prelude.{◌≡◌, ◌≤◌, IfOk};
 
-use crate::file_calls::{put_number, read_number, sync_at};
-use std::alloc::{AllocError, Global};
-use std::fs::{self, File, Files, OpenFile, OpenOptions};
+use crate::file_calls::{entries_of, path_in, put_number, read_number, sync_at};
+use std::alloc::Global;
+use std::fs::{self, Files, OpenFile, OpenOptions};
 use std::io;
-
-/// The path of a file in a folder.
-pub(crate) fn path_in(alloc: Global, folder: &str, name: &str) -> Result<String, AllocError> {
-    format!(in alloc; "{folder}/{name}")
-}
 
 /// Makes the folder, where it isn't there. An earlier making may have been cut short right behind that, so its own name
 /// is synced either way.
@@ -22,12 +17,12 @@ fn make_folder<R: Files>(rt: &R, alloc: Global, folder: &str) -> io::Result<()> 
 
 // What a making leaves that is cut short.
 fn may_be_there(name: &str) -> bool {
-    matches!(name, "log" | "start" | "start.new" | "banks.new")
+    ["log", "start", "start.new", "banks.new"].contains(&name)
 }
 
 /// Fails where a folder holds something else, which isn't ours.
 fn check_names<R: Files + Clone + Drop>(rt: &R, alloc: Global, folder: &str) -> io::Result<()> {
-    for entry in fs::read_dir(&(rt.clone()?, alloc), folder)? {
+    for entry in entries_of(rt, alloc, folder)? {
         if !may_be_there(entry?.file_name()) {
             return Err(io::ErrorKind::AlreadyExists.into());
         }
@@ -36,8 +31,12 @@ fn check_names<R: Files + Clone + Drop>(rt: &R, alloc: Global, folder: &str) -> 
 }
 
 /// Makes an empty log. One that holds something isn't taken.
-fn make_log<R: Files>(rt: &R, path: &str) -> io::Result<()> {
-    let log = OpenOptions::new().write(true).create(true).open(rt, path)?;
+fn make_log<R: Files>(rt: &R, alloc: Global, folder: &str) -> io::Result<()> {
+    let path = path_in(alloc, folder, "log")?;
+    let log = OpenOptions::new()
+        .write(true)
+        .create(true)
+        .open(rt, path.as_str())?;
     if log.metadata()?.len() != 0 {
         return Err(io::ErrorKind::AlreadyExists.into());
     }
@@ -53,22 +52,17 @@ fn make<R: Files + Clone + Drop>(
 ) -> io::Result<()> {
     make_folder(rt, alloc, folder)?;
     check_names(rt, alloc, folder)?;
-    make_log(rt, path_in(alloc, folder, "log")?.as_str())?;
-    put_number(rt, alloc, path_in(alloc, folder, "start")?.as_str(), 0)?;
-    put_number(
-        rt,
-        alloc,
-        path_in(alloc, folder, "banks")?.as_str(),
-        u64::from(banks),
-    )?;
+    make_log(rt, alloc, folder)?;
+    put_number(rt, alloc, folder, "start", 0)?;
+    put_number(rt, alloc, folder, "banks", u64::from(banks))?;
     sync_at(rt, folder)
 }
 
 /// Syncs every file of a folder, and its names. An earlier program may have ended with something unsynced, which is read
 /// now and not written again.
 fn settle<R: Files + Clone + Drop>(rt: &R, alloc: Global, folder: &str) -> io::Result<()> {
-    for entry in fs::read_dir(&(rt.clone()?, alloc), folder)? {
-        File::open(rt, entry?.path())?.sync_all()?;
+    for entry in entries_of(rt, alloc, folder)? {
+        sync_at(rt, entry?.path().as_str())?;
     }
     sync_at(rt, folder)
 }
@@ -84,7 +78,7 @@ pub(crate) fn prepare<R: Files + Clone + Drop>(
     requires few { banks ≤ 16 }
     ensures banks { IfOk result (λ n. (1 ≤ n) × (n ≤ 16)) }
 {
-    match read_number(rt, path_in(alloc, folder, "banks")?.as_str()) {
+    match read_number(rt, alloc, folder, "banks") {
         Ok(found) if 1 <= found && found <= 16 => {
             settle(rt, alloc, folder)?;
             Ok(found as u32)

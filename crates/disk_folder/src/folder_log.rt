@@ -1,8 +1,7 @@
 //! A log volume in a folder.
 ghost use Rattle.std.specs.Prelude.{◌≡◌, ◌≤◌, length, IfOk};
 
-use crate::file_calls::{count, put_number, read_at, read_number, sync_at, write_at};
-use crate::folder::path_in;
+use crate::file_calls::{count, path_in, put_number, read_at, read_number, sync_at, write_at};
 use disk_core::{Extent, Failed, LogDisk};
 use std::alloc::Global;
 use std::fs::{Files, OpenFile, OpenOptions};
@@ -23,20 +22,26 @@ pub struct FolderLog<R: Files + Drop> {
     faults: u64,
 }
 
+/// The log's file, which doesn't end before this start.
+fn open_file<R: Files>(rt: &R, alloc: Global, folder: &str, start: u64) -> io::Result<R::File> {
+    let path = path_in(alloc, folder, "log")?;
+    let file = OpenOptions::new()
+        .read(true)
+        .write(true)
+        .open(rt, path.as_str())?;
+    if file.metadata()?.len() < start {
+        return Err(io::ErrorKind::UnexpectedEof.into());
+    }
+    Ok(file)
+}
+
 impl<R: Files + Clone + Drop> FolderLog<R> {
     /// Fails where a file is missing, or the log ends before its start.
     pub(crate) fn open(rt: &R, alloc: Global, folder: &str) -> io::Result<FolderLog<R>>
         ensures { IfOk result (λ log. log.faults ≡ 0) }
     {
-        let path = path_in(alloc, folder, "log")?;
-        let file = OpenOptions::new()
-            .read(true)
-            .write(true)
-            .open(rt, path.as_str())?;
-        let start = read_number(rt, path_in(alloc, folder, "start")?.as_str())?;
-        if file.metadata()?.len() < start {
-            return Err(io::ErrorKind::UnexpectedEof.into());
-        }
+        let start = read_number(rt, alloc, folder, "start")?;
+        let file = open_file(rt, alloc, folder, start)?;
         Ok(FolderLog {
             rt: rt.clone()?,
             alloc,
@@ -73,9 +78,8 @@ impl<R: Files + Drop> FolderLog<R> {
         if upto <= self.start {
             return Ok(());
         }
-        let path = path_in(self.alloc, self.folder.as_str(), "start")?;
         self.is_moved = true;
-        put_number(&self.rt, self.alloc, path.as_str(), upto)?;
+        put_number(&self.rt, self.alloc, self.folder.as_str(), "start", upto)?;
         self.start = upto;
         Ok(())
     }

@@ -2,7 +2,7 @@
 ghost use Rattle.std.specs.Prelude.{◌≡◌, ◌≤◌, IfOk, IfSome};
 ghost use Rattle.disk_core.specs.Pages.{IsAfter};
 
-use crate::file_calls::{count, read_at, sync_at};
+use crate::file_calls::{count, entries_of, read_at, sync_at};
 use disk_core::{Failed, PageDisk};
 use std::alloc::{AllocError, Global};
 use std::collections::BTreeSet;
@@ -52,7 +52,7 @@ impl<R: Files + Clone + Drop> FolderPages<R> {
         ensures { IfOk result (λ next. IfSome next (IsAfter page)) }
     {
         let mut next = None;
-        for entry in fs::read_dir(&(self.rt.clone()?, self.alloc), self.folder.as_str())? {
+        for entry in entries_of(&self.rt, self.alloc, self.folder.as_str())? {
             let entry = entry?;
             if let Some(found) = page_of(self.name.as_str(), entry.file_name()) {
                 next = nearer(page, next, found);

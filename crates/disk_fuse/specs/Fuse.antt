@@ -1,5 +1,5 @@
 -- A volume that fails some of its calls without doing them.
-use Rattle.std.specs.Prelude.{◌≡◌, ℕ, ◌+◌, ◌-◌, ◌^◌, ◌==◌, min, Bool, true, false, IsTrue, Result, IsErr}
+use Rattle.std.specs.Prelude.{◌≡◌, ℕ, ◌+◌, ◌-◌, ◌^◌, ◌==◌, min, Bool, false, IsTrue, Result, IsErr}
 use Rattle.disk_core.specs.Faults.{CountsFault}
 use Rattle.disk_fuse.specs.declared.fails.Fails.{Fails}
 use Rattle.disk_fuse.specs.declared.fails.Fails.TheVariants.{Never, Behind, At}
@@ -15,6 +15,12 @@ abbrev pub is_blown : Fails → Bool
 is_blown Never = false
 is_blown (Behind n) = n == 0
 is_blown (At n) = n == 1
+
+-- which calls fail behind a crash, of those that the media's volume was to fail and those that are left of them
+abbrev pub past_crash : Fails → Fails → Fails
+past_crash Never left = Never
+past_crash (Behind n) left = Never
+past_crash (At n) left = left
 
 -- a call of a fused volume: one that is to fail isn't done and is counted, and each other one fails only as the volume itself does
 pub record Spends {D T E : Type 0} (faults : D → ℕ) (before after : Fails) (refused refused_2 : ℕ) (old new : D) (result : Result T E) : Type 0 where

@@ -1,7 +1,7 @@
 //! Which of its calls to come a volume fails without doing them.
 ghost use Rattle.std.specs.Prelude.{◌≡◌, IsTrue, false, IsErr, OnErr};
 ghost use Rattle.disk_core.specs.Faults.{counted_by, CountsFault};
-ghost use Rattle.disk_fuse.specs.Fuse.{spent, is_blown};
+ghost use Rattle.disk_fuse.specs.Fuse.{spent, is_blown, past_crash};
 
 use disk_core::Failed;
 
@@ -38,4 +38,14 @@ pub(crate) fn spend(fails: &mut Fails, refused: &mut u64) -> Result<(), Failed>
         return Err(Failed);
     }
     Ok(())
+}
+
+// Which calls fail behind a crash, of those that the media's volume was to fail and those that are left of them.
+pub(crate) fn past_crash(fails: Fails, left: Fails) -> Fails
+    ensures { result ≡ past_crash fails left }
+{
+    match fails {
+        Fails::Never | Fails::Behind(_) => Fails::Never,
+        Fails::At(_) => left,
+    }
 }

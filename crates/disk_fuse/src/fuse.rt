@@ -1,8 +1,10 @@
-//! A media with a fuse: one volume passes so many calls, then fails each without doing it, until a crash that answers Ok.
+//! A media of which one volume fails calls without doing them: each behind so many, until a crash, or one alone, counted
+//! through all lives.
 ghost use Rattle.std.specs.Prelude.{◌≡◌, ◌+◌, ◌≤◌, Some, None, IsTrue, OnOk, OnErr, IfOk, false};
 ghost use Rattle.disk_core.specs.Faults.{CountsFault};
 
-use crate::fused_volumes::{fuse_all, unfuse_all};
+use crate::fails::past_crash;
+use crate::fused_volumes::{fails_in, fuse_all, unfuse_all};
 use crate::{Fails, FusedLog, FusedPages};
 use disk_core::{Crash, Failed, Media, MountRefusal, Volumes, Which};
 use std::alloc::Global;
@@ -12,7 +14,7 @@ pub struct Fuse<M: Media> {
     alloc: Global,
     inner: M,
     at: Which,
-    // Which calls the volume fails, until the first crash.
+    // Which calls the volume fails from the next mount on.
     fails: Fails,
     // How often each volume refused a call in the lives before.
     refused: Volumes<u64, u64>,
@@ -27,12 +29,26 @@ impl<M: Media> Fuse<M> {
     ghost use Rattle.disk_fuse.specs.declared.fails.Fails.TheVariants.{Behind};
     ghost use Rattle.disk_fuse.specs.FuseMedia.{HaveRefusedNone};
 
-    /// A media whose volume `at` passes so many calls.
+    /// A media whose volume `at` passes so many calls, and fails each behind them.
     pub fn new(alloc: Global, inner: M, at: Which, passes: u64) -> Fuse<M>
         requires { IsTrue (M.is_idle inner) }
         ensures inner { result.inner ≡ inner }
         ensures at { result.at ≡ at }
         ensures fails { result.fails ≡ Behind passes }
+        ensures refused { HaveRefusedNone result.refused }
+        ensures idle { result.is_mounted ≡ false }
+        ensures held { result.held ≡ None }
+        ensures faults { result.faults ≡ 0 }
+    {
+        Fuse::of(alloc, inner, at, Fails::Behind(passes))
+    }
+
+    /// A media whose volume `at` fails these calls.
+    pub fn of(alloc: Global, inner: M, at: Which, fails: Fails) -> Fuse<M>
+        requires { IsTrue (M.is_idle inner) }
+        ensures inner { result.inner ≡ inner }
+        ensures at { result.at ≡ at }
+        ensures fails { result.fails ≡ fails }
         ensures refused { HaveRefusedNone result.refused }
         ensures idle { result.is_mounted ≡ false }
         ensures held { result.held ≡ None }
@@ -49,7 +65,7 @@ impl<M: Media> Fuse<M> {
             alloc,
             inner,
             at,
-            fails: Fails::Behind(passes),
+            fails,
             refused,
             held: None,
             is_mounted: false,
@@ -68,10 +84,10 @@ impl<M: Media> Media for Fuse<M> {
     ghost use Rattle.disk_core.specs.Images.{NoMore, Only};
     ghost use Rattle.disk_core.specs.Media.{HasBanks, HaveSameBanks, CountsMount, LogCrashed, PagesCrashed, AllCrashed};
     ghost use Rattle.disk_core.specs.declared.media.Volumes.{Volumes};
-    ghost use Rattle.disk_fuse.specs.declared.fails.Fails.TheVariants.{Never};
     ghost use Rattle.disk_fuse.specs.declared.fused_log.FusedLog.{FusedLog};
     ghost use Rattle.disk_fuse.specs.declared.fused_pages.FusedPages.{FusedPages};
-    ghost use Rattle.disk_fuse.specs.FuseMedia.{fuse_begins, fuse_gives, fuse_is_new, FuseFell};
+    ghost use Rattle.disk_fuse.specs.Fuse.{past_crash};
+    ghost use Rattle.disk_fuse.specs.FuseMedia.{fuse_begins, fuse_gives, fuse_is_new, fails_in, FuseFell};
 
     ghost is_idle = { λ f. not f.is_mounted };
 
@@ -132,8 +148,10 @@ impl<M: Media> Media for Fuse<M> {
     ) -> Result<(), Failed>
         ensures idle { IsTrue (not self.new.is_mounted) }
         ensures old { fuse_is_new (M.is_new self.new.inner) self.new.held ≡ false }
-        ensures disarmed { self.new.fails ≡ Never }
-        // The next mount wraps the volumes anew, with no limit.
+        ensures at { self.new.at ≡ self.old.at }
+        // A fuse is over, and a count goes on.
+        ensures counts { self.new.fails ≡ past_crash self.old.fails (fails_in self.old.at volumes) }
+        // The next mount wraps the volumes anew.
         ensures unheld { OnOk result (self.new.held ≡ None) }
         ensures left { IsTrue M.Log.tells → IsTrue M.Pages.tells → OnOk result ((next : Volumes (FusedLog M.Log) (FusedPages M.Pages))
             → fuse_gives (M.gives self.new.inner) self.new.held self.new.at self.new.fails self.new.refused next
@@ -147,7 +165,7 @@ impl<M: Media> Media for Fuse<M> {
         ensures cause { CountsFault result (M.faults self.old.inner + self.old.faults) (M.faults self.new.inner + self.new.faults) }
     {
         self.is_mounted = false;
-        self.fails = Fails::Never;
+        self.fails = past_crash(self.fails, fails_in(&volumes, self.at));
         match unfuse_all(self.alloc, volumes) {
             Ok((inner, refused)) => {
                 self.held = None;
@@ -164,6 +182,7 @@ impl<M: Media> Media for Fuse<M> {
 
     fn rest(&mut self, volumes: Volumes<FusedLog<M::Log>, FusedPages<M::Pages>>)
         ensures idle { IsTrue (not self.new.is_mounted) }
+        ensures at { self.new.at ≡ self.old.at }
         ensures old { fuse_is_new (M.is_new self.new.inner) self.new.held ≡ false }
         ensures same { Only volumes (fuse_gives (M.gives self.new.inner) self.new.held self.new.at self.new.fails self.new.refused) }
         ensures faults { M.faults self.new.inner + self.new.faults ≡ M.faults self.old.inner + self.old.faults }

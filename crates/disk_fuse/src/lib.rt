@@ -2,7 +2,6 @@
 //! crash, or one call alone (docs/DISKS.md, "Calls that fail").
 #![tactic(auto)]
 
-mod fail_once;
 mod fails;
 mod fuse;
 mod fused_banks;
@@ -10,7 +9,6 @@ mod fused_log;
 mod fused_pages;
 mod fused_volumes;
 
-pub use fail_once::FailOnce;
 pub use fails::Fails;
 pub use fuse::Fuse;
 pub use fused_log::FusedLog;

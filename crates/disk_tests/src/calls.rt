@@ -132,16 +132,18 @@ pub struct Mounted<M: Media> {
 
 /// Crashes, or gives the volumes back.
 fn leave<M: Media>(
-    rt: &impl Abort,
     media: &mut M,
     volumes: Volumes<M::Log, M::Pages>,
     how: Option<Crash>,
-)
+) -> Result<(), Failed>
     ensures idle { IsTrue (M.is_idle media.new) }
 {
     match how {
-        Some(how) => assert!(rt; media.crash(volumes, how).is_ok()),
-        None => media.rest(volumes),
+        Some(how) => media.crash(volumes, how),
+        None => {
+            media.rest(volumes);
+            Ok(())
+        }
     }
 }
 
@@ -160,9 +162,16 @@ impl<M: Media + Drop> Mounted<M> {
     fn again(&mut self, rt: &impl Abort, how: Option<Crash>, banks: u32) -> Answer {
         assert!(rt; 1 <= banks && banks <= 16);
         let volumes = self.volumes.take().expect(rt, "volumes");
-        leave(rt, &mut self.media, volumes, how);
-        self.volumes = Some(self.media.mount(banks).ok().expect(rt, "a mount"));
-        Answer::Done
+        if leave(&mut self.media, volumes, how).is_err() {
+            return Answer::Fails;
+        }
+        match self.media.mount(banks) {
+            Ok(volumes) => {
+                self.volumes = Some(volumes);
+                Answer::Done
+            }
+            Err(_) => Answer::Fails,
+        }
     }
 
     fn answer(&mut self, rt: &impl Abort, call: Call<'_>) -> Answer {
@@ -177,12 +186,13 @@ impl<M: Media + Drop> Mounted<M> {
         match call {
             Call::Log(call) => log_answer(&mut volumes.log, call),
             Call::Of(at, call) => bank_answer(rt, volumes, at, call),
-            _ => Answer::Counted([
+            Call::Counts => Answer::Counted([
                 volumes.xact.len(),
                 volumes.subtrans.len(),
                 volumes.offsets.len(),
                 volumes.members.len(),
             ]),
+            Call::Crash(..) | Call::Rest(..) => panic!(rt; "a call of the media"),
         }
     }
 

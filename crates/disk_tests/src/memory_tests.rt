@@ -233,8 +233,9 @@ const ROWS: [Row; 13] = [
 fn check<M: Media + Drop>(rt: &impl Abort, media: M, row: &Row<'_>)
     requires { IsTrue (M.is_idle media) }
 {
-    let mounted = Mounted::new(rt, media, row.banks);
-    let mut mounted = mounted.ok().expect(rt, "a mount");
+    let Ok(mut mounted) = Mounted::new(rt, media, row.banks) else {
+        panic!(rt; "{}: no mount", row.name)
+    };
     mounted.check(rt, row.name, row.calls);
 }
 

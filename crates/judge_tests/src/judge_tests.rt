@@ -24,7 +24,8 @@ log flushed 2 end 80
 end
 ";
 
-/// A check of these bytes, of which these reads fail, into so much room ends with this status and this line.
+/// A check of these bytes, of which these reads fail, into so much room ends with this status and this line. The row tells
+/// which check it is.
 fn check(
     rt: &(impl Abort + AllocGlobal),
     bytes: Vec<u8>,
@@ -38,7 +39,7 @@ fn check(
     let mut sink = MemSink::new(rt.alloc(), room, Vec::new(rt.alloc())).expect(rt, "memory");
     let found = check_tool(rt.alloc(), &mut source, &mut sink);
     let ends = found == status && sink.held() == line.as_bytes();
-    assert!(rt; ends, "not {line} of {row}");
+    assert!(rt; ends, "{row} doesn't end with {line}");
 }
 
 fn bytes_of(rt: &(impl Abort + AllocGlobal), text: &str) -> Vec<u8> {
@@ -130,7 +131,23 @@ fn text_past_the_limit_is_told_at_line_0(rt: HostRuntime) {
 fn a_source_or_a_sink_that_fails_ends_the_check(rt: HostRuntime) {
     let bytes = bytes_of(&rt, COMMITTED);
     let failing = [1].to_vec(rt.alloc()).expect(&rt, "memory");
-    check(&rt, bytes, failing, 100, 3, "read-fault\n", "a source");
+    check(
+        &rt,
+        bytes,
+        failing,
+        100,
+        3,
+        "read-fault\n",
+        "a source that fails",
+    );
     let none = Vec::new(rt.alloc());
-    check(&rt, bytes_of(&rt, COMMITTED), none, 4, 4, "lawf", "a sink");
+    check(
+        &rt,
+        bytes_of(&rt, COMMITTED),
+        none,
+        4,
+        4,
+        "lawf",
+        "a sink of 4 bytes",
+    );
 }

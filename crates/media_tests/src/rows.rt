@@ -152,10 +152,15 @@ fn next_volume(rt: &impl Abort, words: &mut SplitWhitespace<'_>) -> Which {
 fn check_part(rt: &(impl Abort + AllocGlobal + Threads + Wait + Sync), row: Row<'_>, part: &str) {
     let (head, _) = part.split_once("\n").unwrap_or((part, ""));
     let mut words = head.split_whitespace();
-    let is_once = words.next() == Some("once");
+    let is_once = match words.next() {
+        Some("once") => true,
+        Some("from") => false,
+        _ => panic!(rt; "another fault"),
+    };
     let at = next_volume(rt, &mut words);
     let first = next_number(rt, &mut words);
     let last = next_number(rt, &mut words);
+    let mut runs = 0usize;
     for crash in words {
         let script = row
             .script
@@ -169,10 +174,12 @@ fn check_part(rt: &(impl Abort + AllocGlobal + Threads + Wait + Sync), row: Row<
                 Fails::Behind(calls)
             };
             number = way_of(rt, row, part, script.as_str(), at, fails, number);
+            runs = runs.saturating_add(1);
         }
         let is_last = way_at(part, number.saturating_add(1)) == "no way";
         assert!(rt; is_last, "{}, {head}: {number}", row.name);
     }
+    assert!(rt; runs > 0, "{}, {head}", row.name);
 }
 
 /// A run in which no call fails has the plain report.

@@ -1,7 +1,11 @@
 //! Runs of the tool on a script in memory, over a media of which calls fail or over a folder.
-use disk_core::{MemMedia, Which};
+ghost use Rattle.std.specs.Prelude.{IsTrue};
+ghost use Rattle.session_run.specs.Guarantee.{MayRunOver};
+ghost use Rattle.session_run.specs.Unknown.{no_log};
+
+use disk_core::{Media, MemMedia, Which};
 use disk_folder::FolderMedia;
-use disk_fuse::{FailOnce, Fails, Fuse};
+use disk_fuse::{Fails, Fuse};
 use engine_parts::OpenGate;
 use report_check::check_tool;
 use script_rounds::RoundThreads;
@@ -10,7 +14,7 @@ use std::alloc::AllocGlobal;
 use std::process::Abort;
 use std::sync::Wait;
 use std::thread::Threads;
-use tx_io::{MemSink, MemSource};
+use tx_io::{MemSink, MemSource, Sink, Source};
 
 /// The status of a run, and what it wrote.
 #[derive(Drop)]
@@ -22,41 +26,39 @@ pub struct Ran {
 /// What a run has room for.
 const ROOM: u64 = 4_000_000;
 
-/// The tool over a new media in memory of which this volume passes so many calls, without its contract, so that a test proves
-/// no more than that it is safe.
+/// The tool over a media, without its promises, so that a test proves no more than that it is safe.
+fn status_over<S: Source, K: Sink, M: Media>(
+    rt: &(impl AllocGlobal + Threads + Wait + Sync),
+    words: &[String],
+    source: &mut S,
+    sink: &mut K,
+    media: &mut M,
+    threads: RoundThreads,
+) -> u8
+where
+    M::Log: Sync,
+    M::Pages: Sync,
+    requires idle { IsTrue (M.is_idle media.old) }
+    requires may { MayRunOver M.Media M.Log.LogDisk M.Pages.PageDisk no_log media.old }
+{
+    let alloc = rt.alloc();
+    run_tool(rt, alloc, words, source, sink, media, threads, &OpenGate)
+}
+
+/// The same over a new media in memory of which this volume fails such calls.
 fn status_fused(
     rt: &(impl AllocGlobal + Threads + Wait + Sync),
     words: &[String],
     source: &mut MemSource,
     sink: &mut MemSink,
     at: Which,
-    passes: u64,
+    fails: Fails,
     threads: RoundThreads,
 ) -> u8 {
     let alloc = rt.alloc();
     let inner = MemMedia::new(alloc);
-    let mut media = Fuse::new(alloc, inner, at, passes);
-    run_tool(
-        rt, alloc, words, source, sink, &mut media, threads, &OpenGate,
-    )
-}
-
-/// The same over one of which the volume fails the call of this number.
-fn status_once(
-    rt: &(impl AllocGlobal + Threads + Wait + Sync),
-    words: &[String],
-    source: &mut MemSource,
-    sink: &mut MemSink,
-    at: Which,
-    call: u64,
-    threads: RoundThreads,
-) -> u8 {
-    let alloc = rt.alloc();
-    let inner = MemMedia::new(alloc);
-    let mut media = FailOnce::new(alloc, inner, at, call);
-    run_tool(
-        rt, alloc, words, source, sink, &mut media, threads, &OpenGate,
-    )
+    let mut media = Fuse::of(alloc, inner, at, fails);
+    status_over(rt, words, source, sink, &mut media, threads)
 }
 
 /// The same over a folder.
@@ -69,11 +71,8 @@ fn status_in(
     sink: &mut MemSink,
     threads: RoundThreads,
 ) -> u8 {
-    let alloc = rt.alloc();
-    let mut media = FolderMedia::new(files, alloc, folder);
-    run_tool(
-        rt, alloc, words, source, sink, &mut media, threads, &OpenGate,
-    )
+    let mut media = FolderMedia::new(files, rt.alloc(), folder);
+    status_over(rt, words, source, sink, &mut media, threads)
 }
 
 /// A source of these bytes.
@@ -111,13 +110,7 @@ pub fn run_words(
     let mut source = source_of(rt, script);
     let mut sink = sink_of(rt, ROOM);
     let threads = RoundThreads::AtMost(threads);
-    let status = match fails {
-        Fails::At(call) => status_once(rt, words, &mut source, &mut sink, at, call, threads),
-        Fails::Behind(passes) => {
-            status_fused(rt, words, &mut source, &mut sink, at, passes, threads)
-        }
-        Fails::Never => status_fused(rt, words, &mut source, &mut sink, at, u64::MAX, threads),
-    };
+    let status = status_fused(rt, words, &mut source, &mut sink, at, fails, threads);
     let written = text_of(rt, &sink);
     Ran { status, written }
 }
@@ -150,10 +143,15 @@ pub fn run_in(
     Ran { status, written }
 }
 
+/// The checker over a report, without its promises.
+fn check_status<S: Source, K: Sink>(rt: &impl AllocGlobal, source: &mut S, sink: &mut K) -> u8 {
+    check_tool(rt.alloc(), source, sink)
+}
+
 /// Whether the checker calls the report lawful.
 pub fn is_lawful(rt: &(impl Abort + AllocGlobal), report: &str) -> bool {
     let mut source = source_of(rt, report);
     let mut sink = sink_of(rt, 100);
-    let status = check_tool(rt.alloc(), &mut source, &mut sink);
+    let status = check_status(rt, &mut source, &mut sink);
     status == 0 && sink.held() == b"lawful\n".as_slice()
 }

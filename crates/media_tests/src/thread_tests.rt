@@ -175,6 +175,7 @@ fn check_fault(rt: &(impl Abort + AllocGlobal), run: &Ran) {
     let history = between(report, "\nhistory\n", "\nmultis\n");
     let commits = count_lines(history, "commit ", "");
     let is_well = run.status == 0
+        && !history.is_empty()
         && failed == 1
         && done.saturating_add(1) == flushed
         && late.saturating_add(flushed) == SESSIONS

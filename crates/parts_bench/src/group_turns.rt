@@ -220,7 +220,8 @@ fn finds_no_one<R: Wait>(
     Some(batch.numbers() == [member.number()].as_slice())
 }
 
-/// So many members take turns on a new list, each in a thread of its own. None for want of memory.
+/// So many members take turns on a new list, each in a thread of its own. None where player_of gives none, or for want of
+/// memory.
 pub fn all_take_turns<R: Threads + Wait + Sync>(
     rt: &R,
     alloc: Global,

@@ -3,7 +3,6 @@ ghost use Rattle.std.specs.Prelude.{◌≡◌, ℕ, List, [], ◌∷◌, ◌++�
 ghost use Rattle.tx_model.specs.declared.report.Line.{Line};
 ghost use Rattle.tx_model.specs.declared.report.Step.{Step as Told};
 
-use report_text::{Text, put_command_line, put_round_line, put_step};
 use std::alloc::Global;
 use tx_model::{By, Command, Memory, NameList, Reply, Step};
 
@@ -85,59 +84,5 @@ pub fn fresh<K: LineKeeper>(alloc: Global, spare: &mut Vec<K>) -> K
             kept
         }
         None => K::none(alloc),
-    }
-}
-
-impl LineKeeper for Text {
-    ghost use Rattle.std.specs.Prelude.{[], ◌++◌};
-    ghost use Rattle.std.specs.List.{flat_map};
-    ghost use Rattle.std.proofs.Common.{◌∙◌, ap, append-nil, append_assoc, refl, sym};
-    ghost use Rattle.std.proofs.lemmas.Grind.{flat_map-append};
-    ghost use Rattle.report_text.specs.ReportText.{command_line, round_line, step_text};
-
-    ghost nothing = { [] };
-
-    ghost with_lines = { λ names kept lines. kept ++ flat_map (command_line names) lines };
-
-    ghost with_round = { λ kept number. kept ++ round_line number };
-
-    ghost with_step = { λ names kept step. kept ++ step_text names step };
-
-    ghost joined = { λ kept more. kept ++ more };
-
-    ghost no_lines = { λ names kept. append-nil kept };
-
-    ghost then_lines = { λ names kept lines more. append_assoc kept (flat_map (command_line names) lines) (flat_map (command_line names) more) ∙ ap (λ text. kept ++ text) (sym (flat_map-append (command_line names) lines more)) };
-
-    ghost join_lines = { λ names kept lines. refl };
-
-    fn none(alloc: Global) -> Text {
-        Text::new(alloc)
-    }
-
-    fn forget(&mut self) {
-        self.clear();
-    }
-
-    fn add_round(&mut self, number: u64) -> Result<(), Memory> {
-        put_round_line(self, number)
-    }
-
-    fn add_line(
-        &mut self,
-        names: &NameList,
-        by: By,
-        command: &Command,
-        reply: &Reply,
-    ) -> Result<(), Memory> {
-        put_command_line(self, names, by, command, reply)
-    }
-
-    fn add_step(&mut self, names: &NameList, step: &Step) -> Result<(), Memory> {
-        put_step(self, names, step)
-    }
-
-    fn join(&mut self, other: &Text) -> Result<(), Memory> {
-        self.put(other.bytes())
     }
 }

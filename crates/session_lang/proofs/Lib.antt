@@ -5,6 +5,7 @@ pub mod StepLemmas
 pub mod RoundLemmas
 pub mod PlaceLemmas
 pub mod LineLemmas
+pub mod FirstWord
 pub mod CutLemmas
 pub mod WholeLemmas
 pub mod Again

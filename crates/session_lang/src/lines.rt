@@ -1,49 +1,69 @@
 //! The lines of a text, and on which of them a script's items stand.
 
-ghost use Rattle.std.specs.Prelude.{◌≡◌, ℕ, ◌+◌, ◌<◌, ◌≤◌, List, [], ◌∷◌, true, not, cond, get_or, length};
+ghost use Rattle.std.specs.Prelude.{◌≡◌, ℕ, ◌+◌, ◌<◌, ◌≤◌, List, [], ◌∷◌, ◌&&◌, nat_le, true, not, cond, get_or, length, take};
 ghost use Rattle.std.specs.List.{prefix_len};
-ghost use Rattle.script_lines.specs.LineWords.{words_in};
+ghost use Rattle.script_lines.specs.LineWords.{is_plain, words_in};
 ghost use Rattle.session_lang.specs.Lines.{is_line_end, lines_of, without_cr};
 ghost use Rattle.session_lang.specs.Places.{is_item_line, item_lines};
 
-use script_lines::{is_header_word, next_word};
+use script_lines::{is_header_word, is_plain, next_word};
 
-/// How many bytes stand before the first LF, or in all.
-#[tactic(auto, using(std::proofs::lemmas::List::Sums::prefix_len_is))]
-fn line_len(bytes: &[u8]) -> usize
-    ensures within { result ≤ length bytes.now }
-    ensures value { result ≡ prefix_len (λ b. not (is_line_end b)) bytes.now }
+/// Whether a byte is printable ASCII.
+fn is_printable(b: u8) -> bool
+    ensures { result ≡ (nat_le 32 b && nat_le b 126) }
 {
+    b' ' <= b && b <= b'~'
+}
+
+/// How many bytes stand before the first LF, or in all, and whether all of them may stand in a line.
+#[tactic(auto, using(std::proofs::lemmas::List::Sums::prefix_len_is))]
+fn line_len(bytes: &[u8]) -> (usize, bool)
+    ensures within { result.0 ≤ length bytes.now }
+    ensures value { result.0 ≡ prefix_len (λ b. not (is_line_end b)) bytes.now }
+    ensures plain { result.1 ≡ is_plain (take result.0 bytes.now) }
+{
+    let mut plain = true;
     for (i, b) in bytes.iter().enumerate() {
-        if *b == b'\n' {
-            return i;
+        if !is_printable(*b) {
+            if *b == b'\n' {
+                return (i, plain);
+            }
+            plain = plain && *b == b'\t';
         }
     }
-    bytes.len()
+    (bytes.len(), plain)
 }
 
-fn without_cr(raw: &[u8]) -> &[u8]
-    ensures line { result.now ≡ without_cr raw.now }
-    ensures shorter { length result.now ≤ length raw.now }
+/// A line without the CR that may stand before its end, and whether its bytes may stand in a line.
+fn without_cr(raw: &[u8], plain: bool) -> (&[u8], bool)
+    requires { plain ≡ is_plain raw.now }
+    ensures line { result.0.now ≡ without_cr raw.now }
+    ensures shorter { length result.0.now ≤ length raw.now }
+    ensures plain { result.1 ≡ is_plain result.0.now }
 {
     if raw.is_empty() || raw[raw.len() - 1] != b'\r' {
-        return raw;
+        return (raw, plain);
     }
-    &raw[..raw.len() - 1]
+    let line = &raw[..raw.len() - 1];
+    (line, is_plain(line))
 }
 
-/// The first line without its end, the bytes behind the end, and whether there is one.
-pub fn next_line(bytes: &[u8]) -> (&[u8], &[u8], bool)
+/// The first line without its end, the bytes behind the end, whether there is one, and whether the line's bytes may stand
+/// there.
+pub fn next_line(bytes: &[u8]) -> (&[u8], &[u8], bool, bool)
     ensures lines { lines_of bytes.now ≡ result.0.now ∷ cond result.2 (lines_of result.1.now) [] }
     ensures within { length result.0.now + length result.1.now ≤ length bytes.now }
     ensures shorter { result.2 ≡ true → length result.0.now + length result.1.now < length bytes.now }
+    ensures plain { result.3 ≡ is_plain result.0.now }
 {
-    let (raw, behind) = bytes.split_at(line_len(bytes));
+    let (count, plain) = line_len(bytes);
+    let (raw, behind) = bytes.split_at(count);
     if behind.is_empty() {
-        return (raw, behind, false);
+        return (raw, behind, false, plain);
     }
     let (_end, rest) = behind.split_at(1);
-    (without_cr(raw), rest, true)
+    let (line, tested) = without_cr(raw, plain);
+    (line, rest, true, tested)
 }
 
 /// Whether a line holds an item: it has words, and is neither a comment nor of the header.
@@ -67,7 +87,7 @@ pub fn line_of(bytes: &[u8], place: usize) -> u64
     let mut left = place;
     let mut more = true;
     while more {
-        let (line, behind, ended) = next_line(rest);
+        let (line, behind, ended, _plain) = next_line(rest);
         if is_item_line(line) {
             if left == 0 {
                 return number;

@@ -31,8 +31,8 @@ fn read_lines(alloc: Global, bytes: &[u8]) -> Result<Reading, ParseRefusal>
     let mut number: u64 = 1;
     let mut more = true;
     while more {
-        let (line, behind, ended) = next_line(rest);
-        reading.read_line(alloc, number, line)?;
+        let (line, behind, ended, plain) = next_line(rest);
+        reading.read_line(alloc, number, plain, line)?;
         number += 1;
         rest = behind;
         more = ended;

@@ -1,13 +1,11 @@
 //! Gates: sessions that are held up in an order which no thread alone could take, and that each critical section passes.
+use crate::gates::TestGate;
+use crate::recorder::Recorder;
 use crate::runs::is_lawful;
 use crate::test_help::{check_report, report_past};
 use crate::turns::{A, B, Row, check_turns, report_of_turns};
-use engine_parts::Gate;
 use script_rounds::RoundThreads;
-use std::alloc::AllocGlobal;
 use std::process::Abort;
-use std::sync::Wait;
-use std::sync::atomic::{AtomicBool, AtomicU64, Ordering};
 
 /// Two sessions that cross: the first one's command 2 waits until the second one comes with its command 3, and that until the
 /// first comes with its command 3.
@@ -175,79 +173,31 @@ r 26 multi 3:keysh 4:sh -> ok 1 1
 r 27 drop s -> ok
 ";
 
-/// Counts how often each of 13 sessions comes with each of its first 27 commands.
-#[derive(Drop)]
-struct Recorder {
-    /// Of one session after another, 28 each.
-    came: Vec<AtomicU64>,
-    /// Whether a call came out of turn, or of another session or command.
-    is_wrong: AtomicBool,
-}
-
-impl Recorder {
-    fn new(rt: &(impl Abort + AllocGlobal)) -> Recorder {
-        let mut came = Vec::new(rt.alloc());
-        for _ in 0..364 {
-            came.push(AtomicU64::new(0)).expect(rt, "memory");
-        }
-        Recorder {
-            came,
-            is_wrong: AtomicBool::new(false),
-        }
-    }
-
-    fn counter(&self, session: u32, command: u64) -> Option<&AtomicU64> {
-        if session >= 13 || command >= 28 {
-            return None;
-        }
-        self.came.get(session as usize * 28 + command as usize)
-    }
-
-    /// Whether the session came with this command.
-    fn has(&self, session: u32, command: u64) -> bool {
-        match self.counter(session, command) {
-            Some(count) => count.load(Ordering::SeqCst) > 0,
-            None => false,
-        }
-    }
-}
-
-impl Gate for Recorder {
-    fn before<R: Wait>(&self, _rt: &R, session: u32, command: u64, hold: u64) {
-        let earlier = match self.counter(session, command) {
-            Some(count) => count.fetch_add(1, Ordering::SeqCst),
-            None => hold,
-        };
-        if earlier.wrapping_add(1) != hold {
-            self.is_wrong.store(true, Ordering::SeqCst);
-        }
-    }
-}
-
 /// The session came to the gate with this command.
-fn check_came(rt: &impl Abort, gate: &Recorder, session: u32, command: u64) {
-    assert!(rt; gate.has(session, command), "{session} {command}");
+fn check_came(rt: &impl Abort, recorder: &Recorder, session: u32, command: u64) {
+    assert!(rt; recorder.has(session, command), "{session} {command}");
 }
 
 /// The ids are 3 to 26: of twelve transactions and of twelve savepoints, six of which are undone. Each command that enters
 /// a lock comes to the gate, with the numbers of its sections from 1 on.
 #[test]
 fn gate_sees_every_section(rt: HostRuntime) {
-    let gate = Recorder::new(&rt);
+    let recorder = Recorder::new(&rt);
+    let gate = TestGate::Counts(&recorder);
     let report = report_past(&rt, ORDERS, RoundThreads::OneEach, &gate);
     check_report(&rt, "orders", ORDERED, report.as_str());
     assert!(rt; report.matches(" -> visible\n").count() == 18);
     assert!(rt; report.matches(" -> hidden\n").count() == 6);
-    assert!(rt; !gate.is_wrong.load(Ordering::SeqCst));
+    assert!(rt; !recorder.is_wrong());
     for session in 0..12u32 {
-        check_came(&rt, &gate, session, 2);
-        check_came(&rt, &gate, session, 4);
-        check_came(&rt, &gate, session, 6);
+        check_came(&rt, &recorder, session, 2);
+        check_came(&rt, &recorder, session, 4);
+        check_came(&rt, &recorder, session, 6);
         if session % 2 == 1 {
-            check_came(&rt, &gate, session, 5);
+            check_came(&rt, &recorder, session, 5);
         }
     }
     for command in 1..28u64 {
-        check_came(&rt, &gate, 12, command);
+        check_came(&rt, &recorder, 12, command);
     }
 }

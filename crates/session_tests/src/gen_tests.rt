@@ -1,7 +1,7 @@
 //! Runs of generated scripts: their lines are those that another program of the same format printed, and no source is
 //! read for them, nor for words that are refused.
+use crate::gates::TestGate;
 use crate::runs::{Ran, run_past, source_of};
-use engine_parts::OpenGate;
 use script_rounds::RoundThreads;
 use std::alloc::AllocGlobal;
 use std::process::Abort;
@@ -69,7 +69,7 @@ fn run_beside_a_source(
 ) -> Ran {
     let mut source = source_of(rt, "a begin\n", &[]);
     let threads = RoundThreads::AtMost(4);
-    let run = run_past(rt, words, &mut source, 200, threads, &OpenGate);
+    let run = run_past(rt, words, &mut source, 200, threads, &TestGate::Open);
     let left = source.read(&mut [0; 16]).ok();
     assert!(rt; left == Some(8), "the source was read");
     run

@@ -16,6 +16,8 @@ mod freeze_tests;
 #[cfg(test)]
 mod gate_tests;
 #[cfg(test)]
+mod gates;
+#[cfg(test)]
 mod gen_tests;
 #[cfg(test)]
 mod horizon_tests;
@@ -23,6 +25,8 @@ mod horizon_tests;
 mod lives_tests;
 #[cfg(test)]
 mod multi_tests;
+#[cfg(test)]
+mod recorder;
 #[cfg(test)]
 mod round_tests;
 #[cfg(test)]

@@ -1,7 +1,7 @@
 //! The first worked runs, and how a run ends otherwise.
+use crate::gates::TestGate;
 use crate::runs::{run_past, source_of};
 use crate::test_help::check_rows;
-use engine_parts::OpenGate;
 use script_rounds::RoundThreads;
 use std::alloc::AllocGlobal;
 use std::process::Abort;
@@ -182,7 +182,14 @@ const ENDINGS: [Ending; 4] = [
 fn check_ending(rt: &(impl Abort + AllocGlobal + Threads + Wait + Sync), row: &Ending) {
     let mut source = source_of(rt, row.script, row.failing);
     let threads = RoundThreads::AtMost(4);
-    let run = run_past(rt, &["run"], &mut source, row.room, threads, &OpenGate);
+    let run = run_past(
+        rt,
+        &["run"],
+        &mut source,
+        row.room,
+        threads,
+        &TestGate::Open,
+    );
     let length = (row.text.len() as u64).min(row.room);
     let is_well = run.status == row.status
         && row.text.starts_with(run.written.as_str())
@@ -224,6 +231,6 @@ impl Source for Endless {
 #[test]
 fn script_past_the_limit_is_refused(rt: HostRuntime) {
     let threads = RoundThreads::AtMost(4);
-    let run = run_past(&rt, &["run"], &mut Endless, 100, threads, &OpenGate);
+    let run = run_past(&rt, &["run"], &mut Endless, 100, threads, &TestGate::Open);
     assert!(rt; run.status == 1 && run.written.as_str() == "script 0 size\n");
 }

@@ -1,6 +1,10 @@
 //! Runs of the tool on a script in memory, and the checker over a report.
-use disk_core::MemMedia;
-use engine_parts::Gate;
+ghost use Rattle.std.specs.Prelude.{IsTrue};
+ghost use Rattle.session_run.specs.Guarantee.{MayRunOver};
+ghost use Rattle.session_run.specs.Unknown.{no_log};
+
+use crate::gates::TestGate;
+use disk_core::{Media, MemMedia};
 use report_check::check_tool;
 use script_rounds::RoundThreads;
 use session_run::run_tool;
@@ -8,7 +12,7 @@ use std::alloc::AllocGlobal;
 use std::process::Abort;
 use std::sync::Wait;
 use std::thread::Threads;
-use tx_io::{MemSink, MemSource, Source};
+use tx_io::{MemSink, MemSource, Sink, Source};
 
 /// The status of a run, and what it wrote.
 #[derive(Drop)]
@@ -17,18 +21,37 @@ pub struct Ran {
     pub written: String,
 }
 
-/// The tool over a new media in memory, without its contract, so that a test proves no more than that it is safe.
-fn status_past<S: Source, G: Gate + Sync>(
+/// The tool over a media, without its promises, so that a test proves no more than that it is safe.
+fn status_over<S: Source, K: Sink, M: Media>(
+    rt: &(impl AllocGlobal + Threads + Wait + Sync),
+    words: &[String],
+    source: &mut S,
+    sink: &mut K,
+    media: &mut M,
+    threads: RoundThreads,
+    gate: &TestGate<'_>,
+) -> u8
+where
+    M::Log: Sync,
+    M::Pages: Sync,
+    requires idle { IsTrue (M.is_idle media.old) }
+    requires may { MayRunOver M.Media M.Log.LogDisk M.Pages.PageDisk no_log media.old }
+{
+    let alloc = rt.alloc();
+    run_tool(rt, alloc, words, source, sink, media, threads, gate)
+}
+
+/// The same over a new media in memory.
+fn status_past<S: Source>(
     rt: &(impl AllocGlobal + Threads + Wait + Sync),
     words: &[String],
     source: &mut S,
     sink: &mut MemSink,
     threads: RoundThreads,
-    gate: &G,
+    gate: &TestGate<'_>,
 ) -> u8 {
-    let alloc = rt.alloc();
-    let mut media = MemMedia::new(alloc);
-    run_tool(rt, alloc, words, source, sink, &mut media, threads, gate)
+    let mut media = MemMedia::new(rt.alloc());
+    status_over(rt, words, source, sink, &mut media, threads, gate)
 }
 
 /// The words of a command line.
@@ -61,13 +84,13 @@ fn text_of(rt: &(impl Abort + AllocGlobal), sink: &MemSink) -> String {
 }
 
 /// Runs the tool with these words on such threads and past this gate, with so much room for what it writes.
-pub fn run_past<S: Source, G: Gate + Sync>(
+pub fn run_past<S: Source>(
     rt: &(impl Abort + AllocGlobal + Threads + Wait + Sync),
     words: &[&str],
     source: &mut S,
     room: u64,
     threads: RoundThreads,
-    gate: &G,
+    gate: &TestGate<'_>,
 ) -> Ran {
     let words = words_of(rt, words);
     let mut sink = sink_of(rt, room);
@@ -76,10 +99,15 @@ pub fn run_past<S: Source, G: Gate + Sync>(
     Ran { status, written }
 }
 
+/// The checker over a report, without its promises.
+fn check_status<S: Source, K: Sink>(rt: &impl AllocGlobal, source: &mut S, sink: &mut K) -> u8 {
+    check_tool(rt.alloc(), source, sink)
+}
+
 /// Whether the checker calls the report lawful.
 pub fn is_lawful(rt: &(impl Abort + AllocGlobal), report: &str) -> bool {
     let mut source = source_of(rt, report, &[]);
     let mut sink = sink_of(rt, 100);
-    let status = check_tool(rt.alloc(), &mut source, &mut sink);
+    let status = check_status(rt, &mut source, &mut sink);
     status == 0 && sink.held() == b"lawful\n".as_slice()
 }

@@ -1,6 +1,6 @@
 //! What the tests share: runs of the tool on a script in memory, and rows that their reports are held against.
+use crate::gates::TestGate;
 use crate::runs::{is_lawful, run_past, source_of};
-use engine_parts::{Gate, OpenGate};
 use script_rounds::RoundThreads;
 use std::alloc::AllocGlobal;
 use std::process::Abort;
@@ -8,11 +8,11 @@ use std::sync::Wait;
 use std::thread::Threads;
 
 /// The report that a run of the script writes, with status 0, its sessions on such threads and past this gate.
-pub fn report_past<G: Gate + Sync>(
+pub fn report_past(
     rt: &(impl Abort + AllocGlobal + Threads + Wait + Sync),
     script: &str,
     threads: RoundThreads,
-    gate: &G,
+    gate: &TestGate<'_>,
 ) -> String {
     let mut source = source_of(rt, script, &[]);
     let run = run_past(rt, &["run"], &mut source, 100_000, threads, gate);
@@ -76,7 +76,12 @@ fn check_run(
     texts: &str,
 ) {
     let script = written_out(rt, banks, script);
-    let report = report_past(rt, script.as_str(), RoundThreads::AtMost(4), &OpenGate);
+    let report = report_past(
+        rt,
+        script.as_str(),
+        RoundThreads::AtMost(4),
+        &TestGate::Open,
+    );
     check_report(rt, name, texts, report.as_str());
 }
 

@@ -1,6 +1,6 @@
 //! Sessions that wait for each other before critical sections that a row names.
+use crate::gates::TestGate;
 use crate::test_help::{check_report, report_past, written_out};
-use engine_parts::Gate;
 use script_rounds::RoundThreads;
 use std::alloc::AllocGlobal;
 use std::process::Abort;
@@ -9,10 +9,14 @@ use std::sync::atomic::{AtomicBool, AtomicU64, Ordering};
 use std::thread::{Threads, yield_now};
 
 /// So often a session looks whether another one came, before it goes on.
-const LOOKS: u32 = 1_000_000;
+const LOOKS: u32 = 1_000_000_000;
 
-/// So often it looks where it is to wait in vain.
-const FEW_LOOKS: u32 = 1_000;
+/// So often it looks where it is to wait in vain: for longer than a thread takes to start.
+const FEW_LOOKS: u32 = 1_000_000;
+
+/// Behind so many looks it lets other threads run. That takes a hundredth of a second where five of them are busy on its
+/// processor.
+const LOOKS_A_TURN: u32 = 1_000;
 
 /// No command of a row has as many critical sections.
 const MOST_SECTIONS: u64 = 1_000;
@@ -40,7 +44,7 @@ pub const C: u32 = 2;
 
 /// Holds sessions up as a row's turns say.
 #[derive(Drop)]
-struct Turns {
+pub struct Turns {
     turns: &'static [Turn],
     looks: u32,
     /// The place to which each session has come.
@@ -67,19 +71,20 @@ impl Turns {
     }
 
     fn wait_for(&self, session: u32, until: u64) {
-        for _ in 0..self.looks {
+        for look in 0..self.looks {
             if self.has_come(session, until) || self.ran_out.load(Ordering::SeqCst) {
                 return;
             }
-            yield_now();
+            if look % LOOKS_A_TURN == 0 {
+                yield_now();
+            }
         }
         self.ran_out.store(true, Ordering::SeqCst);
     }
-}
 
-impl Gate for Turns {
-    fn before<R: Wait>(&self, _rt: &R, session: u32, command: u64, hold: u64) {
-        let here = place((command, hold));
+    /// Holds a session before this section, as the turns say.
+    pub fn hold(&self, session: u32, section: Section) {
+        let here = place(section);
         if let Some(came) = self.came.get(session as usize) {
             came.store(here, Ordering::SeqCst);
         }
@@ -108,10 +113,11 @@ pub fn report_of_turns(
     waits_in_vain: bool,
 ) -> String {
     let looks = if waits_in_vain { FEW_LOOKS } else { LOOKS };
-    let gate = Turns::of(row.turns, looks);
+    let turns = Turns::of(row.turns, looks);
     let script = written_out(rt, "", row.script);
+    let gate = TestGate::Turns(&turns);
     let report = report_past(rt, script.as_str(), threads, &gate);
-    let ran_out = gate.ran_out.load(Ordering::SeqCst);
+    let ran_out = turns.ran_out.load(Ordering::SeqCst);
     assert!(rt;
         ran_out == waits_in_vain,
         "{}: {ran_out} {report}",

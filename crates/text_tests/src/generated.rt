@@ -76,6 +76,7 @@ pub fn scripts_have_the_counts_that_were_printed_elsewhere(rt: &(impl Abort + Al
 pub fn first_script_of_the_format_is_drawn_as_it_says(rt: &(impl Abort + AllocGlobal)) {
     check_script(
         rt,
+        "first_script_of_the_format_is_drawn_as_it_says",
         &script_of(rt, 1, 1),
         4,
         &[b"a"],
@@ -100,7 +101,14 @@ pub fn first_script_of_the_format_is_drawn_as_it_says(rt: &(impl Abort + AllocGl
 }
 
 pub fn no_transactions_make_no_script_lines(rt: &(impl Abort + AllocGlobal)) {
-    check_script(rt, &script_of(rt, 5, 0), 4, &[], &[]);
+    check_script(
+        rt,
+        "no_transactions_make_no_script_lines",
+        &script_of(rt, 5, 0),
+        4,
+        &[],
+        &[],
+    );
 }
 
 /// Four sessions take turns, and a round ends behind 64 transactions: of 130 transactions there are two rounds.

@@ -1,4 +1,4 @@
-//! Numbers and lists, and the texts that are put together.
+//! Ids, lists and joined texts by their parts, and the check of a row.
 use std::alloc::AllocGlobal;
 use std::process::Abort;
 use tx_events::{FullMulti, FullXid, Sequence};

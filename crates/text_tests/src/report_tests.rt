@@ -14,7 +14,8 @@ use tx_model::{LifeReport, Report};
 /// This is the text of the report.
 fn check_printed(rt: &(impl Abort + AllocGlobal), report: &Report, wanted: &str) {
     let text = print_report(rt.alloc(), report).expect(rt, "memory");
-    check_row(rt, text.as_slice() == wanted.as_bytes(), wanted);
+    let came = String::from_utf8(text).ok().expect(rt, "a text");
+    check_row(rt, came.as_str() == wanted, came.as_str());
 }
 
 /// The report of this text, whose text is the same.
@@ -105,7 +106,7 @@ fn check_wrong_line(rt: &(impl Abort + AllocGlobal), text: &str, wanted: u64) {
         Err(ReadRefusal::Line { line }) => line,
         _ => 0,
     };
-    check_row(rt, found == wanted, text);
+    assert!(rt; found == wanted, "{text}: line {found}");
 }
 
 fn the_first_wrong_line_is_named(rt: &(impl Abort + AllocGlobal)) {

@@ -22,14 +22,16 @@ fn read(rt: &(impl Abort + AllocGlobal), text: &str) -> Script {
     script
 }
 
-/// The first fault of the text is of this line and of this kind.
-fn check_fault(rt: &(impl Abort + AllocGlobal), text: &str, line: u64, kind: Kind) {
-    let fault = ParseRefusal::Fault { line, kind };
-    let found = match parse(rt.alloc(), text.as_bytes()) {
-        Err(refusal) => refusal == fault,
+/// Whether the first fault of the text is of this line and of this kind.
+fn has_fault(rt: &impl AllocGlobal, text: &str, line: u64, kind: Kind) -> bool {
+    match parse(rt.alloc(), text.as_bytes()) {
+        Err(refusal) => refusal == ParseRefusal::Fault { line, kind },
         Ok(_) => false,
-    };
-    check_row(rt, found, text);
+    }
+}
+
+fn check_fault(rt: &(impl Abort + AllocGlobal), text: &str, line: u64, kind: Kind) {
+    check_row(rt, has_fault(rt, text, line, kind), text);
 }
 
 const FAULTS: [(&str, u64, Kind); 24] = [
@@ -102,6 +104,7 @@ fn blanks_comments_and_line_ends_are_no_part_of_a_script(rt: &(impl Abort + Allo
     let text = "  # a script\r\n\t.banks\t016\r\n\n b  multi 003:upd\t4:sh \n.crash torn\nb did 1";
     check_script(
         rt,
+        text,
         &read(rt, text),
         16,
         &[b"b"],
@@ -113,7 +116,10 @@ fn blanks_comments_and_line_ends_are_no_part_of_a_script(rt: &(impl Abort + Allo
 }
 
 fn check_session_at(rt: &impl Abort, script: &Script, place: usize, session: Option<u32>) {
-    assert!(rt; script.items.items().session_at(place) == session);
+    assert!(rt;
+        script.items.items().session_at(place) == session,
+        "session at {place}"
+    );
 }
 
 fn each_command_has_its_own_name_and_number(rt: &(impl Abort + AllocGlobal)) {
@@ -123,6 +129,7 @@ fn each_command_has_its_own_name_and_number(rt: &(impl Abort + AllocGlobal)) {
     );
     check_script(
         rt,
+        "each_command_has_its_own_name_and_number",
         &script,
         4,
         &[b"a", b"b"],
@@ -143,6 +150,7 @@ fn each_multixact_and_dump_has_its_own_part(rt: &(impl Abort + AllocGlobal)) {
         "a multi 3:sh 4:upd\n.dump log 1099511627776 64\na multi 5:keysh\n.dump xact 7 8 9\n";
     check_script(
         rt,
+        text,
         &read(rt, text),
         4,
         &[b"a"],
@@ -227,9 +235,14 @@ fn sixty_fifth_session_is_one_too_many(rt: &(impl Abort + AllocGlobal)) {
 fn command_past_a_hundred_thousand_in_a_round_is_one_too_many(rt: &(impl Abort + AllocGlobal)) {
     let writes = "a write\n".repeat(rt.alloc(), 100_000).expect(rt, "memory");
     let two_rounds = joined(rt, &[writes.as_str(), ".dump log 0 1\n", writes.as_str()]);
-    let _script = read(rt, two_rounds.as_str());
+    let is_read = parse(rt.alloc(), two_rounds.as_str().as_bytes()).is_ok();
+    check_row(rt, is_read, "100000 in each of two rounds");
     let one_more = joined(rt, &[two_rounds.as_str(), "a write\n"]);
-    check_fault(rt, one_more.as_str(), 200_002, Kind::Limit);
+    check_row(
+        rt,
+        has_fault(rt, one_more.as_str(), 200_002, Kind::Limit),
+        "100001 in the second round",
+    );
 }
 
 #[test]

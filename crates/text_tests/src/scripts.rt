@@ -73,14 +73,14 @@ fn number_of(command: &Command) -> u64 {
 
 fn is_of_session(session: u32, command: &Command, line: &Line) -> bool {
     match line {
-        Line::Of(by, word, name, number) => {
-            session == *by
+        Line::Of(of, word, name, number) => {
+            session == *of
                 && word_of(command) == *word
                 && name_of(command) == *name
                 && number_of(command) == *number
         }
-        Line::Multi(by, pairs) => match command {
-            Command::Multi { members } => session == *by && members.items() == *pairs,
+        Line::Multi(of, pairs) => match command {
+            Command::Multi { members } => session == *of && members.items() == *pairs,
             _ => false,
         },
         _ => false,
@@ -90,7 +90,7 @@ fn is_of_session(session: u32, command: &Command, line: &Line) -> bool {
 fn is_line(item: &Item, line: &Line) -> bool {
     match (item, line) {
         (Item::Run { session, command }, line) => is_of_session(*session, command, line),
-        (Item::Crash { how }, Line::Crash(by)) => how == by,
+        (Item::Crash { how }, Line::Crash(wanted)) => how == wanted,
         (Item::Dump { what, at, length }, Line::Dump(of, from, count)) => {
             what == of && at == from && length == count
         }
@@ -98,27 +98,36 @@ fn is_line(item: &Item, line: &Line) -> bool {
     }
 }
 
-fn check_names(rt: &impl Abort, script: &Script, names: &[&[u8]]) {
+fn have_names(script: &Script, names: &[&[u8]]) -> bool {
     let found = script.names.items();
-    assert!(rt; found.len() == names.len());
-    for (name, wanted) in found.iter().zip(names) {
-        assert!(rt; name.items() == *wanted);
+    if found.len() != names.len() {
+        return false;
     }
+    for (name, wanted) in found.iter().zip(names) {
+        if name.items() != *wanted {
+            return false;
+        }
+    }
+    true
 }
 
 /// The script has so many banks, sessions of these names and these lines.
 pub fn check_script(
     rt: &(impl Abort + AllocGlobal),
+    row: &str,
     script: &Script,
     banks: u32,
     names: &[&[u8]],
     lines: &[Line],
 ) {
-    check_names(rt, script, names);
+    assert!(rt; have_names(script, names), "{row}: names");
     let items = script.items.items();
-    assert!(rt; script.banks == banks && items.len() == lines.len());
+    assert!(rt;
+        script.banks == banks && items.len() == lines.len(),
+        "{row}: banks or count"
+    );
     for (place, line) in lines.iter().enumerate() {
         let item = items.get(place).expect(rt, "memory").expect(rt, "an item");
-        assert!(rt; is_line(&item, line), "at {place}");
+        assert!(rt; is_line(&item, line), "{row}: at {place}");
     }
 }

@@ -36,19 +36,24 @@ const ABORT: [u8; 29] =
     [2, 4, 1, 0, 0, 0, 0, 0, 0, 2, 0, 0, 0, 5, 1, 0, 0, 0, 0, 0, 0, 3, 0, 0, 0, 1, 0, 0, 0];
 
 const ABORTS: [Change; 6] = [
-    ("a tag of no record", 0, 0, false),
-    ("another tag with the same fields", 0, 6, false),
-    ("a commit", 0, 1, true),
-    ("a top of 4 is", 2, 0, true),
+    ("a tag of no record, 0", 0, 0, false),
+    ("a tag of no record, 6", 0, 6, false),
+    ("another tag with the same fields, a commit's", 0, 1, true),
+    ("a top of 4", 2, 0, true),
     ("a subtransaction that isn't above its top", 13, 4, false),
-    ("one that isn't above the one before", 25, 0, false),
+    (
+        "a subtransaction that isn't above the one before",
+        25,
+        0,
+        false,
+    ),
 ];
 
 #[rattlefmt::skip]
 const TRUNCATION: [u8; 25] =
     [5, 3, 0, 0, 0, 1, 0, 0, 0, 2, 0, 0, 0, 0, 0, 0, 0, 9, 0, 0, 0, 0, 0, 0, 0];
 
-const TRUNCATIONS: [Change; 1] = [("an oldest id of 2 behind an epoch isn't", 1, 2, false)];
+const TRUNCATIONS: [Change; 1] = [("an oldest id of 2 behind an epoch", 1, 2, false)];
 
 #[rattlefmt::skip]
 const MULTI: [u8; 39] =
@@ -69,7 +74,7 @@ const CHECKPOINT: [u8; 57] =
     [4, 0, 0, 0, 0, 0, 0, 0, 0, 3, 0, 0, 0, 0, 0, 0, 0, 3, 0, 0, 0, 0, 0, 0, 0, 1, 0, 0, 0, 0, 0, 0, 0,
         1, 0, 0, 0, 0, 0, 0, 0, 1, 0, 0, 0, 0, 0, 0, 0, 1, 0, 0, 0, 0, 0, 0, 0];
 
-const CHECKPOINTS: [Change; 1] = [("the oldest id of a checkpoint is none", 17, 0, false)];
+const CHECKPOINTS: [Change; 1] = [("a checkpoint whose oldest id is none", 17, 0, false)];
 
 const UNLAWFUL: [(&[u8], &[Change]); 4] = [
     (&ABORT, &ABORTS),
@@ -87,7 +92,10 @@ fn records_have_the_bytes_of_the_format(rt: HostRuntime) {
     for (bytes, changes) in &UNLAWFUL {
         for (name, at, byte, wanted) in *changes {
             let came = is_read(&rt, bytes, *at, *byte);
-            assert!(rt; came == *wanted, "{name}");
+            assert!(rt;
+                came == *wanted,
+                "an_unlawful_record_is_not_read: {name}: {came} came"
+            );
         }
     }
 }

@@ -1,4 +1,5 @@
-//! A log over the volume of these tests: its calls without their contracts, so that a test proves no more than that they are safe.
+//! A log over the volume of these tests: its calls without their contracts, so that a test proves no more than that they
+//! are safe.
 use crate::test_disk::TestDisk;
 use crate::test_rec::{Record, rec_of};
 use disk_core::Crash;
@@ -41,7 +42,7 @@ pub enum Call<'a> {
 
 #[derive(Clone, Copy, Debug, PartialEq, Eq)]
 pub enum Answer {
-    /// As a wanted one.
+    /// Wanted where any answer will do.
     Any,
     Done,
     Refused(LogRefusal),
@@ -181,7 +182,7 @@ fn ask(rt: &(impl Abort + AllocGlobal), open: &mut Started<TestDisk>, call: Call
                 Err(refusal) => Answer::Refused(refusal),
             }
         }
-        _ => Answer::MayNot,
+        Call::New | Call::Open(_) | Call::Reopen | Call::Crash => Answer::MayNot,
     }
 }
 

@@ -92,7 +92,9 @@ pub fn is_spelled(rt: &(impl Abort + AllocGlobal), rec: &Rec, bytes: &[u8]) -> b
     let mut followed = Vec::from_slice(alloc, bytes).expect(rt, "memory");
     assert!(rt; followed.push(77).is_ok());
     let found = read_rec(alloc, followed.as_slice()).expect(rt, "memory");
-    let again = found.expect(rt, "a record is read again");
+    let Some(again) = found else {
+        return false;
+    };
     if again.length != bytes.len() as u64 || !adds(rt, &again.rec, &[], bytes) {
         return false;
     }

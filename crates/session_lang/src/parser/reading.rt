@@ -1,7 +1,8 @@
 //! What has been read of a script, and one line more.
 
-ghost use Rattle.std.specs.Prelude.{◌≡◌, ◌&&◌, not, ℕ, ◌+◌, ◌<◌, ◌≤◌, List, [], ◌++◌, Some, Result, Ok, true, IfSome, IfNone, OnOk, length, slice_get};
+ghost use Rattle.std.specs.Prelude.{◌≡◌, ◌&&◌, not, ℕ, ◌+◌, ◌<◌, ◌≤◌, List, [], ◌∷◌, ◌++◌, Some, Result, Ok, Err, true, false, IfSome, IfNone, OnOk, length, slice_get};
 ghost use Rattle.script_lines.specs.Kinds.{Gives};
+ghost use Rattle.script_lines.specs.Header.{is_header_word};
 ghost use Rattle.script_lines.specs.LineWords.{is_plain, words_in};
 ghost use Rattle.tx_events.specs.Names.{is_name};
 ghost use Rattle.session_lang.specs.Reading.{HasRead, IsNew};
@@ -9,12 +10,12 @@ ghost use Rattle.session_lang.specs.Answers.{ReadsAs};
 ghost use Rattle.session_lang.specs.Plain.{IsInRange};
 ghost use Rattle.script_lines.specs.declared.kind.Kind.{Kind};
 ghost use Rattle.session_lang.specs.declared.parser.reading.Front.{Front};
-ghost use Rattle.session_lang.specs.Script.{at_line, place_of, with_turn, command_line, with_directive, is_dot, words_line, body_line, header_words, header_line, is_header_line, end_header, is_passed, read_line, no_front};
+ghost use Rattle.session_lang.specs.Script.{at_line, place_of, with_turn, command_line, with_directive, is_dot, words_line, header_words, is_header_line, end_header, is_passed, read_line, no_front};
 
 use crate::items::ItemList;
 use crate::script::ParseRefusal;
 use script_lines::{
-    Directive, Header, Kind, Stop, command_at, directive_at, is_header_word, is_plain, next_word,
+    Directive, Header, Kind, Stop, command_at, directive_at, is_header_word, next_word,
 };
 use std::alloc::Global;
 use tx_model::{Command, Memory, Name, NameList, is_name};
@@ -86,20 +87,22 @@ fn find_near(names: &[Name], last: usize, name: &[u8]) -> Option<usize>
     find(names, name)
 }
 
-/// Whether a line has no words, or is a comment without a fault.
-fn is_passed(plain: bool, line: &[u8]) -> bool
-    ensures { result ≡ (plain && is_passed (words_in line.now)) }
+/// Whether a line that begins with this word is a comment.
+fn is_comment(word: &[u8]) -> bool
+    requires { 0 < length word.now }
+    ensures { result ≡ is_passed (word.now ∷ []) }
 {
-    if !plain {
-        return false;
-    }
-    match next_word(line) {
-        Some((word, _rest)) => word[0] == b'#',
-        None => true,
-    }
+    word[0] == b'#'
 }
 
-/// Whether a line is of the header, which ends where another line comes.
+/// Whether a line that begins with this word is of the header, which ends where another line comes.
+fn is_of_header(late: bool, word: &[u8]) -> bool
+    ensures { result ≡ (not late && is_header_word word.now) }
+{
+    !late && is_header_word(word)
+}
+
+/// The same of a whole line.
 fn is_header_line(late: bool, line: &[u8]) -> bool
     ensures { result ≡ (not late && is_header_line (words_in line.now)) }
 {
@@ -238,15 +241,13 @@ impl Reading {
     }
 
     /// Adds the words of a line that isn't of the header.
-    fn words_line(&mut self, alloc: Global, line: &[u8]) -> Result<(), Stop>
+    fn words_line(&mut self, alloc: Global, word: &[u8], rest: &[u8]) -> Result<(), Stop>
         requires so_far { HasRead self.old.front.names self.old.commands.items self.old.front.items }
-        ensures adds { Gives (λ _. self.new.front) result (words_line self.old.front (words_in line.now)) }
+        requires word { 0 < length word.now }
+        ensures adds { Gives (λ _. self.new.front) result (words_line self.old.front (word.now ∷ words_in rest.now)) }
         ensures so_far { OnOk result (HasRead self.new.front.names self.new.commands.items self.new.front.items) }
-        ensures few { OnOk result (length self.new.front.items ≤ length self.old.front.items + length line.now) }
+        ensures few { OnOk result (length self.new.front.items ≡ length self.old.front.items + 1) }
     {
-        let Some((word, rest)) = next_word(line) else {
-            return Ok(());
-        };
         if word[0] == b'.' {
             let directive = directive_at(word, rest)?;
             self.end_round(directive)?;
@@ -255,36 +256,13 @@ impl Reading {
         self.command_line(alloc, word, rest)
     }
 
-    /// Adds a line that isn't of the header.
-    #[tactic(auto, unfolding(crate::specs::Script::body_line))]
-    fn body_line(&mut self, alloc: Global, plain: bool, line: &[u8]) -> Result<(), Stop>
-        requires so_far { HasRead self.old.front.names self.old.commands.items self.old.front.items }
-        requires tested { plain ≡ is_plain line.now }
-        ensures adds { Gives (λ _. self.new.front) result (body_line self.old.front line.now) }
-        ensures so_far { OnOk result (HasRead self.new.front.names self.new.commands.items self.new.front.items) }
-        ensures few { OnOk result (length self.new.front.items ≤ length self.old.front.items + length line.now) }
-    {
-        if !plain {
-            return Err(Stop::Fault(Kind::Byte));
-        }
-        self.words_line(alloc, line)
-    }
-
-    /// Adds a line of the header.
-    #[tactic(auto, unfolding(crate::specs::Script::header_line))]
-    fn header_line(&mut self, number: u64, plain: bool, line: &[u8]) -> Result<(), Stop>
-        requires tested { plain ≡ is_plain line.now }
-        ensures adds { Gives (λ _. self.new.front) result (header_line self.old.front number line.now) }
+    /// Adds the words of a line of the header.
+    fn header_words(&mut self, number: u64, word: &[u8], rest: &[u8]) -> Result<(), Stop>
+        ensures adds { Gives (λ _. self.new.front) result (header_words self.old.front number (word.now ∷ words_in rest.now)) }
         ensures names { self.new.front.names ≡ self.old.front.names }
         ensures items { self.new.front.items ≡ self.old.front.items }
         ensures commands { self.new.commands ≡ self.old.commands }
     {
-        if !plain {
-            return Err(Stop::Fault(Kind::Byte));
-        }
-        let Some((word, rest)) = next_word(line) else {
-            return Ok(());
-        };
         match self.front.header.with(word, rest) {
             Ok(header) => {
                 self.front.header = header;
@@ -312,22 +290,52 @@ impl Reading {
         Ok(())
     }
 
+    /// The refusal of a line with a byte that may not stand there; of the header, where the line ends it without a base.
+    fn refusal_of(&mut self, number: u64, line: &[u8]) -> ParseRefusal
+        requires faulty { is_plain line.now ≡ false }
+        ensures { ReadsAs {X = Unit {0}} (λ _. self.new.front) (Err result) (read_line self.old.front number line.now) }
+    {
+        let fault = ParseRefusal::Fault {
+            line: number,
+            kind: Kind::Byte,
+        };
+        if is_header_line(self.front.late, line) {
+            return fault;
+        }
+        match self.end_header() {
+            Ok(()) => fault,
+            Err(refusal) => refusal,
+        }
+    }
+
     /// Adds the line of this number.
     #[tactic(auto, unfolding(crate::specs::Script::read_line))]
-    pub fn read_line(&mut self, alloc: Global, number: u64, line: &[u8]) -> Result<(), ParseRefusal>
+    pub fn read_line(
+        &mut self,
+        alloc: Global,
+        number: u64,
+        plain: bool,
+        line: &[u8],
+    ) -> Result<(), ParseRefusal>
+        requires tested { plain ≡ is_plain line.now }
         requires so_far { HasRead self.old.front.names self.old.commands.items self.old.front.items }
         ensures adds { ReadsAs (λ _. self.new.front) result (read_line self.old.front number line.now) }
         ensures so_far { OnOk result (HasRead self.new.front.names self.new.commands.items self.new.front.items) }
         ensures few { OnOk result (length self.new.front.items ≤ length self.old.front.items + length line.now) }
     {
-        let plain = is_plain(line);
-        if is_passed(plain, line) {
+        if !plain {
+            return Err(self.refusal_of(number, line));
+        }
+        let Some((word, rest)) = next_word(line) else {
+            return Ok(());
+        };
+        if is_comment(word) {
             return Ok(());
         }
-        if is_header_line(self.front.late, line) {
-            return at_line(number, self.header_line(number, plain, line));
+        if is_of_header(self.front.late, word) {
+            return at_line(number, self.header_words(number, word, rest));
         }
         self.end_header()?;
-        at_line(number, self.body_line(alloc, plain, line))
+        at_line(number, self.words_line(alloc, word, rest))
     }
 }

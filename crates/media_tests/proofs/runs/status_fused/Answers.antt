@@ -8,13 +8,13 @@ use Rattle.session_run.proofs.Handed.{new_may_begin}
 use Rattle.media_tests.proofs.FusedRuns.{none_within}
 use Rattle.media_tests.proofs.runs.status_fused.Goals as goal
 
-pub run_tool-requires-clause-idle : goal.run_tool-requires-clause-idle
-run_tool-requires-clause-idle g c κs within = subst (λ (b : Bool). IsTrue (not b)) (sym c.new-media.ensures.idle) refl
+pub status_over-requires-clause-idle : goal.status_over-requires-clause-idle
+status_over-requires-clause-idle g c κs within = subst (λ (b : Bool). IsTrue (not b)) (sym c.of-media.ensures.idle) refl
 
-pub run_tool-requires-clause-may : goal.run_tool-requires-clause-may
-run_tool-requires-clause-may g c κs within = λ banks v mounted.
-    let m = c.new-media.result in
-    let made = c.new-media.ensures in
+pub status_over-requires-clause-may : goal.status_over-requires-clause-may
+status_over-requires-clause-may g c κs within = λ banks v mounted.
+    let m = c.of-media.result in
+    let made = c.of-media.ensures in
     let inner = c.new-inner.ensures in
     let empty = subst (λ (i : MemMedia). first_log i ≡ []) (sym made.inner) inner.log in
     let within_new = subst (λ (i : MemMedia). IsTrue (is_new i)) (sym made.inner) inner.new in

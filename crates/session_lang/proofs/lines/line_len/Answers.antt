@@ -6,4 +6,4 @@ use Rattle.session_lang.proofs.lines.line_len.Goals as goal
 pub returns-clause-value : goal.returns-clause-value
 returns-clause-value c =
     let b = c.args.bytes.now in
-    sym (prefix_len_is (λ x. not (is_line_end x)) b (length b) 0 (omega arith) (λ k h. c.loop-i.invariant k (omega arith)) (λ h. absurd (omega arith)))
+    sym (prefix_len_is (λ x. not (is_line_end x)) b (length b) 0 (omega arith) (λ k h. c.loop-i.invariant.before k (omega arith)) (λ h. absurd (omega arith)))

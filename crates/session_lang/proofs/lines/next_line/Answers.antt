@@ -5,8 +5,8 @@ use Rattle.session_lang.proofs.lines.next_line.Goals as goal
 
 pub returns-then-is_empty-clause-lines : goal.returns-then-is_empty-clause-lines
 returns-then-is_empty-clause-lines c =
-    last_line c.args.bytes.now c.split_at.result.0.now c.split_at.result.1.now c.line_len.result c.line_len.ensures.value c.split_at.ensures.front c.split_at.ensures.back (search rules)
+    last_line c.args.bytes.now c.split_at.result.0.now c.split_at.result.1.now c.line_len-count.result.0 c.line_len-count.ensures.value c.split_at.ensures.front c.split_at.ensures.back (search rules)
 
 pub returns-clause-lines : goal.returns-clause-lines
 returns-clause-lines c =
-    rw c.without_cr.ensures.line (line_and_more c.args.bytes.now c.split_at.result.0.now c.split_at.result.1.now c.split_at-2.result.1.now c.line_len.result c.line_len.ensures.value c.split_at.ensures.front c.split_at.ensures.back (not_empty c.split_at.result.1.now c.is_empty.result c.is_empty.ensures c.if-is_empty.false) c.split_at-2.ensures.back)
+    rw c.without_cr-tested.ensures.line (line_and_more c.args.bytes.now c.split_at.result.0.now c.split_at.result.1.now c.split_at-2.result.1.now c.line_len-count.result.0 c.line_len-count.ensures.value c.split_at.ensures.front c.split_at.ensures.back (not_empty c.split_at.result.1.now c.is_empty.result c.is_empty.ensures c.if-is_empty.false) c.split_at-2.ensures.back)

@@ -1,19 +1,17 @@
-use Rattle.std.proofs.Common.{◌∙◌, ◌&&◌, sym, ap}
+use Rattle.std.proofs.Common.{◌∙◌, ◌∷◌, sym, rules}
 use Rattle.script_lines.specs.LineWords.{words_in}
-use Rattle.session_lang.specs.Script.{header_line, body_line, is_passed}
-use Rattle.session_lang.proofs.LineLemmas.{body_read, header_read}
+use Rattle.session_lang.specs.Script.{header_words, words_line}
+use Rattle.session_lang.proofs.FirstWord.{body_words_read, header_words_read}
 use Rattle.session_lang.proofs.parser.reading.Reading.read_line.Goals as goal
 
-pub returns-then-is_header_line-clause-adds : goal.returns-then-is_header_line-clause-adds
-returns-then-is_header_line-clause-adds c =
-    let line = c.args.line.now in
-    let none = ap (λ p. p && is_passed (words_in line)) (sym c.is_plain-plain.ensures) ∙ sym c.is_passed.ensures ∙ c.if-is_passed.false in
-    let head = sym c.is_header_line.ensures ∙ c.if-is_header_line.true in
-    rw (header_read c.args.self.now.front c.args.number line none head) (c.at_line.ensures.told _ (header_line c.args.self.now.front c.args.number line) c.header_line.ensures.adds)
+pub returns-then-is_of_header-clause-adds : goal.returns-then-is_of_header-clause-adds
+returns-then-is_of_header-clause-adds c =
+    let f = c.args.self.now.front in let n = c.args.number in let w = c.in-Some.word.now in let ws = words_in c.in-Some.rest.now in
+    rw (header_words_read f n c.args.line.now w ws (search rules) c.in-Some.ensures.some (sym c.is_comment.ensures ∙ c.if-is_comment.false) (sym c.is_of_header.ensures ∙ c.if-is_of_header.true))
+    (c.at_line.ensures.told _ (header_words f n (w ∷ ws)) c.header_words.ensures.adds)
 
 pub returns-clause-adds : goal.returns-clause-adds
 returns-clause-adds c =
-    let line = c.args.line.now in
-    let none = ap (λ p. p && is_passed (words_in line)) (sym c.is_plain-plain.ensures) ∙ sym c.is_passed.ensures ∙ c.if-is_passed.false in
-    let body = sym c.is_header_line.ensures ∙ c.if-is_header_line.false in
-    rw (body_read c.args.self.now.front _ c.args.number line none body c.in_ok-end_header.ensures.adds) (c.at_line-2.ensures.told _ (body_line _ line) c.body_line.ensures.adds)
+    let f = c.args.self.now.front in let n = c.args.number in let w = c.in-Some.word.now in let ws = words_in c.in-Some.rest.now in
+    rw (body_words_read f _ n c.args.line.now w ws (search rules) c.in-Some.ensures.some (sym c.is_comment.ensures ∙ c.if-is_comment.false) (sym c.is_of_header.ensures ∙ c.if-is_of_header.false) c.in_ok-end_header.ensures.adds)
+    (c.at_line-2.ensures.told _ (words_line _ (w ∷ ws)) c.words_line.ensures.adds)

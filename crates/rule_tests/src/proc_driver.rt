@@ -87,25 +87,27 @@ impl Driver {
         }
     }
 
-    /// A snapshot under a name that isn't in use.
-    pub fn snap(&mut self, rt: &impl Abort, session: u32, name: &Name) -> SnapData
+    /// A snapshot under the name, or none where that is in use.
+    pub fn snap(&mut self, rt: &impl Abort, session: u32, name: &Name) -> Option<SnapData>
         requires { session < 3 }
     {
         let by = self.by(session);
-        assert!(rt; !self.table.is_live(session, name), "the name is in use");
-        self.table.snapshot(by, name).expect(rt, "memory")
+        if self.table.is_live(session, name) {
+            return None;
+        }
+        Some(self.table.snapshot(by, name).expect(rt, "memory"))
     }
 
-    /// The drop of a live snapshot.
-    pub fn drop_snap(&mut self, rt: &impl Abort, session: u32, name: &Name)
+    /// The drop of a live snapshot, if there is one of this name.
+    pub fn drop_snap(&mut self, session: u32, name: &Name) -> bool
         requires { session < 3 }
     {
         let by = self.by(session);
-        assert!(rt;
-            self.table.is_live(session, name),
-            "there is no such snapshot"
-        );
+        if !self.table.is_live(session, name) {
+            return false;
+        }
         self.table.drop_snapshot(by, name);
+        true
     }
 
     pub fn raise(&mut self, session: u32, oldest: FullXid) -> Result<(), Refusal>

@@ -27,7 +27,7 @@ enum Step<'a> {
 
 #[derive(Clone, Copy)]
 enum Act<'a> {
-    /// An id is asked for, below the one that the session has.
+    /// An id is asked for; where the session has one, it is a subid below it.
     Write(Wrote),
     /// The ids from one number to another are given.
     Writes(u64, u64),
@@ -35,8 +35,9 @@ enum Act<'a> {
     End(XactEnd),
     /// A snapshot under this letter: its xmin and xmax, tops and subids, and whether it overflowed.
     Snap(u8, (u64, u64), &'a [u64], &'a [u64], bool),
-    /// Its drop; one after the other, so often.
+    /// It is dropped.
     Drop(u8),
+    /// So many snapshots under this letter, each dropped before the next.
     SnapsAndDrops(u8, u32),
     /// An oldest id is announced.
     Raise(u64, Result<(), Why>),
@@ -232,7 +233,7 @@ fn are(ids: &IdList, numbers: &[u64]) -> bool {
     true
 }
 
-/// Whether this comes of what a session does.
+/// Whether what the step says comes of what a session does.
 fn does(rt: &impl process::Abort, procs: &mut Driver, session: u32, act: Act<'_>) -> bool {
     assert!(rt; session < 3);
     match act {
@@ -250,21 +251,22 @@ fn does(rt: &impl process::Abort, procs: &mut Driver, session: u32, act: Act<'_>
             true
         }
         Act::Snap(letter, limits, tops, subs, overflowed) => {
-            let snap = procs.snap(rt, session, &Name::of(&[letter]));
+            let Some(snap) = procs.snap(rt, session, &Name::of(&[letter])) else {
+                return false;
+            };
             (snap.xmin.number(), snap.xmax.number()) == limits
                 && snap.overflowed == overflowed
                 && are(&snap.xip, tops)
                 && are(&snap.subxip, subs)
         }
-        Act::Drop(letter) => {
-            procs.drop_snap(rt, session, &Name::of(&[letter]));
-            true
-        }
+        Act::Drop(letter) => procs.drop_snap(session, &Name::of(&[letter])),
         Act::SnapsAndDrops(letter, count) => {
             let name = Name::of(&[letter]);
             for _ in 0..count {
-                procs.snap(rt, session, &name);
-                procs.drop_snap(rt, session, &name);
+                let snap = procs.snap(rt, session, &name);
+                if snap.is_none() || !procs.drop_snap(session, &name) {
+                    return false;
+                }
             }
             true
         }
@@ -280,7 +282,7 @@ fn does(rt: &impl process::Abort, procs: &mut Driver, session: u32, act: Act<'_>
     }
 }
 
-/// Whether this comes of a step.
+/// Whether what the step says comes of it.
 fn goes(rt: &impl process::Abort, procs: &mut Driver, step: Step<'_>) -> bool {
     match step {
         Step::Of(session, act) => does(rt, procs, session, act),

@@ -26,8 +26,8 @@ returns-in-Ok g c = record {
       };
 }
 
-pub returns : goal.returns
-returns g c = record {
+pub returns-in-Err : goal.returns-in-Err
+returns-in-Err g c = record {
   lived = λ k b faults mounted opened. record {
     start_is = c.by-start.ensures ∙ (opened.begun.host.start ∙ opened.begun.start_is);
     over = tt;

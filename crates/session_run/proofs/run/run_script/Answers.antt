@@ -1,5 +1,5 @@
 use mir.Syntax.{of_param}
-use Rattle.std.proofs.Common.{List, None, Option, Some, arith, refl, subst, sym, false, ◌≡◌, ◌∙◌, rules}
+use Rattle.std.proofs.Common.{Err, IfErr, List, None, Ok, OnOk, Option, Result, Some, arith, refl, subst, sym, false, ◌≡◌, ◌∙◌, rules}
 use Rattle.std.proofs.lemmas.Result.{err_from_is_err_and, on_ok_weaker}
 use Rattle.tx_model.specs.declared.report.How.{How}
 use Rattle.session_lang.specs.declared.script.Item.{Item}
@@ -42,8 +42,8 @@ returns-in-Err-clause-stopped g c =
     (unopened_first l p s g.kept (m.is_new c.args.media.now) (m.begins c.args.media.now) (m.gives c.args.media.now) m.falls before now gives c.same.result c.in-Err.refusal (c.same.ensures ∙ c.cluster_of-cluster.ensures.is) c.in-Err.ensures.refused
     (λ was told. c.in-Err.ensures.again told was))
 
-pub loop-lives-init : goal.loop-lives-init
-loop-lives-init g c =
+pub lives-init : goal.lives-init
+lives-init g c =
     let s = c.args.script in
     let m = g.M.Media in
     let held = g.K.Sink.held c.args.sink.now in
@@ -59,29 +59,29 @@ pub run_part-lived-requires-clause-taken : goal.run_part-lived-requires-clause-t
 run_part-lived-requires-clause-taken g c κs within =
     let m = g.M.Media in
     let k = g.K.Sink in
-    let at = c.loop-lives in
+    let at = c.lives in
     let part = c.next_part-part.result in
     part_taken c.args.script (MayMount (m.is_new c.args.media.now) (m.begins c.args.media.now) (m.gives c.args.media.now)) g.kept (m.is_new c.args.media.now ≡ false) m.falls (k.held c.args.sink.now) (k.held at.sink) at.items at.number at.life at.invariant.0 part.0 part.1 part.2 c.next_part-part.ensures (c.requires.1.1.1.1.1.1.1.1.1.1.1.1.0)
 
 pub run_part-lived-requires-clause-may : goal.run_part-lived-requires-clause-may
 run_part-lived-requires-clause-may g c κs within =
-    let run = c.loop-lives.invariant.0.running in
+    let run = c.lives.invariant.0.running in
     record { cluster = run.cluster; begins = run.begins; faults = run.faults; mounted = run.mounted; sessions_are = run.sessions; opened = run.opened }
 
 -- ---- the last part
 
 pub end_run-requires-clause-ran : goal.end_run-requires-clause-ran
 end_run-requires-clause-ran g c κs within =
-    let at = c.loop-lives in
+    let at = c.lives in
     let h = at.invariant.0 in
     let run = h.running in
-    record { script = c.args.script; banks = h.banks; start = h.start; begun = h.begun; done = h.done; lives = h.lives; its = c.next_part-part.result.0; names_are = refl; count = h.count; life = at.life; running = run; is = c.run_part-lived.ensures run.cluster run.begins run.faults run.mounted run.opened }
+    record { script = c.args.script; banks = h.banks; start = h.start; begun = h.begun; done = h.done; lives = h.lives; its = c.next_part-part.result.0; names_are = refl; count = h.count; life = at.life; running = run; is = c.run_part-lived.ensures.lived run.cluster run.begins run.faults run.mounted run.opened }
 
 pub returns-in-None-clause-report : goal.returns-in-None-clause-report
 returns-in-None-clause-report g c =
     let m = g.M.Media in
     let k = g.K.Sink in
-    let at = c.loop-lives in
+    let at = c.lives in
     let h = at.invariant.0 in
     let run = h.running in
     let part = c.next_part-part.result in
@@ -92,13 +92,13 @@ returns-in-None-clause-report g c =
     let e = run_ends c.args.script (MayMount (m.is_new c.args.media.now) (m.begins c.args.media.now) (m.gives c.args.media.now)) g.kept (m.is_new c.args.media.now ≡ false) m.falls (k.held c.args.sink.now) (k.held at.sink) at.items at.number at.life h part.0 None part.2 is (k.held new.sink) w.0 (volumes_left c.run_part-lived.result.ended.closed) w.1 (m.gives new.media) refl w.2 w.3 in
     (h.banks, h.start, e.0, e.1, e.2, e.3))
     (c.end_run.ensures.last
-    (record { script = c.args.script; banks = h.banks; start = h.start; begun = h.begun; done = h.done; lives = h.lives; its = c.next_part-part.result.0; names_are = refl; count = h.count; life = at.life; running = run; is = c.run_part-lived.ensures run.cluster run.begins run.faults run.mounted run.opened }))
+    (record { script = c.args.script; banks = h.banks; start = h.start; begun = h.begun; done = h.done; lives = h.lives; its = c.next_part-part.result.0; names_are = refl; count = h.count; life = at.life; running = run; is = c.run_part-lived.ensures.lived run.cluster run.begins run.faults run.mounted run.opened }))
 
 pub returns-in-None-clause-stopped : goal.returns-in-None-clause-stopped
 returns-in-None-clause-stopped g c =
     let m = g.M.Media in
     let k = g.K.Sink in
-    let at = c.loop-lives in
+    let at = c.lives in
     let h = at.invariant.0 in
     let run = h.running in
     let part = c.next_part-part.result in
@@ -108,7 +108,21 @@ returns-in-None-clause-stopped g c =
     (λ stop w. part_stops c.args.script (MayMount (m.is_new c.args.media.now) (m.begins c.args.media.now) (m.gives c.args.media.now)) g.kept (m.is_new c.args.media.now ≡ false) m.falls (k.held c.args.sink.now) (k.held at.sink) (k.held new.sink) at.items at.number at.life h part.0 None part.2 is
     (m.faults c.args.media.now) (m.faults at.media) (m.faults new.media) (m.gives new.media) (k.faults c.args.sink.now) (k.faults at.sink) (k.faults new.sink) at.invariant.1 at.invariant.2 stop w)
     (c.end_run.ensures.stopped
-    (record { script = c.args.script; banks = h.banks; start = h.start; begun = h.begun; done = h.done; lives = h.lives; its = c.next_part-part.result.0; names_are = refl; count = h.count; life = at.life; running = run; is = c.run_part-lived.ensures run.cluster run.begins run.faults run.mounted run.opened }))
+    (record { script = c.args.script; banks = h.banks; start = h.start; begun = h.begun; done = h.done; lives = h.lives; its = c.next_part-part.result.0; names_are = refl; count = h.count; life = at.life; running = run; is = c.run_part-lived.ensures.lived run.cluster run.begins run.faults run.mounted run.opened }))
+
+where_ok : {T E X : Type 0} (r : Result T E) → X → OnOk r X
+where_ok (Ok y) x = x
+where_ok (Err e) x = tt
+
+where_err : {T E : Type 0} (P : E → Type 0) (r : Result T E) → ((e : E) → P e) → IfErr r P
+where_err P (Ok y) f = tt
+where_err P (Err e) f = f e
+
+pub returns-in-None-clause-used : goal.returns-in-None-clause-used
+returns-in-None-clause-used g c = where_ok c.end_run.result c.end_run.ensures.used
+
+pub returns-in-None-clause-used_so : goal.returns-in-None-clause-used_so
+returns-in-None-clause-used_so g c = where_err _ c.end_run.result (λ stop first. c.end_run.ensures.used)
 
 -- ---- a part that crashed
 
@@ -117,54 +131,54 @@ end_part-requires-clause-cluster g c κs within = c.cluster_of-cluster.ensures.c
 
 pub end_part-requires-clause-ran : goal.end_part-requires-clause-ran
 end_part-requires-clause-ran g c κs within =
-    let at = c.loop-lives in
+    let at = c.lives in
     let h = at.invariant.0 in
     let run = h.running in
-    record { script = c.args.script; banks = h.banks; start = h.start; begun = h.begun; done = h.done; lives = h.lives; its = c.next_part-part.result.0; names_are = refl; count = h.count; life = at.life; running = run; is = c.run_part-lived.ensures run.cluster run.begins run.faults run.mounted run.opened }
+    record { script = c.args.script; banks = h.banks; start = h.start; begun = h.begun; done = h.done; lives = h.lives; its = c.next_part-part.result.0; names_are = refl; count = h.count; life = at.life; running = run; is = c.run_part-lived.ensures.lived run.cluster run.begins run.faults run.mounted run.opened }
 
-pub returns-in_err-end_part-clause-stopped : goal.returns-in_err-end_part-clause-stopped
-returns-in_err-end_part-clause-stopped g c =
+pub returns-in_err-life-clause-stopped : goal.returns-in_err-life-clause-stopped
+returns-in_err-life-clause-stopped g c =
     let m = g.M.Media in
     let k = g.K.Sink in
-    let at = c.loop-lives in
+    let at = c.lives in
     let h = at.invariant.0 in
     let run = h.running in
     let part = c.next_part-part.result in
     let how = c.in-Some.how in
     let is = subst (λ (o : Option How). IsFirstPart at.items part.0 o part.2) c.in-Some.is c.next_part-part.ensures in
     let new = c.end_part.new in
-    let w = c.in_err-end_part.ensures.stopped
-    (record { script = c.args.script; banks = h.banks; start = h.start; begun = h.begun; done = h.done; lives = h.lives; its = c.next_part-part.result.0; names_are = refl; count = h.count; life = at.life; running = run; is = c.run_part-lived.ensures run.cluster run.begins run.faults run.mounted run.opened }) c.cluster_of-cluster.ensures.is in
+    let w = c.in_err-life.ensures.stopped
+    (record { script = c.args.script; banks = h.banks; start = h.start; begun = h.begun; done = h.done; lives = h.lives; its = c.next_part-part.result.0; names_are = refl; count = h.count; life = at.life; running = run; is = c.run_part-lived.ensures.lived run.cluster run.begins run.faults run.mounted run.opened }) c.cluster_of-cluster.ensures.is in
     let stopped = part_stops c.args.script (MayMount (m.is_new c.args.media.now) (m.begins c.args.media.now) (m.gives c.args.media.now)) g.kept (m.is_new c.args.media.now ≡ false) m.falls (k.held c.args.sink.now) (k.held at.sink) (k.held new.sink) at.items at.number at.life h part.0 (Some how) part.2 is
-    (m.faults c.args.media.now) (m.faults at.media) (m.faults new.media) (m.gives new.media) (k.faults c.args.sink.now) (k.faults at.sink) (k.faults new.sink) at.invariant.1 at.invariant.2 c.in_err-end_part.field-0.0 w in
+    (m.faults c.args.media.now) (m.faults at.media) (m.faults new.media) (m.gives new.media) (k.faults c.args.sink.now) (k.faults at.sink) (k.faults new.sink) at.invariant.1 at.invariant.2 c.in_err-life.field-0.0 w in
     let err = err_from_is_err_and c.from_residual.result c.from_residual.ensures.1 in
     rw (err.1, err.2) stopped
 
-pub loop-lives-smaller : goal.loop-lives-smaller
-loop-lives-smaller g c =
-    let at = c.loop-lives in
+pub lives-smaller : goal.lives-smaller
+lives-smaller g c =
+    let at = c.lives in
     let part = c.next_part-part.result in
     rest_shorter at.items part.0 part.1 part.2 c.next_part-part.ensures c.in-Some.how c.in-Some.is
 
-pub loop-lives-preserved : goal.loop-lives-preserved
-loop-lives-preserved g c =
+pub lives-preserved : goal.lives-preserved
+lives-preserved g c =
     let m = g.M.Media in
     let k = g.K.Sink in
-    let at = c.loop-lives in
+    let at = c.lives in
     let h = at.invariant.0 in
     let run = h.running in
     let part = c.next_part-part.result in
     let how = c.in-Some.how in
     let is = subst (λ (o : Option How). IsFirstPart at.items part.0 o part.2) c.in-Some.is c.next_part-part.ensures in
     let new = c.end_part.new in
-    let ran = c.in_ok-end_part.ensures in
+    let ran = c.in_ok-life.ensures in
     let w = ran.next
-    (record { script = c.args.script; banks = h.banks; start = h.start; begun = h.begun; done = h.done; lives = h.lives; its = c.next_part-part.result.0; names_are = refl; count = h.count; life = at.life; running = run; is = c.run_part-lived.ensures run.cluster run.begins run.faults run.mounted run.opened }) c.cluster_of-cluster.ensures.is in
+    (record { script = c.args.script; banks = h.banks; start = h.start; begun = h.begun; done = h.done; lives = h.lives; its = c.next_part-part.result.0; names_are = refl; count = h.count; life = at.life; running = run; is = c.run_part-lived.ensures.lived run.cluster run.begins run.faults run.mounted run.opened }) c.cluster_of-cluster.ensures.is in
     let media = at.invariant.1 in
     let sink = at.invariant.2 in
     let faults = ran.count in
     let later = ran.sink in (
-      come_on c.args.script (MayMount (m.is_new c.args.media.now) (m.begins c.args.media.now) (m.gives c.args.media.now)) g.kept (m.is_new c.args.media.now ≡ false) m.falls (k.held c.args.sink.now) (k.held at.sink) at.items at.number at.life h part.0 (Some how) part.2 is (k.held new.sink) w.0 (volumes_left c.run_part-lived.result.ended.closed) w.1 how c.in_ok-end_part.field-0 refl w.2 w.3,
+      come_on c.args.script (MayMount (m.is_new c.args.media.now) (m.begins c.args.media.now) (m.gives c.args.media.now)) g.kept (m.is_new c.args.media.now ≡ false) m.falls (k.held c.args.sink.now) (k.held at.sink) at.items at.number at.life h part.0 (Some how) part.2 is (k.held new.sink) w.0 (volumes_left c.run_part-lived.result.ended.closed) w.1 how c.in_ok-life.life refl w.2 w.3,
       omega (arith, media, faults),
       omega (arith, sink, later),
     )

@@ -1,5 +1,5 @@
 -- What a life leaves, and why none was opened.
-use Rattle.std.proofs.Common.{ℕ, ◌≡◌, ◌++◌, ◌∙◌, Err, IfErr, IfOk, List, Ok, Result, ap, append_assoc, inr}
+use Rattle.std.proofs.Common.{ℕ, ◌≡◌, ◌++◌, ◌∙◌, Err, IfErr, IfOk, List, Ok, Result, ap, append_assoc, inr, sym}
 use Rattle.disk_core.specs.declared.log_disk.LogDisk as logs
 use Rattle.disk_core.specs.declared.page_disk.PageDisk as disks
 use Rattle.disk_core.specs.declared.media.Volumes.{Volumes}
@@ -11,13 +11,9 @@ use Rattle.engine_life.specs.FirstLives.{with_banks}
 use Rattle.engine_life.specs.Refusals.{IsNoLife, IsUnopened}
 
 -- one text behind the other
-pub behind_text : (out history multis log crash a b c d : List ℕ) → a ≡ out ++ history → b ≡ a ++ multis → c ≡ b ++ log → d ≡ c ++ crash
-    → d ≡ out ++ (((history ++ multis) ++ log) ++ crash)
-behind_text out history multis log crash a b c d one two three four =
-    four
-    ∙ (ap (λ (t : List ℕ). t ++ crash)
-    (three ∙ (ap (λ (t : List ℕ). t ++ log) (two ∙ (ap (λ (t : List ℕ). t ++ multis) one ∙ append_assoc out history multis)) ∙ append_assoc out (history ++ multis) log))
-    ∙ append_assoc out ((history ++ multis) ++ log) crash)
+pub behind_text : (histories log crash a b : List ℕ) → a ≡ histories → b ≡ log ++ crash → a ++ b ≡ (histories ++ log) ++ crash
+behind_text histories log crash a b one two =
+    ap (λ (t : List ℕ). t ++ b) one ∙ (ap (λ (t : List ℕ). histories ++ t) two ∙ sym (append_assoc histories log crash))
 
 pub of_err : {X E : Type 0} (r : Result X E) (P Q : E → Type 0) → ((e : E) → P e → Q e) → IfErr r P → IfErr r Q
 of_err (Ok x) P Q f k = tt

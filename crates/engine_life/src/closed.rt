@@ -106,21 +106,32 @@ impl<L: LogDisk + Drop, P: PageDisk + Drop> ClosedLife<L, P> {
     pub fn into_volumes(self) -> Volumes<L, P>
         ensures { result ≡ volumes_left self }
     {
+        let (volumes, _, _) = self.into_histories();
+        volumes
+    }
+
+    // With the histories. The log's records go.
+    pub(crate) fn into_histories(self) -> (Volumes<L, P>, EventList, Box<MultiGen>)
+        ensures volumes { result.0 ≡ volumes_left self }
+        ensures events { result.1 ≡ self.events }
+        ensures multis { result.2 ≡ self.multis }
+    {
         let ClosedLife {
             log,
-            events: _,
-            multis: _,
+            events,
+            multis,
             xact,
             subtrans,
             offsets,
             members,
         } = self;
-        Volumes {
+        let volumes = Volumes {
             log: log.into_disk(),
             xact,
             subtrans,
             offsets,
             members,
-        }
+        };
+        (volumes, events, multis)
     }
 }

@@ -17,7 +17,7 @@ mod refusal;
 mod sessions;
 
 pub use closed::{ClosedLife, close_life};
-pub use ending::end_life;
+pub use ending::{EndText, end_life};
 pub use life::{Aside, OpenLife};
 pub use old_parts::open_old;
 pub use opened::open_life;

@@ -1,5 +1,8 @@
--- A front of a text.
-use Rattle.std.proofs.Common.{Err, List, Ok, Result, [], ap, take, zero, suc, refl, ℕ, ◌++◌, ◌∷◌, ◌≡◌}
+-- A front of a text, also of one that is written in pieces.
+use Rattle.std.proofs.Common.{Err, List, Ok, Option, Result, [], ap, length, refl, subst, suc, sym, take, zero, ℕ, ◌++◌, ◌+◌, ◌∙◌, ◌∷◌, ◌≡◌}
+use Rattle.std.proofs.KnownBytes.{Appends-trans}
+use Rattle.std.proofs.Math.Seq.{take-append-add}
+use Rattle.std.specs.Io.KnownBytes.{Appends}
 use Rattle.std.specs.Prelude.{OnErr}
 
 -- a front of a front is one
@@ -13,3 +16,18 @@ front_within (suc n) (x ∷ xs) ys = let k = front_within n xs ys in (suc k.0, a
 pub where_err : {T E X : Type 0} (r : Result T E) → X → OnErr r X
 where_err (Ok y) x = tt
 where_err (Err e) x = x
+
+-- the first piece was written in part
+pub first_stopped : {T E : Type 0} (r : Result T E) (held held' : Option (List ℕ)) (first rest piece : List ℕ) → piece ≡ first → (n : ℕ) × Appends held held' (take n piece)
+    → OnErr r ((n : ℕ) × Appends held held' (take n (first ++ rest)))
+first_stopped r held held' first rest piece is f =
+    let k = front_within f.0 first rest in
+    where_err r (k.0, subst (Appends held held') (ap (take f.0) is ∙ sym k.1) f.1)
+
+-- it was written, and of the others a front
+pub then_stopped : (held mid held' : Option (List ℕ)) (first rest : List ℕ) → Appends held mid first → (n : ℕ) × Appends mid held' (take n rest)
+    → (n : ℕ) × Appends held held' (take n (first ++ rest))
+then_stopped held mid held' first rest wrote f = (
+  length first + f.0,
+  subst (Appends held held') (sym (take-append-add first rest f.0)) (Appends-trans held mid held' first (take f.0 rest) wrote f.1),
+)

@@ -63,3 +63,26 @@ pub trait LineKeeper {
     /// What was kept apart is kept as if it had been kept here.
     ghost join_lines: { (names : List (List ℕ)) (kept : Self) (lines : List Line) → joined kept (with_lines names nothing lines) ≡ with_lines names kept lines };
 }
+
+/// The laws of a keeper, where threads run too. Does nothing.
+pub fn keeper_laws<K: LineKeeper>(_names: &NameList)
+    ensures none { (kept : K) → K.with_lines _names.now kept [] ≡ kept }
+    ensures then { (kept : K) (lines more : List Line)
+        → K.with_lines _names.now (K.with_lines _names.now kept lines) more ≡ K.with_lines _names.now kept (lines ++ more) }
+    ensures join { (kept : K) (lines : List Line)
+        → K.joined kept (K.with_lines _names.now K.nothing lines) ≡ K.with_lines _names.now kept lines }
+{}
+
+/// A keeper of nothing, in the room of one that is not used any more, if there is one.
+pub fn fresh<K: LineKeeper>(alloc: Global, spare: &mut Vec<K>) -> K
+    ensures { result ≡ K.nothing }
+{
+    match spare.pop() {
+        Some(used) => {
+            let mut kept = used;
+            kept.forget();
+            kept
+        }
+        None => K::none(alloc),
+    }
+}

@@ -17,8 +17,8 @@ mod told;
 mod turns;
 mod woven;
 
-pub use keeper::LineKeeper;
-pub use life_text::{LifeText, front_of, have_full_multis, put_life};
+pub use keeper::{LineKeeper, fresh, keeper_laws};
+pub use life_text::{LifeText, have_full_multis, put_life, whole_text};
 pub use plan::Plan;
 pub use round_threads::RoundThreads;
 pub use script::NoScript;

@@ -3,20 +3,21 @@ ghost use Rattle.std.specs.Prelude.{◌≡◌, ◌++◌, ℕ, IfOk, OnErr, OnOk,
 ghost use Rattle.std.specs.Io.KnownBytes.{Appends};
 ghost use Rattle.tx_events.specs.Ids.{IsFullMulti};
 ghost use Rattle.tx_io.specs.Causes.{HasCause};
-ghost use Rattle.run_law.specs.Lives.{IsFrontOf};
+ghost use Rattle.run_law.specs.Lives.{IsFrontOf, last_text};
 
 use crate::Steps;
 use report_text::{Text, begin_report, put_life_line};
 use std::alloc::Global;
 use tx_io::{Failed, Sink, write_all};
-use tx_model::{Counters, Memory};
+use tx_model::{Counters, How, Memory};
 
-/// The text of a life: what stands before its steps, these, and what stands behind them.
+/// The text of a life: what stands before its steps, these, its histories, and its log and what stands behind that.
 #[derive(Drop)]
 pub struct LifeText {
     pub front: Text,
     pub steps: Steps,
-    pub end: Text,
+    pub histories: Text,
+    pub log: Text,
 }
 
 /// The next multixact and the oldest one of counters are numbers of multixacts.
@@ -28,11 +29,9 @@ pub fn have_full_multis(base: &Counters)
 }
 
 /// What stands before the steps of the life of this number, the first one of which begins the report.
-pub fn front_of(alloc: Global, number: u64, from: u64, base: &Counters) -> Result<Text, Memory>
+fn front_of(alloc: Global, number: u64, from: u64, base: &Counters) -> Result<Text, Memory>
     ensures front { IfOk result (λ text. IsFrontOf number from base.now text) }
-    ensures multis { IsFullMulti base.now.multi × IsFullMulti base.now.oldest_multi }
 {
-    have_full_multis(base);
     let mut text = Text::new(alloc);
     if number == 1 {
         begin_report(&mut text, from, base)?;
@@ -42,23 +41,74 @@ pub fn front_of(alloc: Global, number: u64, from: u64, base: &Counters) -> Resul
     Ok(text)
 }
 
-// The steps and what stands behind them, or a front of both.
-fn put_rest<K: Sink>(sink: &mut K, steps: &Steps, end: &Text) -> Result<(), Failed>
-    ensures ok { OnOk result (Appends (K.held sink.old) (K.held sink.new) (steps.now ++ end.now)) }
-    ensures front { OnErr result ((n : ℕ) × Appends (K.held sink.old) (K.held sink.new) (take n (steps.now ++ end.now))) }
+/// The text of the life of this number, of which these are the texts of its steps, of its histories and of its log: with its
+/// front, and behind the last life the report's end.
+pub fn whole_text(
+    alloc: Global,
+    number: u64,
+    from: u64,
+    base: &Counters,
+    steps: Steps,
+    histories: Text,
+    log: Text,
+    crash: Option<How>,
+) -> Result<LifeText, Memory>
+    ensures front { IfOk result (λ text. IsFrontOf number from base.now text.front) }
+    ensures steps { IfOk result (λ text. text.steps ≡ steps) }
+    ensures histories { IfOk result (λ text. text.histories ≡ histories) }
+    ensures log { IfOk result (λ text. text.log ≡ log ++ last_text crash) }
+    ensures multis { IsFullMulti base.now.multi × IsFullMulti base.now.oldest_multi }
+{
+    have_full_multis(base);
+    let mut log = log;
+    if crash.is_none() {
+        log.short_line(b"end")?;
+    }
+    let front = front_of(alloc, number, from, base)?;
+    Ok(LifeText {
+        front,
+        steps,
+        histories,
+        log,
+    })
+}
+
+// One text behind the other, or a front of both.
+fn put_both<K: Sink>(sink: &mut K, first: &Text, second: &Text) -> Result<(), Failed>
+    ensures ok { OnOk result (Appends (K.held sink.old) (K.held sink.new) (first.now ++ second.now)) }
+    ensures front { OnErr result ((n : ℕ)
+        × Appends (K.held sink.old) (K.held sink.new) (take n (first.now ++ second.now))) }
+    ensures cause { HasCause (K.faults sink.old) (K.faults sink.new) result }
+{
+    write_all(sink, first.bytes())?;
+    write_all(sink, second.bytes())
+}
+
+// What stands behind the front of a life, or a front of that.
+fn put_behind<K: Sink>(
+    sink: &mut K,
+    steps: &Steps,
+    histories: &Text,
+    log: &Text,
+) -> Result<(), Failed>
+    ensures ok { OnOk result (Appends (K.held sink.old) (K.held sink.new) (steps.now ++ (histories.now ++ log.now))) }
+    ensures front { OnErr result ((n : ℕ)
+        × Appends (K.held sink.old) (K.held sink.new) (take n (steps.now ++ (histories.now ++ log.now)))) }
     ensures cause { HasCause (K.faults sink.old) (K.faults sink.new) result }
 {
     steps.write(sink)?;
-    write_all(sink, end.bytes())
+    put_both(sink, histories, log)
 }
 
 /// Writes the text of a life, or a front of it.
 pub fn put_life<K: Sink>(sink: &mut K, text: &LifeText) -> Result<(), Failed>
-    ensures ok { OnOk result (Appends (K.held sink.old) (K.held sink.new) (text.now.front ++ (text.now.steps ++ text.now.end))) }
+    ensures ok { OnOk result (Appends (K.held sink.old) (K.held sink.new) (text.now.front
+        ++ (text.now.steps ++ (text.now.histories ++ text.now.log)))) }
     ensures front { OnErr result ((n : ℕ)
-        × Appends (K.held sink.old) (K.held sink.new) (take n (text.now.front ++ (text.now.steps ++ text.now.end)))) }
+        × Appends (K.held sink.old) (K.held sink.new) (take n (text.now.front
+        ++ (text.now.steps ++ (text.now.histories ++ text.now.log))))) }
     ensures cause { HasCause (K.faults sink.old) (K.faults sink.new) result }
 {
     write_all(sink, text.front.bytes())?;
-    put_rest(sink, &text.steps, &text.end)
+    put_behind(sink, &text.steps, &text.histories, &text.log)
 }

@@ -1,5 +1,5 @@
 -- A run, life by life: a life for each part of its script.
-use Rattle.std.proofs.Common.{Bool, Err, List, None, Option, Some, [], ap, append-nil, append_assoc, arith, inl, inr, length, length-append, refl, subst, sym, take, ⊎_elim, ℕ, ◌++◌, ◌+◌, ◌∙◌, ◌∷◌, ◌≡◌, ◌≤◌, ◌^◌}
+use Rattle.std.proofs.Common.{Bool, List, None, Option, Some, [], ap, append-nil, append_assoc, arith, inl, inr, length, length-append, refl, subst, sym, take, ⊎_elim, ℕ, ◌++◌, ◌+◌, ◌∙◌, ◌∷◌, ◌≡◌, ◌≤◌, ◌^◌}
 use Rattle.std.proofs.KnownBytes.{Appends-nil, Appends-trans}
 use Rattle.std.proofs.Math.Seq.{take-append-add}
 use Rattle.std.specs.Io.KnownBytes.{Appends}
@@ -27,7 +27,7 @@ use Rattle.engine_life.specs.declared.refusal.NoLife.{NoLife}
 use Rattle.engine_life.specs.declared.refusal.NoLife.TheVariants as no_lives
 use Rattle.session_run.specs.declared.stop.Stopped.{Stopped}
 use Rattle.session_run.specs.declared.stop.Stopped.TheVariants as stops
-use Rattle.session_run.specs.Going.{IsCrashed, IsPartTold, IsRunning, PartWent, part_of}
+use Rattle.session_run.specs.Going.{IsCrashed, IsPartTold, IsRunning, PartStopped, part_of}
 use Rattle.session_run.specs.Leaves.{HasLeftLast, HaveLeft, LeavesVolumes}
 use Rattle.session_run.specs.Lives.{ComesTo, HasFallen}
 use Rattle.session_run.specs.Parts.{IsTakenPart}
@@ -239,7 +239,7 @@ module _ {L P : Type 0} {l : logs.Ghosts L} {p : disks.Ghosts P} (s : Script) (f
       (its : List Item) (crash : Option How) (rest : List Item) (f : IsFirstPart items its crash rest)
       (before between now : ℕ) (gives : Volumes L P → Type 0) (faults mids faults' : ℕ) (later : before ≤ between) (sink : faults ≤ mids) where
     abbrev went : Stopped → Type 0
-    went stop = PartWent l p s h.banks h.start h.begun falls h.done h.lives (part_of its crash) mid held' mids faults' between now gives (Err stop)
+    went stop = PartStopped l p s h.banks h.start h.begun falls h.done h.lives (part_of its crash) mid held' mids faults' between now gives stop
 
     abbrev fell : NoLife → Type 0
     fell refusal =

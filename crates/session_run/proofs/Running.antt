@@ -1,8 +1,7 @@
 -- A run goes on from life to life.
-use Rattle.std.proofs.Common.{List, None, Option, [], ap, arith, length, refl, subst, sym, ℕ, ◌++◌, ◌+◌, ◌∙◌, ◌∷◌, ◌≡◌, ◌≤◌}
+use Rattle.std.proofs.Common.{Err, List, None, Option, Result, [], ap, append_assoc, arith, inl, length, refl, subst, sym, ℕ, ◌++◌, ◌+◌, ◌∙◌, ◌∷◌, ◌≡◌, ◌≤◌}
 use Rattle.std.proofs.KnownBytes.{Appends-trans}
 use Rattle.std.specs.Io.KnownBytes.{Appends}
-use Rattle.std.specs.List.{flat_map}
 use Rattle.std.specs.Prelude.{IsSomeAnd}
 use Rattle.disk_core.specs.declared.log_disk.LogDisk as logs
 use Rattle.disk_core.specs.declared.page_disk.PageDisk as disks
@@ -16,8 +15,7 @@ use Rattle.tx_model.specs.declared.report.How.{How}
 use Rattle.tx_model.specs.declared.report.LifeReport.{LifeReport}
 use Rattle.tx_model.specs.declared.report.Report.{Report}
 use Rattle.life_law.specs.LawfulLife.{IsLawfulLife}
-use Rattle.report_text.specs.ReportText.{end_text, report_text, rest_text, step_text}
-use Rattle.script_rounds.specs.declared.keeper.LineKeeper as keepers
+use Rattle.report_text.specs.ReportText.{end_text, report_text, rest_text}
 use Rattle.session_lang.specs.declared.script.Item.{Item}
 use Rattle.session_lang.specs.declared.script.Script.{Script}
 use Rattle.session_lang.specs.Rounds.{asked_of}
@@ -29,11 +27,14 @@ use Rattle.engine_host.specs.Opening.{Beginning}
 use Rattle.engine_life.specs.declared.closed.ClosedLife.{ClosedLife}
 use Rattle.engine_life.specs.declared.life.OpenLife.{OpenLife}
 use Rattle.engine_life.specs.Lives.{number_of, volumes_left}
-use Rattle.session_run.specs.OneLife.{HasRunLife, life_of}
+use Rattle.session_run.specs.OneLife.{life_of}
 use Rattle.session_run.specs.Parts.{report_of}
 use Rattle.session_run.specs.Records.{BankHolds}
 use Rattle.script_rounds.specs.declared.life_text.LifeText.{LifeText}
-use Rattle.session_run.specs.Going.{IsPartTold, IsRunning, IsToldLife, part_of}
+use Rattle.session_run.specs.declared.run.Lived.{Lived}
+use Rattle.session_run.specs.declared.stop.Stopped.{Stopped}
+use Rattle.session_run.specs.declared.stop.Stopped.TheVariants as stops
+use Rattle.session_run.specs.Going.{HasRunPart, HasRunPartOf, IsPartTold, IsRunning, IsToldLife, IsWritten, StopsPart, TellsPart, part_of}
 use Rattle.session_run.specs.Leaves.{LeavesVolumes}
 use Rattle.session_run.specs.Lives.{ComesTo, HasEndedOn, HasFallen}
 
@@ -45,17 +46,25 @@ pub so_whole : (names : List (List ℕ)) (lives : List LifeReport) (r : LifeRepo
 so_whole names [] r = whole_text names r []
 so_whole names (q ∷ lives) r = whole_text names q (lives ++ r ∷ [])
 
--- what was kept of a life's lines is its text
-pub told_life : {L P : Type 0} (l : logs.Ghosts L) (p : disks.Ghosts P) (keep : keepers.Ghosts (List ℕ)) (c : Cluster) (b : Beginning) (mounted : Volumes L P) (names : List (List ℕ)) (its : List Item) (number : ℕ) (crash : Option How) (closed : ClosedLife L P l) (kept : List ℕ) (base : Counters) (text : LifeText)
-    → (ran : HasRunLife l p keep c b mounted names its [] kept closed) → kept ≡ flat_map (step_text names) ran.steps → base ≡ c.base → IsFrontOf number (number_of closed) base text.front
-    → text.steps ++ text.end ≡ kept ++ (rest_text names (life_of c b closed) crash ++ last_text crash) → IsFullMulti base.multi × IsFullMulti base.oldest_multi → IsToldLife l p names its number crash c b mounted closed text
-told_life l p keep c b mounted names its number crash closed kept base text ran told same front rest multis = record {
+-- the pieces of the text that stands behind a life's front
+pub pieces : (steps histories log last told a b d : List ℕ) → a ≡ steps → b ≡ histories → d ≡ log ++ last → histories ++ log ≡ told → a ++ (b ++ d) ≡ steps ++ (told ++ last)
+pieces steps histories log last told a b d one two three ends =
+    ap (λ (t : List ℕ). t ++ (b ++ d)) one
+    ∙ (ap (λ (t : List ℕ). steps ++ (t ++ d)) two
+    ∙ (ap (λ (t : List ℕ). steps ++ (histories ++ t)) three
+    ∙ ap (λ (t : List ℕ). steps ++ t) (sym (append_assoc histories log last) ∙ ap (λ (t : List ℕ). t ++ last) ends)))
+
+-- a life that ran its part is told by its front, and by what stands behind the text of its steps
+pub told_life : {L P : Type 0} (l : logs.Ghosts L) (p : disks.Ghosts P) (c : Cluster) (b : Beginning) (mounted : Volumes L P) (names : List (List ℕ)) (its : List Item) (number : ℕ) (crash : Option How) (closed : ClosedLife L P l) (base : Counters) (steps : List ℕ) (text : LifeText)
+    → HasRunPartOf l p names its c b mounted closed base steps → IsFrontOf number (number_of closed) base text.front
+    → text.steps ++ (text.histories ++ text.log) ≡ steps ++ (rest_text names (life_of c b closed) crash ++ last_text crash) → IsFullMulti base.multi × IsFullMulti base.oldest_multi → IsToldLife l p names its number crash c b mounted closed text
+told_life l p c b mounted names its number crash closed base steps text ran front rest multis = record {
   steps = ran.steps;
   lived = ran.lived;
   left = ran.left;
-  front = subst (λ (x : ℕ × Counters). IsFrontOf number x.0 x.1 text.front) (λ j. (ran.number j, same j)) front;
-  rest = rest ∙ ap (λ (t : List ℕ). t ++ (rest_text names (life_of c b closed) crash ++ last_text crash)) told;
-  multis = subst (λ (k : Counters). IsFullMulti k.multi × IsFullMulti k.oldest_multi) same multis;
+  front = subst (λ (x : ℕ × Counters). IsFrontOf number x.0 x.1 text.front) (λ j. (ran.number j, ran.base_is j)) front;
+  rest = rest ∙ ap (λ (t : List ℕ). t ++ (rest_text names (life_of c b closed) crash ++ last_text crash)) ran.text_is;
+  multis = subst (λ (k : Counters). IsFullMulti k.multi × IsFullMulti k.oldest_multi) ran.base_is multis;
 }
 
 module _ {L P : Type 0} {l : logs.Ghosts L} {p : disks.Ghosts P} (s : Script) (banks : ℕ) (start : RunStart) (falls : Crash → Volumes L P → Volumes L P → Type 0) where
@@ -83,7 +92,7 @@ module _ {L P : Type 0} {l : logs.Ghosts L} {p : disks.Ghosts P} (s : Script) (b
     pub part_are : AreRunLives p.tells banks start (done ++ part_of its crash ∷ []) (lives ++ told_of ∷ [])
     part_are = run_lives_push p.tells banks start done lives (part_of its crash) told_of run.are lawful refl first begins (λ tells. run.behind tells told_of.life refl refl)
 
-    pub part_text : text_so_far s.names lives ++ (text.front ++ (text.steps ++ text.end)) ≡ text_so_far s.names (lives ++ told_of ∷ []) ++ last_text crash
+    pub part_text : text_so_far s.names lives ++ (text.front ++ (text.steps ++ (text.histories ++ text.log))) ≡ text_so_far s.names (lives ++ told_of ∷ []) ++ last_text crash
     part_text =
         ap (λ (t : List ℕ). text_so_far s.names lives ++ (text.front ++ t)) told.rest
         ∙ so_far_push s.names lives told_of number text.front count told.front
@@ -93,7 +102,7 @@ module _ {L P : Type 0} {l : logs.Ghosts L} {p : disks.Ghosts P} (s : Script) (b
       are = part_are;
       lawful = lawful;
       crash_is = refl;
-      text = text.front ++ (text.steps ++ text.end);
+      text = text.front ++ (text.steps ++ (text.histories ++ text.log));
       exact = part_text;
       last = record {
         mounted = run.mounted;
@@ -131,3 +140,29 @@ module _ {L P : Type 0} {l : logs.Ghosts L} {p : disks.Ghosts P} (s : Script) (b
             (Appends-trans first held held' (text_so_far s.names lives) told.text so_far wrote),
         record { left = left; have_left = record { before = lives; last = r; lives_are = refl; begun = begun; began = began; has_left = told.last }; only = only },
       )
+
+-- ---- how the text of a part was written
+
+module _ {L P : Type 0} (l : logs.Ghosts L) (p : disks.Ghosts P) (falls : Crash → Volumes L P → Volumes L P → Type 0) (names : List (List ℕ)) (number : ℕ) (lived : Lived L P l)
+    (ran : HasRunPart l p falls names number lived) (crash : Option How) where
+  abbrev closed : ClosedLife L P l
+  closed = lived.ended.closed
+
+  abbrev Told : List (List ℕ) → LifeText → Type 0
+  Told names text = IsToldLife l p names ran.its number crash ran.running.cluster ran.running.begins ran.running.mounted closed text
+
+  module _ (text : LifeText) (told : Told names text) where
+    pub by_script : Told ran.script.names text
+    by_script = subst (λ (n : List (List ℕ)). Told n text) ran.names_are told
+
+    abbrev pub report_told : LifeReport
+    report_told = told_of ran.script ran.banks ran.start falls ran.begun ran.done ran.lives ran.life ran.running ran.its number crash closed text ran.count by_script
+
+    abbrev pub told_so : TellsPart l p ran crash report_told
+    told_so = part_told ran.script ran.banks ran.start falls ran.begun ran.done ran.lives ran.life ran.running ran.its number crash closed text ran.count by_script
+
+  module _ (held held' : Option (List ℕ)) (faults faults' before now : ℕ) (gives : Volumes L P → Type 0) (only : Only (volumes_left closed) gives) where
+    pub not_written : (stop : Stopped) → IsWritten l p {T = Unit {0}} names ran.its number crash ran.running.cluster ran.running.begins ran.running.mounted closed held held' faults faults' (Err stop)
+        → StopsPart l p ran crash held held' faults faults' before now gives stop
+    not_written stops.Sink w = (w.0, report_told w.1 w.2, volumes_left closed, told_so w.1 w.2, w.3, w.4, only)
+    not_written (stops.NoLife refusal) w = inl w

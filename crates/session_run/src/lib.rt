@@ -12,7 +12,6 @@ mod round;
 mod rounds;
 mod run;
 mod stop;
-mod text;
 mod tool;
 
 pub use tool::{run_tool, run_tool_behind, say_out_of_memory};

@@ -14,7 +14,7 @@ use disk_core::{LogDisk, PageDisk};
 use engine_host::{Host, admit, dismiss, new_session};
 use engine_parts::{EngineLaw, Gate, Session};
 use hall::Hall;
-use script_rounds::{LineKeeper, Plan, ToldLines};
+use script_rounds::{LineKeeper, Plan, ToldLines, fresh, keeper_laws};
 use session_lang::Items;
 use std::alloc::Global;
 use std::sync::Wait;
@@ -22,31 +22,8 @@ use std::thread::Threads;
 use std::{mem, thread};
 use tx_model::{Memory, NameList};
 
-// The laws of a keeper, where threads run too.
-fn keeper_laws<K: LineKeeper>(_names: &NameList)
-    ensures none { (kept : K) → K.with_lines _names.now kept [] ≡ kept }
-    ensures then { (kept : K) (lines more : List Line)
-        → K.with_lines _names.now (K.with_lines _names.now kept lines) more ≡ K.with_lines _names.now kept (lines ++ more) }
-    ensures join { (kept : K) (lines : List Line)
-        → K.joined kept (K.with_lines _names.now K.nothing lines) ≡ K.with_lines _names.now kept lines }
-{}
-
 // The lines of a round of so many commands are worth no room of their own beyond it.
 const MANY_COMMANDS: usize = 4_096;
-
-/// A keeper of nothing, in the room of one that is not used any more, if there is one.
-fn fresh<K: LineKeeper>(alloc: Global, spare: &mut Vec<K>) -> K
-    ensures { result ≡ K.nothing }
-{
-    match spare.pop() {
-        Some(used) => {
-            let mut kept = used;
-            kept.forget();
-            kept
-        }
-        None => K::none(alloc),
-    }
-}
 
 /// Lets the sessions of a round in.
 fn let_in<K: LineKeeper, L: LogDisk, P: PageDisk>(

@@ -1,5 +1,5 @@
 //! Runs a script over a media, life by life, and writes the text of its report; or tells the counts of what it did.
-ghost use Rattle.std.specs.Prelude.{◌≡◌, ◌+◌, ◌≤◌, ℕ, List, IfErr, IfOk, IsTrue, OnErr, OnOk, false, length};
+ghost use Rattle.std.specs.Prelude.{◌≡◌, ◌≤◌, ℕ, List, None, Some, IfErr, IfOk, IsTrue, OnErr, OnOk, false, length};
 ghost use Rattle.std.specs.Io.KnownBytes.{Appends};
 ghost use Rattle.disk_core.specs.Media.{HasBanks};
 ghost use Rattle.disk_core.specs.declared.media.Volumes.{Volumes as Mounted};
@@ -7,17 +7,19 @@ ghost use Rattle.tx_model.specs.declared.report.LifeReport.{LifeReport};
 ghost use Rattle.tx_model.specs.declared.report.Report.{Report};
 ghost use Rattle.report_text.specs.ReportText.{report_text};
 ghost use Rattle.recoverable.specs.Fit.{KeptLog};
-ghost use Rattle.run_law.specs.Lives.{LifePart, RunStart};
+ghost use Rattle.session_lang.specs.declared.script.Item.{Item};
+ghost use Rattle.run_law.specs.Lives.{RunStart};
 ghost use Rattle.run_law.specs.Tool.{IsReportOf};
 ghost use Rattle.script_gen.specs.Summaries.{IsSummaryOf};
 ghost use Rattle.engine_host.specs.declared.cluster.Cluster.{Cluster as Clustered};
 ghost use Rattle.engine_host.specs.Opening.{Beginning, IsCluster};
 ghost use Rattle.engine_life.specs.FirstLives.{MayBeginOver, MayMount};
-ghost use Rattle.engine_life.specs.Lives.{FitsLog};
+ghost use Rattle.engine_life.specs.Lives.{FitsLog, volumes_left};
 ghost use Rattle.engine_life.specs.Refusals.{IsOfVolumes};
-ghost use Rattle.session_run.specs.OneLife.{IsOpened, MayRunIn};
+ghost use Rattle.session_run.specs.Fits.{FitWhereTold};
+ghost use Rattle.session_run.specs.OneLife.{IsOpened, MayRunIn, life_over};
 ghost use Rattle.session_run.specs.Parts.{IsTakenPart};
-ghost use Rattle.session_run.specs.Going.{EndsIdle, HasGoneOn, IsCrashed, IsRunning, IsToldLife, PartWent, part_of};
+ghost use Rattle.session_run.specs.Going.{HasGoneOn, HasRunPart, IsCrashed, IsLived, IsWritten, LastWent, NextWent, StopsPart};
 ghost use Rattle.session_run.specs.Lives.{HasFallen, crash_of};
 ghost use Rattle.session_run.specs.Leaves.{LeavesVolumes};
 ghost use Rattle.session_run.specs.Runs.{IsTaken, IsTakenAlone, cluster_of};
@@ -27,25 +29,22 @@ ghost use Rattle.session_run.specs.Stops.{IsStopped, IsUnopenedFirst, MountsFirs
 use crate::ended::{Ended, FittedLog, log_left};
 use crate::life::run_life;
 use crate::stop::Stopped;
-use crate::text::put_end;
 use disk_core::{Crash, LogDisk, Media, PageDisk, Volumes};
 use engine_host::Cluster;
 use engine_life::laws::crash_goes_on;
-use engine_life::{ClosedLife, NoLife, OpenLife, open_life};
+use engine_life::{EndText, NoLife, OpenLife, end_life, open_life};
 use engine_parts::Gate;
 use notes::Note;
-use report_text::Text;
 use script_gen::Summary;
 use script_rounds::{
-    LifeText, LineKeeper, RoundThreads, Steps, Tally, front_of, have_full_multis, next_part,
-    put_life,
+    LineKeeper, RoundThreads, Steps, Tally, have_full_multis, next_part, put_life, whole_text,
 };
 use session_lang::{Items, Script};
 use std::alloc::Global;
 use std::sync::Wait;
 use std::thread::Threads;
 use tx_io::{Failed, Sink};
-use tx_model::{How, Memory, NameList};
+use tx_model::{Counters, How, Memory, NameList};
 
 /// The cluster that a script's header tells of.
 fn cluster_of(script: &Script) -> Cluster
@@ -71,37 +70,99 @@ fn crash_of(how: How) -> Crash
     }
 }
 
-/// Runs a part of a script in a life that is open, the life of this number, closes it, and makes its text.
-fn tell_life<L: LogDisk + Send + Sync + Drop, P: PageDisk + Send + Sync + Drop>(
+/// The same cluster once more.
+fn same(cluster: &Cluster) -> Cluster
+    ensures { result ≡ cluster.now }
+{
+    Cluster {
+        base: cluster.base.same(),
+        banks: cluster.banks,
+        sessions: cluster.sessions,
+    }
+}
+
+/// A life that ran a part of a script and is over, its base, and the text of its steps.
+struct Lived<L: LogDisk, P> {
+    ended: Ended<L, P>,
+    base: Counters,
+    steps: Result<Steps, Memory>,
+}
+
+/// Runs a part of a script in a life that is open, and closes it.
+fn run_part<L: LogDisk + Send + Sync + Drop, P: PageDisk + Send + Sync + Drop>(
     rt: &(impl Threads + Wait + Sync),
     alloc: Global,
     life: OpenLife<L, P>,
     names: &NameList,
     part: Items,
-    number: u64,
-    crash: Option<How>,
     threads: RoundThreads,
     gate: &(impl Gate + Sync),
-) -> (ClosedLife<L, P>, Result<LifeText, Memory>)
+) -> Lived<L, P>
     requires taken { IsTakenPart (length names.now) part }
     requires may { MayRunIn (length names.now) life }
-    ensures told { (c : Clustered) (b : Beginning) (faults : List ℕ) (mounted : Mounted L P)
+    ensures lived { (c : Clustered) (b : Beginning) (faults : List ℕ) (mounted : Mounted L P)
         → IsOpened c b faults mounted life
-        → IfOk result.1 (IsToldLife L.LogDisk P.PageDisk names.now part.entry number crash c b mounted result.0) }
+        → IsLived L.LogDisk P.PageDisk names.now part.entry c b faults mounted result }
 {
+    let start = Note::by(&life.host.start);
     let base = life.host.cluster.base.same();
-    let mut steps = Steps::none(alloc);
-    let (closed, ran) = run_life(rt, alloc, life, names, part, &mut steps, threads, gate);
-    let Ok(()) = ran else {
-        return (closed, Err(Memory));
+    let mut text = Steps::none(alloc);
+    let (closed, ran) = run_life(rt, alloc, life, names, part, &mut text, threads, gate);
+    let ended = Ended { start, closed };
+    match ran {
+        Ok(()) => Lived {
+            ended,
+            base,
+            steps: Ok(text),
+        },
+        Err(Memory) => Lived {
+            ended,
+            base,
+            steps: Err(Memory),
+        },
+    }
+}
+
+/// Writes the text of a part that was run in the life of this number, and the crash that ends it. Gives the volumes back,
+/// and a note of the log that they fit.
+fn tell_part<K: Sink, L: LogDisk + Drop, P: PageDisk + Drop>(
+    alloc: Global,
+    names: &NameList,
+    lived: Lived<L, P>,
+    number: u64,
+    crash: Option<How>,
+    sink: &mut K,
+) -> (Volumes<L, P>, Result<Note<FittedLog>, Stopped>)
+    requires lived { (its : List Item) × (c : Clustered) × (b : Beginning) × (faults : List ℕ) × (mounted : Mounted L P)
+        × IsLived L.LogDisk P.PageDisk names.now its c b faults mounted lived }
+    ensures volumes { result.0 ≡ volumes_left lived.ended.closed }
+    ensures fits { IfOk result.1 (λ log. FitWhereTold L.LogDisk P.PageDisk (life_over lived.ended.start.value lived.ended.closed)
+        (volumes_left lived.ended.closed) log.value.kept) }
+    ensures told { (its : List Item) (c : Clustered) (b : Beginning) (faults : List ℕ) (mounted : Mounted L P)
+        → IsLived L.LogDisk P.PageDisk names.now its c b faults mounted lived
+        → IsWritten L.LogDisk P.PageDisk names.now its number crash c b mounted lived.ended.closed
+        (K.held sink.old) (K.held sink.new) (K.faults sink.old) (K.faults sink.new) result.1 }
+    ensures sink { K.faults sink.old ≤ K.faults sink.new }
+{
+    let Lived { ended, base, steps } = lived;
+    let Ok(steps) = steps else {
+        let Ended { start: _, closed } = ended;
+        return (closed.into_volumes(), Err(Stopped::NoLife(NoLife::Memory)));
     };
-    let mut end = Text::new(alloc);
-    let Ok(()) = put_end(&mut end, names, &closed, crash) else {
-        return (closed, Err(Memory));
+    let left = log_left(&ended);
+    let Ended { start: _, closed } = ended;
+    let from = closed.number();
+    let (volumes, ended) = end_life(alloc, closed, names, crash);
+    let Ok(end) = ended else {
+        return (volumes, Err(Stopped::NoLife(NoLife::Memory)));
     };
-    match front_of(alloc, number, closed.number(), &base) {
-        Ok(front) => (closed, Ok(LifeText { front, steps, end })),
-        Err(Memory) => (closed, Err(Memory)),
+    let EndText { histories, log } = end;
+    let Ok(text) = whole_text(alloc, number, from, &base, steps, histories, log, crash) else {
+        return (volumes, Err(Stopped::NoLife(NoLife::Memory)));
+    };
+    match put_life(sink, &text) {
+        Ok(()) => (volumes, Ok(left)),
+        Err(Failed) => (volumes, Err(Stopped::Sink)),
     }
 }
 
@@ -136,77 +197,71 @@ fn go_on<M: Media>(
     open_life(alloc, media, cluster)
 }
 
-/// How a part of a script has ended.
-enum PartEnd<L: LogDisk, P: PageDisk> {
-    /// It was the last one.
-    Last,
-    /// It crashed, and the next life is open.
-    Next(OpenLife<L, P>),
-}
-
-/// Runs a part of a script in a life that is open, the life of this number, and writes its text. Where a crash ends the part,
-/// that is made then, and the next life is opened.
-fn run_part<R: Threads + Wait + Sync, K: Sink, M: Media, G: Gate + Sync>(
-    rt: &R,
+/// Ends the last part of a script: writes its text.
+fn end_run<K: Sink, M: Media>(
     alloc: Global,
-    script: &Script,
-    life: OpenLife<M::Log, M::Pages>,
-    part: Items,
+    names: &NameList,
+    lived: Lived<M::Log, M::Pages>,
     number: u64,
-    crash: Option<How>,
     sink: &mut K,
     media: &mut M,
-    threads: RoundThreads,
-    gate: &G,
-) -> Result<PartEnd<M::Log, M::Pages>, Stopped>
-where
-    M::Log: Sync,
-    M::Pages: Sync,
-    requires taken { IsTaken script.now }
-    requires part { IsTakenPart (length script.now.names) part }
-    requires running { (banks : ℕ) × (start : RunStart) × (begun : Mounted M.Log M.Pages) × (done : List LifePart)
-        × (lives : List LifeReport) × IsRunning script.now banks start begun M.falls done lives life
-        × (number ≡ length lives + 1) }
-    ensures went { (banks : ℕ) (start : RunStart) (begun : Mounted M.Log M.Pages) (done : List LifePart)
-        (lives : List LifeReport) → IsRunning script.now banks start begun M.falls done lives life → number ≡ length lives + 1
-        → PartWent M.Log.LogDisk M.Pages.PageDisk script.now banks start begun M.falls done lives (part_of part.entry crash)
+) -> Result<(), Stopped>
+    requires ran { HasRunPart M.Log.LogDisk M.Pages.PageDisk M.falls names.now number lived }
+    ensures last { (ran : HasRunPart M.Log.LogDisk M.Pages.PageDisk M.falls names.now number lived)
+        → OnOk result (LastWent M.Log.LogDisk M.Pages.PageDisk ran (K.held sink.old) (K.held sink.new) (M.gives media.new)) }
+    ensures stopped { (ran : HasRunPart M.Log.LogDisk M.Pages.PageDisk M.falls names.now number lived)
+        → IfErr result (StopsPart M.Log.LogDisk M.Pages.PageDisk ran None
         (K.held sink.old) (K.held sink.new) (K.faults sink.old) (K.faults sink.new)
-        (M.faults media.old) (M.faults media.new) (M.gives media.new) result }
-    ensures idle { EndsIdle result → IsTrue (M.is_idle media.new) }
-    ensures used { EndsIdle result → M.is_new media.new ≡ false }
+        (M.faults media.old) (M.faults media.new) (M.gives media.new)) }
+    ensures idle { IsTrue (M.is_idle media.new) }
+    ensures used { M.is_new media.new ≡ false }
     ensures count { M.faults media.old ≤ M.faults media.new }
     ensures sink { K.faults sink.old ≤ K.faults sink.new }
 {
-    let names = &script.names;
-    let start = Note::by(&life.host.start);
-    let (closed, told) = tell_life(rt, alloc, life, names, part, number, crash, threads, gate);
-    let text = match told {
-        Ok(text) => text,
-        Err(Memory) => {
-            media.rest(closed.into_volumes());
-            return Err(Stopped::NoLife(NoLife::Memory));
-        }
-    };
-    match put_life(sink, &text) {
-        Ok(()) => {}
-        Err(Failed) => {
-            media.rest(closed.into_volumes());
-            return Err(Stopped::Sink);
-        }
+    let (volumes, told) = tell_part(alloc, names, lived, number, None, sink);
+    media.rest(volumes);
+    match told {
+        Ok(_) => Ok(()),
+        Err(stop) => Err(stop),
     }
-    let how = match crash {
-        Some(how) => how,
-        None => {
-            media.rest(closed.into_volumes());
-            return Ok(PartEnd::Last);
+}
+
+/// Ends a part of a script that a crash ends: writes its text, makes the crash, and opens the next life.
+fn end_part<K: Sink, M: Media>(
+    alloc: Global,
+    names: &NameList,
+    cluster: &Cluster,
+    lived: Lived<M::Log, M::Pages>,
+    number: u64,
+    how: How,
+    sink: &mut K,
+    media: &mut M,
+) -> Result<OpenLife<M::Log, M::Pages>, Stopped>
+    requires cluster { IsCluster cluster.now }
+    requires ran { HasRunPart M.Log.LogDisk M.Pages.PageDisk M.falls names.now number lived }
+    ensures next { (ran : HasRunPart M.Log.LogDisk M.Pages.PageDisk M.falls names.now number lived)
+        → cluster.now ≡ cluster_of ran.script
+        → IfOk result (NextWent M.Log.LogDisk M.Pages.PageDisk ran how (K.held sink.old) (K.held sink.new)) }
+    ensures stopped { (ran : HasRunPart M.Log.LogDisk M.Pages.PageDisk M.falls names.now number lived)
+        → cluster.now ≡ cluster_of ran.script
+        → IfErr result (StopsPart M.Log.LogDisk M.Pages.PageDisk ran (Some how)
+        (K.held sink.old) (K.held sink.new) (K.faults sink.old) (K.faults sink.new)
+        (M.faults media.old) (M.faults media.new) (M.gives media.new)) }
+    ensures idle { OnErr result (IsTrue (M.is_idle media.new)) }
+    ensures used { OnErr result (M.is_new media.new ≡ false) }
+    ensures count { M.faults media.old ≤ M.faults media.new }
+    ensures sink { K.faults sink.old ≤ K.faults sink.new }
+{
+    let (volumes, told) = tell_part(alloc, names, lived, number, Some(how), sink);
+    let log = match told {
+        Ok(log) => log,
+        Err(stop) => {
+            media.rest(volumes);
+            return Err(stop);
         }
     };
-    let ended = Ended { start, closed };
-    let log = log_left(&ended);
-    let Ended { start: _, closed } = ended;
-    let volumes = closed.into_volumes();
-    match go_on(alloc, media, volumes, &log, how, cluster_of(script)) {
-        Ok(life) => Ok(PartEnd::Next(life)),
+    match go_on(alloc, media, volumes, &log, how, same(cluster)) {
+        Ok(life) => Ok(life),
         Err(refusal) => Err(Stopped::NoLife(refusal)),
     }
 }
@@ -216,7 +271,7 @@ where
 pub fn run_script<R: Threads + Wait + Sync, K: Sink, M: Media, G: Gate + Sync>(
     rt: &R,
     alloc: Global,
-    script: &Script,
+    script: Script,
     sink: &mut K,
     media: &mut M,
     threads: RoundThreads,
@@ -226,15 +281,15 @@ where
     M::Log: Sync,
     M::Pages: Sync,
     ghost kept: { KeptLog }
-    requires taken { IsTaken script.now }
+    requires taken { IsTaken script }
     requires idle { IsTrue (M.is_idle media.old) }
     requires may { (volumes : Mounted M.Log M.Pages)
-        → MayMount (M.is_new media.old) (M.begins media.old) (M.gives media.old) script.now.banks volumes
+        → MayMount (M.is_new media.old) (M.begins media.old) (M.gives media.old) script.banks volumes
         → MayBeginOver M.Log.LogDisk M.Pages.PageDisk kept volumes }
     ensures report { OnOk result ((banks : ℕ) × (start : RunStart) × (r : Report)
-        × (is : IsReportOf M.Pages.tells banks start script.now r) × Appends (K.held sink.old) (K.held sink.new) (report_text r)
+        × (is : IsReportOf M.Pages.tells banks start script r) × Appends (K.held sink.old) (K.held sink.new) (report_text r)
         × LeavesVolumes M.Log.LogDisk M.Pages.PageDisk (BeginsOver M.Log.LogDisk M.Pages.PageDisk
-        (MayMount (M.is_new media.old) (M.begins media.old) (M.gives media.old)) kept script.now banks start) M.falls
+        (MayMount (M.is_new media.old) (M.begins media.old) (M.gives media.old)) kept script banks start) M.falls
         (M.gives media.new) r.lives) }
     ensures idle { IsTrue (M.is_idle media.new) }
     ensures count { M.faults media.old ≤ M.faults media.new }
@@ -242,24 +297,35 @@ where
     ensures used_so { IfErr result (λ stop. MountsFirst stop → M.is_new media.new ≡ false) }
     ensures stopped { IfErr result (IsStopped M.Log.LogDisk M.Pages.PageDisk
         (MayMount (M.is_new media.old) (M.begins media.old) (M.gives media.old)) kept (M.is_new media.old ≡ false) M.falls
-        (M.faults media.old) (M.faults media.new) (M.gives media.new) script.now (K.held sink.old) (K.held sink.new)
+        (M.faults media.old) (M.faults media.new) (M.gives media.new) script (K.held sink.old) (K.held sink.new)
         (K.faults sink.old) (K.faults sink.new)) }
     ensures sink { K.faults sink.old ≤ K.faults sink.new }
 {
-    let mut life = match open_life(alloc, media, cluster_of(script)) {
+    let cluster = cluster_of(&script);
+    let mut life = match open_life(alloc, media, same(&cluster)) {
         Ok(life) => life,
         Err(refusal) => return Err(Stopped::NoLife(refusal)),
     };
-    let mut items = script.items.items();
+    let Script {
+        base: _,
+        banks: _,
+        names,
+        items: list,
+    } = script;
+    let mut items = list.items();
     let mut number = 1;
-    loop {
+    'lives: loop {
         let (part, crash, behind) = next_part(&items);
-        match run_part(
-            rt, alloc, script, life, part, number, crash, sink, media, threads, gate,
-        )? {
-            PartEnd::Last => return Ok(()),
-            PartEnd::Next(next) => life = next,
-        }
+        let lived = run_part(rt, alloc, life, &names, part, threads, gate);
+        let how = match crash {
+            Some(how) => how,
+            None => {
+                // Before the text of what it left the last life needs no list of commands any more.
+                drop(list);
+                return end_run(alloc, &names, lived, number, sink, media);
+            }
+        };
+        life = end_part(alloc, &names, &cluster, lived, number, how, sink, media)?;
         items = behind;
         number += 1;
     }

@@ -57,7 +57,7 @@ where
         Ok(script) => script,
         Err(refusal) => return unread(refusal),
     };
-    match run_script(rt, alloc, &script, sink, media, threads, gate) {
+    match run_script(rt, alloc, script, sink, media, threads, gate) {
         Ok(()) => Ending::Report,
         Err(stop) => stopped(alloc, stop),
     }

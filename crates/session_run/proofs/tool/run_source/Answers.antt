@@ -44,8 +44,8 @@ returns-in-Ok-run_script-clause-ends g c =
     answers g.M.Log.LogDisk g.M.Pages.PageDisk (s.left c.args.source.now) (s.left c.take_script.new.source) (k.held c.args.sink.now) (k.held c.run_script.new.sink) (s.faults c.args.source.now) (s.faults c.take_script.new.source) (k.faults c.args.sink.now) (k.faults c.run_script.new.sink) c.in-Ok.script
     (MayMount (m.is_new c.args.media.now) (m.begins c.args.media.now) (m.gives c.args.media.now)) g.kept (m.is_new c.args.media.now ≡ false) m.falls (m.faults c.args.media.now) (m.faults c.run_script.new.media) (m.gives c.run_script.new.media) c.in-Ok.ensures.script c.in-Ok-run_script.ensures.report
 
-pub returns-clause-ends : goal.returns-clause-ends
-returns-clause-ends g c =
+pub returns-in-Err-run_script-clause-ends : goal.returns-in-Err-run_script-clause-ends
+returns-in-Err-run_script-clause-ends g c =
     let s = g.S.Source in
     let k = g.K.Sink in
     let m = g.M.Media in
@@ -55,9 +55,9 @@ returns-clause-ends g c =
 pub returns-in-Err-clause-used : goal.returns-in-Err-clause-used
 returns-in-Err-clause-used g c = λ mounted. absurd (unread_unmounted c.in-Err.refusal (subst HasMounted c.unread.ensures mounted))
 
-pub returns-clause-unmounted : goal.returns-clause-unmounted
-returns-clause-unmounted g c = λ unread. absurd (stopped_read c.in-Err-run_script.stop c.stopped.result c.stopped.ensures unread)
+pub returns-in-Err-run_script-clause-unmounted : goal.returns-in-Err-run_script-clause-unmounted
+returns-in-Err-run_script-clause-unmounted g c = λ unread. absurd (stopped_read c.in-Err-run_script.stop c.stopped.result c.stopped.ensures unread)
 
-pub returns-clause-used : goal.returns-clause-used
-returns-clause-used g c = λ mounted.
+pub returns-in-Err-run_script-clause-used : goal.returns-in-Err-run_script-clause-used
+returns-in-Err-run_script-clause-used g c = λ mounted.
     c.in-Err-run_script.ensures.used_so (stopped_mounted c.in-Err-run_script.stop c.stopped.result c.stopped.ensures mounted)

@@ -1,4 +1,4 @@
-use Rattle.session_run.proofs.round.keeper_laws.Goals as goal
+use Rattle.script_rounds.proofs.keeper.keeper_laws.Goals as goal
 
 pub returns : goal.returns
 returns g c =

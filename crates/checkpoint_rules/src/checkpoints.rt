@@ -22,7 +22,7 @@ use tx_events::{Counters, Memory};
 use tx_model::{Reply, Step};
 
 /// How many events of each history stand behind some steps of a life.
-#[derive(Clone, Copy, Debug, PartialEq, Eq)]
+#[derive(Clone, Copy)]
 pub struct Point {
     pub from: u64,
     pub multi_from: u64,

@@ -12,7 +12,7 @@ use standing_rules::Unfinished;
 
 /// What a checkpoint is judged by besides: the least session that is in the midst of a commit, the least that surely is of
 /// a multixact, and the log at the life's end.
-#[derive(Clone, Copy, Debug, PartialEq, Eq)]
+#[derive(Clone, Copy)]
 pub struct Asked {
     pub commit: Option<u32>,
     pub sure: Option<u32>,

@@ -15,7 +15,7 @@ use std::alloc::Global;
 use tx_model::Report;
 
 /// Why a report can't be read.
-#[derive(Clone, Copy, Debug, PartialEq, Eq)]
+#[derive(Clone, Copy)]
 pub enum ReadRefusal {
     /// This line is the first that can't stand where it stands. Lines count from 1; a missing line is the one after the
     /// last.
@@ -42,7 +42,10 @@ fn behind_title(bytes: &[u8]) -> Option<&[u8]>
 fn is_whole(stage: Stage, rest: &[u8]) -> bool
     ensures { IsTrue result ↔ (stage ≡ stages.Closed) × (length rest.now ≤ 1) }
 {
-    stage == Stage::Closed && rest.len() <= 1
+    match stage {
+        Stage::Closed => rest.len() <= 1,
+        _ => false,
+    }
 }
 
 /// Reads a report back. It answers the report exactly where the bytes are its text; else it names the first wrong

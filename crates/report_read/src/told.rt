@@ -10,7 +10,7 @@ use std::alloc::Global;
 use tx_model::{Counters, Event, LifeList, Line, MultiEvent, NameList, Rec, Sequence, Step};
 
 /// What may follow.
-#[derive(Clone, Copy, PartialEq, Eq)]
+#[derive(Clone, Copy)]
 pub enum Stage {
     /// The title.
     Opening,

@@ -4,7 +4,7 @@ ghost use Rattle.report_words.specs.Words.{behind};
 ghost use Rattle.report_words.specs.Reading.{Gives};
 ghost use Rattle.report_read.specs.Taking.{is_pending_word, pending_name, said_name, second_word};
 
-use report_words::{Unread, number_at, word_at};
+use report_words::{Unread, is_word, number_at, word_at};
 
 /// The name in the line of an event. The bytes begin with the one before the line, and end before its end.
 #[tactic(auto, unfolding(crate::specs::Taking::second_word))]
@@ -30,7 +30,7 @@ pub fn said_name(bytes: &[u8]) -> Result<&[u8], Unread>
 fn is_pending_word(word: &[u8]) -> bool
     ensures { result ≡ is_pending_word word.now }
 {
-    word == b"commit-pending".as_slice() || word == b"multi-pending".as_slice()
+    is_word(word, b"commit-pending") || is_word(word, b"multi-pending")
 }
 
 /// The name in the line of a checkpoint that was refused for a session's sake.
@@ -42,7 +42,7 @@ pub fn pending_name(bytes: &[u8]) -> Result<&[u8], Unread>
     let (_arrow, rest) = word_at(rest)?;
     let (reply, rest) = word_at(rest)?;
     let (name, _rest) = word_at(rest)?;
-    if word == b"checkpoint".as_slice() && is_pending_word(reply) {
+    if is_word(word, b"checkpoint") && is_pending_word(reply) {
         return Ok(name);
     }
     Err(Unread::Form)

@@ -16,7 +16,7 @@ use place_rules::{Reading, reading_of};
 use tx_events::By;
 
 /// A command, the number of its line, where its round stands in both histories, and where in these it may read.
-#[derive(Clone, Copy, Debug, PartialEq, Eq)]
+#[derive(Clone, Copy)]
 pub struct Asking {
     pub by: By,
     pub number: u64,

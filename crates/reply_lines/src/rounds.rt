@@ -17,7 +17,7 @@ use event_rules::{
 
 /// Where a round stands: behind the first `from` events and among the first `to`, and so among the multixact events; which
 /// ids a member may mean that is written in it; and whether what goes by the histories is judged in it.
-#[derive(Clone, Copy, Debug, PartialEq, Eq)]
+#[derive(Clone, Copy)]
 pub struct RoundAt {
     pub from: u64,
     pub to: u64,

@@ -5,5 +5,6 @@ pub mod Walked
 pub mod Found
 pub mod Passing
 pub mod Dumped
+pub mod Parts
 pub mod Stepping
 pub mod Walk

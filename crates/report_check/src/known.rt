@@ -7,14 +7,9 @@ ghost use Rattle.life_tables.specs.Numbered.{IsNumbered};
 ghost use Rattle.reply_lines.specs.Known.{IsKnown};
 ghost use Rattle.life_tables.specs.Lives.{LifeAt, judged_life};
 
-use history_places::{Start, id_marks};
-use life_tables::{
-    are_in_turn, copied, counts_in, front_of, gave_by_lines, late_of, lists_by_lines, log_end_of,
-    logs_of, multi_front_of, oks_of, opened_of, owned, recorded_in, table_of, taken_of, turns_of,
-};
-use multi_rules::held_limits;
+use crate::parts::{fronted_of, lined_of, logged_of, multi_fronted_of};
+use history_places::Start;
 use reply_lines::Known;
-use reply_rules::commit_tops;
 use std::alloc::Global;
 use tx_events::Memory;
 use tx_model::LifeReport;
@@ -30,51 +25,30 @@ pub fn known_of(alloc: Global, report: &LifeReport, starts: &[Start]) -> Result<
     requires offsets { (multi offset : ℕ) → Contains starts.now (start_of multi offset) ↔ ((members : List Member) × Contains at.begun.recorded (multi, offset, members)) }
     ensures { IfOk result (λ known. IsKnown (judged_life at) known) }
 {
-    let life = &report.life;
-    let events = life.events.items();
-    let multis = life.multis.items();
-    let recs = life.recs.items();
-    let table = table_of(alloc, report)?;
-    let own = owned(alloc, &table, events)?;
-    let multi_own = owned(alloc, &table, multis)?;
-    let counts = counts_in(alloc, life)?;
-    let lists = lists_by_lines(alloc, report.steps.items())?;
-    let front = front_of(alloc, report, &own, lists.as_slice())?;
-    let turns = turns_of(alloc, front.places.replay().events())?;
-    let marks = id_marks(alloc, front.places.replay())?;
-    let opened = opened_of(alloc, life, &front.places)?;
-    let taken = taken_of(alloc, &table, &own, front.snaps.as_slice())?;
-    let multi_places = multi_front_of(alloc, life, copied(alloc, starts)?)?;
-    let multi_turns = turns_of(alloc, multi_places.events())?;
-    let multis_in_turn = are_in_turn(multi_turns.as_slice());
-    let held = held_limits(alloc, &multi_places)?;
-    let gave = gave_by_lines(alloc, report.steps.items())?;
-    let oks = oks_of(alloc, &multi_own, multis.len() as u64, gave.as_slice())?;
-    let late = late_of(alloc, multis, &multi_places, oks.as_slice())?;
-    let tops = commit_tops(alloc, recs)?;
-    let recorded = recorded_in(alloc, recs)?;
-    let logs = logs_of(alloc, life)?;
-    let end = log_end_of(report);
+    let lined = lined_of(alloc, report)?;
+    let fronted = fronted_of(alloc, report, &lined)?;
+    let multis = multi_fronted_of(alloc, report, &lined, starts)?;
+    let logged = logged_of(alloc, report)?;
     Ok(Known {
-        table,
-        events: own,
-        multis: multi_own,
-        counts,
-        places: front.places,
-        snaps: front.snaps,
-        turns,
-        marks,
-        opened,
-        taken,
-        multi_places,
-        multi_turns,
-        multis_in_turn,
-        held,
-        oks,
-        late,
-        tops,
-        recorded,
-        logs,
-        end,
+        table: lined.table,
+        events: lined.events,
+        multis: lined.multis,
+        counts: lined.counts,
+        places: fronted.places,
+        snaps: fronted.snaps,
+        turns: fronted.turns,
+        marks: fronted.marks,
+        opened: fronted.opened,
+        taken: fronted.taken,
+        multi_places: multis.places,
+        multi_turns: multis.turns,
+        multis_in_turn: multis.in_turn,
+        held: multis.held,
+        oks: multis.oks,
+        late: multis.late,
+        tops: logged.tops,
+        recorded: logged.recorded,
+        logs: logged.logs,
+        end: logged.end,
     })
 }

@@ -12,6 +12,7 @@ mod known;
 mod law;
 mod life;
 mod lives;
+mod parts;
 mod records;
 mod round_lines;
 mod steps;

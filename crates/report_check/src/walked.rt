@@ -4,7 +4,7 @@ ghost use Rattle.std.specs.Prelude.{◌≡◌, ◌+◌, IfOk};
 use tx_model::Memory;
 
 /// How many lines a part has, where all are lawful; else how many stand before the first that isn't.
-#[derive(Clone, Copy, Debug, PartialEq, Eq)]
+#[derive(Clone, Copy)]
 pub enum Walked {
     Lawful { lines: u64 },
     Broken { lines: u64 },

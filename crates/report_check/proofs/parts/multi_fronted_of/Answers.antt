@@ -1,4 +1,4 @@
-use Rattle.std.proofs.Common.{◌≡◌, ℕ, ◌≤◌, List, drop, length, map, sym, ap, subst, ◌∙◌}
+use Rattle.std.proofs.Common.{◌≡◌, ℕ, ◌<◌, ◌≤◌, List, drop, length, map, sym, ap, subst, ◌∙◌}
 use Rattle.std.specs.Global.{Vec}
 use Rattle.std.specs.BTreeSet.{contains}
 use Rattle.std.specs.List.{All, flat_map, list_any}

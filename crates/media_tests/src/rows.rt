@@ -4,7 +4,7 @@ use disk_core::Which;
 use disk_fuse::Fails;
 use std::alloc::AllocGlobal;
 use std::process::Abort;
-use std::str::SplitWhitespace;
+use std::str::Split;
 use std::sync::Wait;
 use std::thread::Threads;
 
@@ -127,13 +127,13 @@ fn way_of(
 }
 
 /// The number that the next word writes.
-fn next_number(rt: &impl Abort, words: &mut SplitWhitespace<'_>) -> u64 {
+fn next_number(rt: &impl Abort, words: &mut Split<'_, &str>) -> u64 {
     let word = words.next().unwrap_or("");
     word.parse::<u64>().ok().expect(rt, "a number")
 }
 
 /// The volume that the next two words name.
-fn next_volume(rt: &impl Abort, words: &mut SplitWhitespace<'_>) -> Which {
+fn next_volume(rt: &impl Abort, words: &mut Split<'_, &str>) -> Which {
     let store = words.next().unwrap_or("");
     let bank = u32::try_from(next_number(rt, words))
         .ok()
@@ -151,7 +151,7 @@ fn next_volume(rt: &impl Abort, words: &mut SplitWhitespace<'_>) -> Which {
 /// Runs the script of a row as its part says. They come out in each of the ways.
 fn check_part(rt: &(impl Abort + AllocGlobal + Threads + Wait + Sync), row: Row<'_>, part: &str) {
     let (head, _) = part.split_once("\n").unwrap_or((part, ""));
-    let mut words = head.split_whitespace();
+    let mut words = head.split(" ");
     let is_once = match words.next() {
         Some("once") => true,
         Some("from") => false,

@@ -1,36 +1,29 @@
 -- Bytes behind which room is laid out.
-use Rattle.std.proofs.Common.{◌≡◌, ℕ, List, [], ◌∷◌, ◌++◌, ◌+◌, ◌-◌, ◌≤◌, take, drop, suc, length, arith, ap, sym, ◌∙◌, append_assoc, append-nil, Result, Ok, Err, OnOk}
+use Rattle.std.proofs.Common.{◌≡◌, ℕ, List, [], ◌∷◌, ◌++◌, ◌+◌, ◌<◌, ◌≤◌, take, drop, length, arith, ap, sym, ◌∙◌, append_assoc, append-nil, take-add}
 use Rattle.std.proofs.Math.ListN.{set}
-use Rattle.std.proofs.lemmas.List.{length-take-le, length-drop, take-append-le, take_all, take-take, drop-set}
-use Rattle.std.proofs.Math.Seq.{take-append-add}
+use Rattle.std.proofs.lemmas.List.{length-take-le, take-append-le, take_all, take-take, take_more_set}
+use Rattle.report_text.specs.Words.{more}
 
--- the first bytes of a piece that was laid over the room
-first_laid : (xs p : List ℕ) (u k : ℕ) → u ≤ length xs → k ≤ length p → take (u + k) (take u xs ++ p ++ drop (u + length p) xs) ≡ take u xs ++ take k p
-first_laid xs p u k h l =
-    let rest = drop (u + length p) xs in
+-- digits that were written from a place on
+pub digits_laid : (old new ds : List ℕ) (at end r : ℕ) → r + length ds ≡ end → end ≡ at + length ds → drop r new ≡ ds ++ drop end old → take r new ≡ take r old → take end new ≡ take at old ++ ds
+digits_laid old new ds at end r start e written before =
+    let same : r ≡ at = omega arith in
+    ap (λ k. take k new) (sym start) ∙ take-add r (length ds) new
+    ∙ ap (λ t. t ++ take (length ds) (drop r new)) before
+    ∙ ap (λ t. take r old ++ take (length ds) t) written
+    ∙ ap (λ t. take r old ++ t) (take-append-le (length ds) ds (drop end old) (omega arith) ∙ take_all (length ds) ds (omega arith))
+    ∙ ap (λ k. take k old ++ ds) same
+
+-- the same behind a space
+pub number_laid : (old ds : List ℕ) (at : ℕ) → at < length old → take (at + 1) (set old at 32) ++ ds ≡ take at old ++ 32 ∷ ds
+number_laid old ds at h = ap (λ t. t ++ ds) (take_more_set old at 32 h) ∙ append_assoc (take at old) (32 ∷ []) ds
+
+pub one_number : (o ds : List ℕ) → o ++ 32 ∷ ds ≡ o ++ more (ds ∷ [])
+unfolding more
+one_number o ds = ap (λ t. o ++ 32 ∷ t) (sym (append-nil ds))
+
+-- a front of a front
+pub cut_again : (xs : List ℕ) (n u : ℕ) → u ≤ length xs → n ≤ length (take u xs) → take n xs ≡ take n (take u xs)
+cut_again xs n u h l =
     let size : length (take u xs) ≡ u = length-take-le u xs h in
-    ap (take (u + k)) (append_assoc (take u xs) p rest) ∙ ap (λ n. take (n + k) (take u xs ++ (p ++ rest))) (sym size)
-    ∙ take-append-add (take u xs) (p ++ rest) k ∙ ap (λ t. take u xs ++ t) (take-append-le k p rest l)
-
--- of 21 bytes from a place of a word on, those before its place 21
-pub last_laid : (new xs w p : List ℕ) (u from : ℕ) → new ≡ take u xs ++ p ++ drop (u + length p) xs → p ≡ take (from + 21 - from) (drop from w) → u ≤ length xs → from ≤ 21 → length w ≡ 42 → take (u + (21 - from)) new ≡ take u xs ++ take (21 - from) (drop from w)
-last_laid new xs w p u from n e h f l =
-    let some : 21 ≤ length (drop from w) = simp length-drop (omega arith) in
-    let long : length (take (from + 21 - from) (drop from w)) ≡ from + 21 - from = length-take-le (from + 21 - from) (drop from w) (omega arith) in
-    let size : length p ≡ from + 21 - from = ap length e ∙ long in
-    ap (take (u + (21 - from))) n ∙ first_laid xs p u (21 - from) h (omega arith)
-    ∙ ap (λ t. take u xs ++ take (21 - from) t) e ∙ ap (λ t. take u xs ++ t) (take-take (21 - from) (from + 21 - from) (drop from w) (omega arith))
-
--- a space before the digits that end at place 21
-pub number_last : (buf ds zs : List ℕ) (r : ℕ) → 1 ≤ r → r + length ds ≡ 21 → r ≤ length buf → drop r buf ≡ ds ++ zs → take (21 - (r - 1)) (drop (r - 1) (set buf (r - 1) 32)) ≡ 32 ∷ (ds ++ [])
-number_last buf ds zs r one end within h =
-    let e : r - 1 + 1 ≡ r = omega arith in
-    let n : 21 - (r - 1) ≡ suc (length ds) = omega arith in
-    let d : drop (r - 1) (set buf (r - 1) 32) ≡ 32 ∷ (ds ++ zs) = drop-set buf (r - 1) 32 (omega arith) ∙ ap (λ i. 32 ∷ drop i buf) e ∙ ap (λ t. 32 ∷ t) h in
-    ap (λ k. take k (drop (r - 1) (set buf (r - 1) 32))) n ∙ ap (take (suc (length ds))) d
-    ∙ ap (λ t. 32 ∷ t) (take-append-le (length ds) ds zs (omega arith) ∙ take_all (length ds) ds (omega arith) ∙ sym (append-nil ds))
-
--- a call that adds what this is
-pub ok_as : {T E : Type 0} (r : Result T E) (a b x y : List ℕ) → x ≡ y → OnOk r (b ≡ a ++ x) → OnOk r (b ≡ a ++ y)
-ok_as (Ok t) a b x y e h = h ∙ ap (λ s. a ++ s) e
-ok_as (Err f) a b x y e h = tt
+    sym (take-take n u xs (omega arith))

@@ -1,5 +1,5 @@
 //! Bytes that grow at their end, into room that was laid out ahead.
-ghost use Rattle.std.specs.Prelude.{◌≡◌, ℕ, ◌+◌, ◌-◌, ◌≤◌, [], ◌∷◌, ◌++◌, OnOk, drop, length, take};
+ghost use Rattle.std.specs.Prelude.{◌≡◌, ℕ, ◌+◌, ◌<◌, ◌≤◌, [], ◌∷◌, ◌++◌, OnOk, drop, length, take};
 ghost use Rattle.std.specs.Fmt.{decimal};
 ghost use Rattle.report_text.specs.Words.{more};
 
@@ -48,16 +48,79 @@ fn lay(bytes: &mut Vec<u8>, at: usize, piece: &[u8])
     lay_over(bytes, at, piece);
 }
 
-/// Lays those of 42 bytes that stand from this place to 21 over the bytes from a place on. 21 bytes are copied, since so
-/// many take no loop.
+/// How many digits a number below 10,000 has.
+#[tactic(auto, using(itoa::proofs::Decimal::length_one, itoa::proofs::Decimal::length_two, itoa::proofs::Decimal::length_pair))]
 #[inline(always)]
-fn lay_last(bytes: &mut Vec<u8>, at: usize, word: &[u8; 42], from: usize)
-    requires room { at + 21 ≤ length bytes.old.items }
-    requires within { from ≤ 21 }
-    ensures long { length bytes.new.items ≡ length bytes.old.items }
-    ensures last { take (at + (21 - from)) bytes.new.items ≡ take at bytes.old.items ++ take (21 - from) (drop from word.now) }
+fn count_few(n: u64) -> usize
+    requires { n < 10000 }
+    ensures { result ≡ length (decimal n) }
 {
-    lay(bytes, at, &word[from..from + 21]);
+    if n < 100 {
+        if n < 10 { 1 } else { 2 }
+    } else if n < 1000 {
+        3
+    } else {
+        4
+    }
+}
+
+/// How many digits a number has.
+#[tactic(auto, using(itoa::proofs::Decimal::length_four))]
+#[inline(always)]
+fn count_digits(n: u64) -> usize
+    ensures { result ≡ length (decimal n) }
+{
+    let mut left = n;
+    let mut behind = 0;
+    while left >= 10_000 {
+        left /= 10_000;
+        behind += 4;
+    }
+    count_few(left) + behind
+}
+
+/// Writes a number's digits over the bytes from a place on. Returns where they end.
+#[inline(always)]
+fn digits_over(bytes: &mut [u8], at: usize, n: u64) -> usize
+    requires { at + 20 ≤ length bytes.old }
+    ensures end { result ≡ at + length (decimal n) }
+    ensures within { result ≤ length bytes.old }
+    ensures written { take result bytes.new ≡ take at bytes.old ++ decimal n }
+{
+    let end = at + count_digits(n);
+    write_digits(n, bytes, end);
+    end
+}
+
+/// The same behind a space.
+#[inline(always)]
+fn number_over(bytes: &mut [u8], at: usize, n: u64) -> usize
+    requires { at + 21 ≤ length bytes.old }
+    ensures within { result ≤ length bytes.old }
+    ensures written { take result bytes.new ≡ take at bytes.old ++ 32 ∷ decimal n }
+{
+    bytes[at] = b' ';
+    digits_over(bytes, at + 1, n)
+}
+
+/// Lays a number's digits over the bytes from a place on. Returns where they end.
+#[inline(always)]
+fn lay_digits(bytes: &mut Vec<u8>, at: usize, n: u64) -> usize
+    requires { at + 20 ≤ length bytes.old.items }
+    ensures within { result ≤ length bytes.new.items }
+    ensures written { take result bytes.new.items ≡ take at bytes.old.items ++ decimal n }
+{
+    digits_over(bytes, at, n)
+}
+
+/// The same behind a space.
+#[inline(always)]
+fn lay_number(bytes: &mut Vec<u8>, at: usize, n: u64) -> usize
+    requires { at + 21 ≤ length bytes.old.items }
+    ensures within { result ≤ length bytes.new.items }
+    ensures written { take result bytes.new.items ≡ take at bytes.old.items ++ 32 ∷ decimal n }
+{
+    number_over(bytes, at, n)
 }
 
 /// Lays out room behind the bytes. Without memory there is none.
@@ -95,6 +158,15 @@ impl Bytes {
         ensures { self.new ≡ [] }
     {
         self.used = 0;
+    }
+
+    /// Takes off what stands behind so many bytes.
+    #[tactic(auto, using(crate::proofs::Laid::cut_again))]
+    pub fn cut(&mut self, count: usize)
+        requires { count ≤ length self.old }
+        ensures { self.new ≡ take count self.old }
+    {
+        self.used = count;
     }
 
     pub fn into_vec(self) -> Vec<u8>
@@ -139,37 +211,49 @@ impl Bytes {
         self.put(&[byte])
     }
 
-    // Adds those of 42 bytes that stand from this place to 21.
-    #[inline(always)]
-    fn put_last(&mut self, word: &[u8; 42], from: usize) -> Result<(), Memory>
-        requires { from ≤ 21 }
-        ensures ok { OnOk result (self.new ≡ self.old ++ take (21 - from) (drop from word.now)) }
+    // Adds a number for which there is no room, behind a space.
+    #[cold]
+    #[inline(never)]
+    fn append_number(&mut self, n: u64) -> Result<(), Memory>
+        ensures ok { OnOk result (self.new ≡ self.old ++ 32 ∷ decimal n) }
     {
-        if self.laid.len() - self.used < 21 {
-            return self.append(&word[from..21]);
-        }
-        lay_last(&mut self.laid, self.used, word, from);
-        self.used += 21 - from;
-        Ok(())
+        // A space, and at most 20 digits.
+        let mut word = [0; 21];
+        let end = number_over(&mut word, 0, n);
+        self.append(&word[..end])
+    }
+
+    // The same without a space.
+    #[cold]
+    #[inline(never)]
+    fn append_digits(&mut self, n: u64) -> Result<(), Memory>
+        ensures ok { OnOk result (self.new ≡ self.old ++ decimal n) }
+    {
+        let mut word = [0; 20];
+        let end = digits_over(&mut word, 0, n);
+        self.append(&word[..end])
     }
 
     /// Adds a number.
     pub fn digits(&mut self, n: u64) -> Result<(), Memory>
         ensures ok { OnOk result (self.new ≡ self.old ++ decimal n) }
     {
-        let mut word = [0; 42];
-        let first = write_digits(n, &mut word, 21);
-        self.put_last(&word, first)
+        if self.laid.len() - self.used < 20 {
+            return self.append_digits(n);
+        }
+        self.used = lay_digits(&mut self.laid, self.used, n);
+        Ok(())
     }
 
     /// Adds a number behind a space.
+    #[tactic(auto, using(crate::proofs::Laid::one_number))]
     pub fn number(&mut self, n: u64) -> Result<(), Memory>
         ensures ok { OnOk result (self.new ≡ self.old ++ more (decimal n ∷ [])) }
     {
-        // A space, and at most 20 digits.
-        let mut word = [0; 42];
-        let first = write_digits(n, &mut word, 21);
-        word[first - 1] = b' ';
-        self.put_last(&word, first - 1)
+        if self.laid.len() - self.used < 21 {
+            return self.append_number(n);
+        }
+        self.used = lay_number(&mut self.laid, self.used, n);
+        Ok(())
     }
 }

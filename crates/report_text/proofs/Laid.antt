@@ -1,22 +1,45 @@
 -- Bytes behind which room is laid out.
-use Rattle.std.proofs.Common.{◌≡◌, ℕ, List, [], ◌∷◌, ◌++◌, ◌+◌, ◌<◌, ◌≤◌, take, drop, length, arith, ap, sym, ◌∙◌, append_assoc, append-nil, take-add}
-use Rattle.std.proofs.Math.ListN.{set}
-use Rattle.std.proofs.lemmas.List.{length-take-le, take-append-le, take_all, take-take, take_more_set}
-use Rattle.report_text.specs.Words.{more}
+use Rattle.std.proofs.Common.{◌≡◌, ℕ, zero, suc, List, [], ◌∷◌, ◌++◌, ◌+◌, ◌-◌, ◌*◌, ◌/◌, ◌%◌, ◌<◌, ◌≤◌, Bool, true, ◌&&◌, T, eqb, get_or, take, length, arith, ap, sym, ◌∙◌, append_assoc, append-nil, eq-zero-or-pos, eqb→eq, inl, inr}
+use Rattle.std.proofs.lemmas.List.{length-take-le, take-take}
+use Rattle.std.specs.Fmt.{decimal}
+use lib.Ieee.Fits.{and_l, and_r}
+use Rattle.itoa.proofs.Decimal.{decimal_four, decimal_pair}
+use Rattle.report_text.specs.Words.{more, pair}
+use Rattle.report_text.specs.declared.bytes.TheConstants.{PAIRS}
 
--- digits that were written from a place on
-pub digits_laid : (old new ds : List ℕ) (at end r : ℕ) → r + length ds ≡ end → end ≡ at + length ds → drop r new ≡ ds ++ drop end old → take r new ≡ take r old → take end new ≡ take at old ++ ds
-digits_laid old new ds at end r start e written before =
-    let same : r ≡ at = omega arith in
-    ap (λ k. take k new) (sym start) ∙ take-add r (length ds) new
-    ∙ ap (λ t. t ++ take (length ds) (drop r new)) before
-    ∙ ap (λ t. take r old ++ take (length ds) t) written
-    ∙ ap (λ t. take r old ++ t) (take-append-le (length ds) ds (drop end old) (omega arith) ∙ take_all (length ds) ds (omega arith))
-    ∙ ap (λ k. take k old ++ ds) same
+-- ---- what was written piece by piece
 
--- the same behind a space
-pub number_laid : (old ds : List ℕ) (at : ℕ) → at < length old → take (at + 1) (set old at 32) ++ ds ≡ take at old ++ 32 ∷ ds
-number_laid old ds at h = ap (λ t. t ++ ds) (take_more_set old at 32 h) ∙ append_assoc (take at old) (32 ∷ []) ds
+pub then_two : (o a b z y : List ℕ) → y ≡ o ++ a → z ≡ y ++ b → z ≡ o ++ (a ++ b)
+then_two o a b z y e f = f ∙ ap (λ t. t ++ b) e ∙ append_assoc o a b
+
+pub then_three : (o a b c z y x : List ℕ) → x ≡ o ++ a → y ≡ x ++ b → z ≡ y ++ c → z ≡ o ++ (a ++ (b ++ c))
+then_three o a b c z y x e f g = then_two x b c z y f g ∙ ap (λ t. t ++ (b ++ c)) e ∙ append_assoc o a (b ++ c)
+
+-- ---- digits
+
+abbrev are_pairs : ℕ → Bool
+are_pairs zero = true
+are_pairs (suc p) = (eqb (get_or PAIRS (p * 2) 0) (48 + p / 10) && eqb (get_or PAIRS (p * 2 + 1) 0) (48 + p % 10)) && are_pairs p
+
+below : (n p : ℕ) → T (are_pairs n) → p < n → (get_or PAIRS (p * 2) 0 ≡ 48 + p / 10) × (get_or PAIRS (p * 2 + 1) 0 ≡ 48 + p % 10)
+below zero p t h = absurd (omega arith)
+below (suc n) p t h =
+    elim (eq-zero-or-pos (n - p)) [
+      | inl z ↦ let e : p ≡ n = omega arith in let a = and_l _ (are_pairs n) t in rw e (eqb→eq _ _ (and_l _ _ a), eqb→eq _ _ (and_r _ _ a))
+      | inr g ↦ below n p (and_r _ (are_pairs n) t) (omega arith)
+    ]
+
+-- the table of two digits
+pub pairs_at : (p : ℕ) → p < 100 → (get_or PAIRS (p * 2) 0 ≡ 48 + p / 10) × (get_or PAIRS (p * 2 + 1) 0 ≡ 48 + p % 10)
+pairs_at p h = below 100 p tt h
+
+pub of_few : (n : ℕ) → 100 ≤ n → n < 10000 → decimal n ≡ decimal (n / 100) ++ pair (n % 100)
+of_few n lo hi = decimal_pair n lo (omega arith)
+
+pub of_more : (n : ℕ) → 10000 ≤ n → n < 100000000 → decimal n ≡ decimal (n / 10000) ++ (pair (n % 10000 / 100) ++ pair (n % 10000 % 100))
+of_more n lo hi = decimal_four n lo (omega arith)
+
+-- ---- the text
 
 pub one_number : (o ds : List ℕ) → o ++ 32 ∷ ds ≡ o ++ more (ds ∷ [])
 unfolding more

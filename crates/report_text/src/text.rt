@@ -56,17 +56,11 @@ impl Text {
         self.bytes.put(word)
     }
 
-    /// A name behind a space. A short one is copied without a loop.
-    #[tactic(auto, unfolding(crate::specs::Words::more))]
+    /// A name behind a space.
     pub fn name(&mut self, name: &[u8]) -> Result<(), Memory>
         ensures ok { OnOk result (self.new ≡ self.old ++ more (name.now ∷ [])) }
     {
-        match name {
-            [a] => self.put(&[b' ', *a]),
-            [a, b] => self.put(&[b' ', *a, *b]),
-            [a, b, c] => self.put(&[b' ', *a, *b, *c]),
-            _ => self.word(name),
-        }
+        self.bytes.name(name)
     }
 
     /// A number's digits. A record's number may need more than 64 bits.

@@ -1,9 +1,9 @@
 //! Bytes that grow at their end, into room that was laid out ahead.
-ghost use Rattle.std.specs.Prelude.{◌≡◌, ℕ, ◌+◌, ◌-◌, ◌≤◌, [], ◌∷◌, ◌++◌, OnOk, drop, length, take};
+ghost use Rattle.std.specs.Prelude.{◌≡◌, ℕ, ◌+◌, ◌<◌, ◌≤◌, [], ◌∷◌, ◌++◌, OnOk, drop, length, take};
 ghost use Rattle.std.specs.Fmt.{decimal};
-ghost use Rattle.report_text.specs.Words.{more};
+ghost use Rattle.report_text.specs.Words.{more, pair};
 
-use itoa::write_digits;
+use itoa::Buffer;
 use std::alloc::Global;
 use std::marker::Model;
 use tx_events::Memory;
@@ -48,16 +48,177 @@ fn lay(bytes: &mut Vec<u8>, at: usize, piece: &[u8])
     lay_over(bytes, at, piece);
 }
 
-/// Lays those of 42 bytes that stand from this place to 21 over the bytes from a place on. 21 bytes are copied, since so
-/// many take no loop.
+/// The two digits of each number below 100.
+static PAIRS: [u8; 200] =
+    *b"00010203040506070809101112131415161718192021222324252627282930313233343536373839404142434445464748495051525354555657585960616263646566676869707172737475767778798081828384858687888990919293949596979899";
+
+/// Writes a byte over that at a place. Returns the next place, here as below.
+#[tactic(auto, using(std::proofs::lemmas::List::take_more_set))]
 #[inline(always)]
-fn lay_last(bytes: &mut Vec<u8>, at: usize, word: &[u8; 42], from: usize)
-    requires room { at + 21 ≤ length bytes.old.items }
-    requires within { from ≤ 21 }
-    ensures long { length bytes.new.items ≡ length bytes.old.items }
-    ensures last { take (at + (21 - from)) bytes.new.items ≡ take at bytes.old.items ++ take (21 - from) (drop from word.now) }
+fn byte_over(bytes: &mut [u8], at: usize, byte: u8) -> usize
+    requires { at + 1 ≤ length bytes.old }
+    ensures next { result ≡ at + 1 }
+    ensures written { take result bytes.new ≡ take at bytes.old ++ byte ∷ [] }
 {
-    lay(bytes, at, &word[from..from + 21]);
+    bytes[at] = byte;
+    at + 1
+}
+
+/// Writes the digit of a number below 10.
+#[inline(always)]
+fn one_over(bytes: &mut [u8], at: usize, n: u64) -> usize
+    requires room { at + 1 ≤ length bytes.old }
+    requires small { n < 10 }
+    ensures next { result ≡ at + 1 }
+    ensures written { take result bytes.new ≡ take at bytes.old ++ (48 + n) ∷ [] }
+{
+    byte_over(bytes, at, b'0' + n as u8)
+}
+
+/// Writes the two digits of a number below 100.
+#[inline(always)]
+fn pair_over(bytes: &mut [u8], at: usize, n: u64) -> usize
+    requires room { at + 2 ≤ length bytes.old }
+    requires small { n < 100 }
+    ensures next { result ≡ at + 2 }
+    ensures written { take result bytes.new ≡ take at bytes.old ++ pair n }
+{
+    let from = n as usize * 2;
+    let (tens, ones) = (PAIRS[from], PAIRS[from + 1]);
+    let next = byte_over(bytes, at, tens);
+    byte_over(bytes, next, ones)
+}
+
+/// Writes the digits of a number below 100.
+#[tactic(auto, using(itoa::proofs::Decimal::decimal_two, std::proofs::lemmas::Fmt::decimal_digit))]
+#[inline(always)]
+fn first_over(bytes: &mut [u8], at: usize, n: u64) -> usize
+    requires room { at + 2 ≤ length bytes.old }
+    requires small { n < 100 }
+    ensures next { result ≤ at + 2 }
+    ensures written { take result bytes.new ≡ take at bytes.old ++ decimal n }
+{
+    if n < 10 {
+        one_over(bytes, at, n)
+    } else {
+        pair_over(bytes, at, n)
+    }
+}
+
+/// Writes the digits of a number below 10,000.
+#[inline(always)]
+fn few_over(bytes: &mut [u8], at: usize, n: u64) -> usize
+    requires room { at + 4 ≤ length bytes.old }
+    requires small { n < 10000 }
+    ensures next { result ≤ at + 4 }
+    ensures written { take result bytes.new ≡ take at bytes.old ++ decimal n }
+{
+    if n < 100 {
+        return first_over(bytes, at, n);
+    }
+    let next = first_over(bytes, at, n / 100);
+    pair_over(bytes, next, n % 100)
+}
+
+/// Writes the digits of a number from 10,000 to below 100,000,000.
+#[inline(always)]
+fn more_over(bytes: &mut [u8], at: usize, n: u64) -> usize
+    requires room { at + 8 ≤ length bytes.old }
+    requires some { 10000 ≤ n }
+    requires small { n < 100000000 }
+    ensures next { result ≤ at + 8 }
+    ensures written { take result bytes.new ≡ take at bytes.old ++ decimal n }
+{
+    let low = n % 10_000;
+    let next = few_over(bytes, at, n / 10_000);
+    let next = pair_over(bytes, next, low / 100);
+    pair_over(bytes, next, low % 100)
+}
+
+/// Writes the digits of a number of up to eight.
+#[inline(always)]
+fn digits_over(bytes: &mut [u8], at: usize, n: u64) -> usize
+    requires room { at + 8 ≤ length bytes.old }
+    requires small { n < 100000000 }
+    ensures next { result ≤ length bytes.old }
+    ensures written { take result bytes.new ≡ take at bytes.old ++ decimal n }
+{
+    if n < 10_000 {
+        few_over(bytes, at, n)
+    } else {
+        more_over(bytes, at, n)
+    }
+}
+
+/// Writes them behind a space.
+#[inline(always)]
+fn number_over(bytes: &mut [u8], at: usize, n: u64) -> usize
+    requires room { at + 9 ≤ length bytes.old }
+    requires small { n < 100000000 }
+    ensures next { result ≤ length bytes.old }
+    ensures written { take result bytes.new ≡ take at bytes.old ++ 32 ∷ decimal n }
+{
+    let next = byte_over(bytes, at, b' ');
+    digits_over(bytes, next, n)
+}
+
+/// Writes a name of up to three bytes behind a space.
+#[inline(always)]
+fn name_over(bytes: &mut [u8], at: usize, name: &[u8]) -> usize
+    requires room { at + 4 ≤ length bytes.old }
+    requires some { 1 ≤ length name.now }
+    requires short { length name.now ≤ 3 }
+    ensures next { result ≤ length bytes.old }
+    ensures written { take result bytes.new ≡ take at bytes.old ++ 32 ∷ name.now }
+{
+    let next = byte_over(bytes, at, b' ');
+    match name {
+        [a] => byte_over(bytes, next, *a),
+        [a, b] => {
+            let next = byte_over(bytes, next, *a);
+            byte_over(bytes, next, *b)
+        }
+        [a, b, c] => {
+            let next = byte_over(bytes, next, *a);
+            let next = byte_over(bytes, next, *b);
+            byte_over(bytes, next, *c)
+        }
+        _ => next,
+    }
+}
+
+/// Lays the digits of a number of up to eight over the bytes from a place on.
+#[inline(always)]
+fn lay_digits(bytes: &mut Vec<u8>, at: usize, n: u64) -> usize
+    requires room { at + 8 ≤ length bytes.old.items }
+    requires small { n < 100000000 }
+    ensures within { result ≤ length bytes.new.items }
+    ensures written { take result bytes.new.items ≡ take at bytes.old.items ++ decimal n }
+{
+    digits_over(bytes, at, n)
+}
+
+/// Lays them behind a space.
+#[inline(always)]
+fn lay_number(bytes: &mut Vec<u8>, at: usize, n: u64) -> usize
+    requires room { at + 9 ≤ length bytes.old.items }
+    requires small { n < 100000000 }
+    ensures within { result ≤ length bytes.new.items }
+    ensures written { take result bytes.new.items ≡ take at bytes.old.items ++ 32 ∷ decimal n }
+{
+    number_over(bytes, at, n)
+}
+
+/// Lays a name of up to three bytes behind a space over the bytes from a place on.
+#[inline(always)]
+fn lay_name(bytes: &mut Vec<u8>, at: usize, name: &[u8]) -> usize
+    requires room { at + 4 ≤ length bytes.old.items }
+    requires some { 1 ≤ length name.now }
+    requires short { length name.now ≤ 3 }
+    ensures within { result ≤ length bytes.new.items }
+    ensures written { take result bytes.new.items ≡ take at bytes.old.items ++ 32 ∷ name.now }
+{
+    name_over(bytes, at, name)
 }
 
 /// Lays out room behind the bytes. Without memory there is none.
@@ -95,6 +256,15 @@ impl Bytes {
         ensures { self.new ≡ [] }
     {
         self.used = 0;
+    }
+
+    /// Takes off what stands behind so many bytes.
+    #[tactic(auto, using(crate::proofs::Laid::cut_again))]
+    pub fn cut(&mut self, count: usize)
+        requires { count ≤ length self.old }
+        ensures { self.new ≡ take count self.old }
+    {
+        self.used = count;
     }
 
     pub fn into_vec(self) -> Vec<u8>
@@ -139,37 +309,75 @@ impl Bytes {
         self.put(&[byte])
     }
 
-    // Adds those of 42 bytes that stand from this place to 21.
-    #[inline(always)]
-    fn put_last(&mut self, word: &[u8; 42], from: usize) -> Result<(), Memory>
-        requires { from ≤ 21 }
-        ensures ok { OnOk result (self.new ≡ self.old ++ take (21 - from) (drop from word.now)) }
+    // Adds a number that is long, or for which there is no room.
+    #[cold]
+    #[inline(never)]
+    fn long_digits(&mut self, n: u64) -> Result<(), Memory>
+        ensures ok { OnOk result (self.new ≡ self.old ++ decimal n) }
     {
-        if self.laid.len() - self.used < 21 {
-            return self.append(&word[from..21]);
-        }
-        lay_last(&mut self.laid, self.used, word, from);
-        self.used += 21 - from;
-        Ok(())
+        let mut buffer = Buffer::new();
+        self.put(buffer.format(n).as_bytes())
     }
 
     /// Adds a number.
     pub fn digits(&mut self, n: u64) -> Result<(), Memory>
         ensures ok { OnOk result (self.new ≡ self.old ++ decimal n) }
     {
-        let mut word = [0; 42];
-        let first = write_digits(n, &mut word, 21);
-        self.put_last(&word, first)
+        if n >= 100_000_000 {
+            return self.long_digits(n);
+        }
+        if self.laid.len() - self.used < 8 {
+            return self.long_digits(n);
+        }
+        self.used = lay_digits(&mut self.laid, self.used, n);
+        Ok(())
+    }
+
+    // The same behind a space.
+    #[cold]
+    #[inline(never)]
+    fn long_number(&mut self, n: u64) -> Result<(), Memory>
+        ensures ok { OnOk result (self.new ≡ self.old ++ 32 ∷ decimal n) }
+    {
+        self.byte(b' ')?;
+        self.long_digits(n)
     }
 
     /// Adds a number behind a space.
+    #[tactic(auto, using(crate::proofs::Laid::one_number))]
     pub fn number(&mut self, n: u64) -> Result<(), Memory>
         ensures ok { OnOk result (self.new ≡ self.old ++ more (decimal n ∷ [])) }
     {
-        // A space, and at most 20 digits.
-        let mut word = [0; 42];
-        let first = write_digits(n, &mut word, 21);
-        word[first - 1] = b' ';
-        self.put_last(&word, first - 1)
+        if n >= 100_000_000 {
+            return self.long_number(n);
+        }
+        if self.laid.len() - self.used < 9 {
+            return self.long_number(n);
+        }
+        self.used = lay_number(&mut self.laid, self.used, n);
+        Ok(())
+    }
+
+    // Adds a name that is long, or for which there is no room, behind a space.
+    fn long_name(&mut self, name: &[u8]) -> Result<(), Memory>
+        ensures ok { OnOk result (self.new ≡ self.old ++ 32 ∷ name.now) }
+    {
+        self.byte(b' ')?;
+        self.put(name)
+    }
+
+    /// Adds a name behind a space. A short one is copied without a loop.
+    #[tactic(auto, using(crate::proofs::Laid::one_number))]
+    pub fn name(&mut self, name: &[u8]) -> Result<(), Memory>
+        ensures ok { OnOk result (self.new ≡ self.old ++ more (name.now ∷ [])) }
+    {
+        if name.is_empty() || name.len() > 3 {
+            return self.long_name(name);
+        }
+        if self.laid.len() - self.used < 4 {
+            return self.long_name(name);
+        }
+        self.used = lay_name(&mut self.laid, self.used, name);
+        Ok(())
     }
 }

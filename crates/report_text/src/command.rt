@@ -1,5 +1,6 @@
 //! The words of a command.
 ghost use Rattle.std.specs.Prelude.{◌≡◌, [], ◌∷◌, ◌++◌, OnOk};
+ghost use Rattle.std.specs.Fmt.{decimal};
 ghost use Rattle.report_text.specs.Words.{more};
 ghost use Rattle.report_text.specs.CommandText.{command_word, command_rest, command_words};
 
@@ -41,6 +42,14 @@ fn put_command_word(out: &mut Text, command: &Command) -> Result<(), Memory>
     put_spaced(out, command)
 }
 
+#[tactic(auto, using(crate::proofs::MoreWords::then_more))]
+fn put_name_and_number(out: &mut Text, name: &Name, n: u32) -> Result<(), Memory>
+    ensures ok { OnOk result (out.new ≡ out.old ++ more (name.now ∷ decimal n ∷ [])) }
+{
+    out.name(name.items())?;
+    out.number(u64::from(n))
+}
+
 #[tactic(auto, using(crate::proofs::MoreWords::then_more, crate::proofs::MoreWords::no_more))]
 fn put_command_rest(out: &mut Text, command: &Command) -> Result<(), Memory>
     ensures ok { OnOk result (out.new ≡ out.old ++ more (command_rest command.now)) }
@@ -55,13 +64,13 @@ fn put_command_rest(out: &mut Text, command: &Command) -> Result<(), Memory>
         Command::Abort => Ok(()),
         Command::Trim => Ok(()),
         Command::Horizon => Ok(()),
-        Command::Snap { name } => out.word(name.items()),
-        Command::DropSnap { name } => out.word(name.items()),
-        Command::See { name, x } => out.named(name.items(), u64::from(x.number)),
+        Command::Snap { name } => out.name(name.items()),
+        Command::DropSnap { name } => out.name(name.items()),
+        Command::See { name, x } => put_name_and_number(out, name, x.number),
         Command::Status { x } => out.number(x.number()),
         Command::Did { x } => out.number(u64::from(x.number)),
         Command::Multi { members } => put_pairs(out, members),
-        Command::SeeMulti { name, multi } => out.named(name.items(), u64::from(multi.number)),
+        Command::SeeMulti { name, multi } => put_name_and_number(out, name, multi.number),
         Command::Freeze { oldest } => out.number(oldest.number()),
         Command::MultiFreeze { multi } => out.number(multi.number()),
     }

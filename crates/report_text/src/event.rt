@@ -15,7 +15,7 @@ use tx_model::{By, Event, Memory, MultiEvent, NameList};
 fn put_by(out: &mut Text, names: &NameList, by: By) -> Result<(), Memory>
     ensures ok { OnOk result (out.new ≡ out.old ++ more (by_words names.now by)) }
 {
-    out.word(name_of(names, by.session))?;
+    out.name(name_of(names, by.session))?;
     out.number(by.command)
 }
 
@@ -65,8 +65,8 @@ fn put_event_rest(out: &mut Text, event: &Event) -> Result<(), Memory>
         Event::Undo { id, .. } => out.number(id.number()),
         Event::Commit { top, .. } => out.number(top.number()),
         Event::Abort { top, .. } => out.number(top.number()),
-        Event::Snap { name, .. } => out.word(name.items()),
-        Event::SnapDrop { name, .. } => out.word(name.items()),
+        Event::Snap { name, .. } => out.name(name.items()),
+        Event::SnapDrop { name, .. } => out.name(name.items()),
         Event::Oldest { oldest, .. } => out.number(oldest.number()),
         Event::Ask { id, .. } => out.number(id.number()),
     }

@@ -1,5 +1,5 @@
 //! A text that grows at its end, by words, numbers and lines.
-ghost use Rattle.std.specs.Prelude.{◌≡◌, ℕ, List, [], ◌∷◌, ◌++◌, ◌^◌, OnOk, OnErr};
+ghost use Rattle.std.specs.Prelude.{◌≡◌, ◌≤◌, ℕ, List, [], ◌∷◌, ◌++◌, ◌^◌, OnOk, OnErr, length, take};
 ghost use Rattle.std.specs.Fmt.{decimal};
 ghost use Rattle.report_text.specs.Words.{more, line_text, numbers, numbers_or_dash, yes_or_no, name_at};
 
@@ -46,13 +46,21 @@ impl Text {
         self.bytes.put(piece)
     }
 
-    /// A word behind a space.
+    /// A word behind a space. A word of known length is copied without a loop.
     #[tactic(auto, unfolding(crate::specs::Words::more))]
+    #[inline(always)]
     pub fn word(&mut self, word: &[u8]) -> Result<(), Memory>
         ensures ok { OnOk result (self.new ≡ self.old ++ more (word.now ∷ [])) }
     {
         self.bytes.byte(b' ')?;
         self.bytes.put(word)
+    }
+
+    /// A name behind a space.
+    pub fn name(&mut self, name: &[u8]) -> Result<(), Memory>
+        ensures ok { OnOk result (self.new ≡ self.old ++ more (name.now ∷ [])) }
+    {
+        self.bytes.name(name)
     }
 
     /// A number's digits. A record's number may need more than 64 bits.
@@ -104,6 +112,7 @@ impl Text {
 
     /// A word and a number, each behind a space.
     #[tactic(auto, using(crate::proofs::MoreWords::then_more))]
+    #[inline(always)]
     pub fn named(&mut self, word: &[u8], n: u64) -> Result<(), Memory>
         ensures ok { OnOk result (self.new ≡ self.old ++ more (word.now ∷ decimal n ∷ [])) }
     {
@@ -139,6 +148,14 @@ impl Text {
         ensures { self.new ≡ [] }
     {
         self.bytes.clear();
+    }
+
+    /// Takes off what stands behind so many bytes.
+    pub fn cut(&mut self, count: usize)
+        requires { count ≤ length self.old }
+        ensures { self.new ≡ take count self.old }
+    {
+        self.bytes.cut(count);
     }
 
     pub fn into_bytes(self) -> Vec<u8>

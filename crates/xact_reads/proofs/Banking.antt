@@ -1,5 +1,5 @@
 -- What a command adds in one critical section of a bank of offsets or of members, and how far these stores reach.
-use Rattle.std.proofs.Common.{◌≡◌, ◌<◌, ◌≤◌, ⊎_elim, ℕ, List, arith, length, refl, subst, sym, take, take_all}
+use Rattle.std.proofs.Common.{◌≡◌, ◌<◌, ◌≤◌, ⊎_elim, ℕ, List, arith, length, refl, subst, sym, take_all}
 use Rattle.notes.specs.Lists.{Grows}
 use Rattle.tx_events.specs.declared.event.By.{By}
 use Rattle.tx_events.specs.declared.multi.MultiEvent.{MultiEvent}

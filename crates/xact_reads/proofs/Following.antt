@@ -1,5 +1,5 @@
 -- Multixacts of a legal history lie right behind each other, the last up to the next free offset.
-use Rattle.std.proofs.Common.{List, [], ap, append-nil, arith, inl, length, refl, sym, ⊎_elim, ℕ, ◌++◌, ◌+◌, ◌<◌, ◌∙◌, ◌∷◌, ◌≡◌, ◌≤◌}
+use Rattle.std.proofs.Common.{List, [], ap, append-nil, arith, inl, length, refl, sym, ⊎_elim, ℕ, ◌++◌, ◌+◌, ◌∙◌, ◌∷◌, ◌≡◌}
 use Rattle.std.proofs.lemmas.List.Elements.{filter_map-append}
 use Rattle.std.proofs.lemmas.List.Sums.{fold_push}
 use Rattle.tx_events.specs.Ids.{next_multi}

@@ -1,5 +1,5 @@
 -- The slots that were read hold the members of the multixact, in order.
-use Rattle.std.proofs.Common.{Contains, List, None, Option, Some, [], ap, arith, inl, inr, length, map, refl, subst, suc, sym, zero, ℕ, ⊎_elim, ◌++◌, ◌+◌, ◌<◌, ◌∙◌, ◌∷◌, ◌≡◌, ◌≤◌, ◌⊎◌, append_assoc, length-append}
+use Rattle.std.proofs.Common.{Contains, List, None, Option, Some, [], ap, arith, inl, inr, length, map, refl, subst, suc, sym, zero, ℕ, ⊎_elim, ◌++◌, ◌+◌, ◌∙◌, ◌∷◌, ◌≡◌, ◌≤◌, ◌⊎◌, append_assoc, length-append}
 use Rattle.std.specs.Prelude.{MatchOption}
 use Rattle.std.specs.List.{filter_map, slice_get}
 use Rattle.notes.specs.Lists.{Grows}
@@ -102,6 +102,7 @@ its_slots start since lists held ends slots g few s long reads = record {
       (λ q. inl (long ∙ q))
       (λ (q : (slots_between ends ≡ length s.members + 1) × IsGap start since (s.offset + length s.members)). inr (long ∙ q.0))
       s.counts);
+  most = s.stood.fit.most;
 }
   where
     has : HasMembersIn start lists held.multi s.members
@@ -166,4 +167,5 @@ its_later start lists more multi slots g i = record {
       i.has;
   full = i.full;
   shown = i.shown;
+  most = i.most;
 }

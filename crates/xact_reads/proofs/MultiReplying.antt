@@ -1,9 +1,7 @@
 -- The replies of a look at a multixact's members are lawful, and the call did no more.
-use Rattle.std.proofs.Common.{Bool, Contains, IsTrue, List, None, Option, Some, IfSome, [], ap, append-nil, arith, drop, false, inl, inr, is_none, length, map, refl, subst, sym, take, take-append-drop, take_all, true, ℕ, ⊎_elim, ◌++◌, ◌+◌, ◌<◌, ◌∙◌, ◌∷◌, ◌≡◌, ◌≤◌, ◌⊎◌}
-use Rattle.std.proofs.lemmas.Bool.{false≢true}
-use Rattle.std.specs.Bool.{then_some}
+use Rattle.std.proofs.Common.{Bool, Contains, IsTrue, List, None, Option, Some, IfSome, [], ap, append-nil, arith, drop, inl, inr, length, refl, subst, sym, take, take-append-drop, take_all, ℕ, ⊎_elim, ◌++◌, ◌<◌, ◌∙◌, ◌∷◌, ◌≡◌, ◌≤◌}
 use Rattle.std.specs.Prelude.{MatchOption}
-use Rattle.std.specs.List.{AllByRecursion, filter, filter_map, slice_get}
+use Rattle.std.specs.List.{AllByRecursion, filter, filter_map}
 use Rattle.disk_core.specs.declared.log_disk.LogDisk as logs
 use Rattle.disk_core.specs.declared.page_disk.PageDisk as disks
 use Rattle.hall.specs.declared.hall.Hall.{Hall}
@@ -74,6 +72,7 @@ use Rattle.multi_sections.specs.Pinnings.{IsNotPinned}
 use Rattle.xact_reads.specs.Multis.{AreItsSlots, AreJudged, HasMembersIn, IsUnseen, PinsOnce, pair_in}
 use Rattle.xact_reads.proofs.Judging.{all_told}
 use Rattle.xact_reads.proofs.Pinning.{multi_then}
+use Rattle.xact_reads.proofs.Verdicts.{few_pairs}
 
 -- ---- the pin, later
 
@@ -199,7 +198,7 @@ module _ (tells : Bool) (start : Start) (n : ℕ) (s : Session) (name : List ℕ
 
   -- the verdicts
   pub seen_answer : (multi : ℕ) (read : RegisteredSnapshot) (slots : List Slot) (vs : List MemberVerdict) → PinsOnce start n s m.number lists more multi → IsRegistered start.base (history more) n read → snap_of name (stance_of s) ≡ Some read.command
-      → (IsTrue tells → AreFewMultis more → AreItsSlots start more multi slots) → (IsTrue tells → AreFewIds more → AreJudged start more read (filter_map pair_in slots) vs) → AllByRecursion IsOfId vs
+      → (IsTrue tells → AreFewMultis more → AreItsSlots start more multi slots) → (IsTrue tells → AreFewIds more → length (filter_map pair_in slots) ≤ 64 → AreJudged start more read (filter_map pair_in slots) vs) → AllByRecursion IsOfId vs
       → Answer tells start n s name m lists more (pinned multi) (replies.Verdicts vs)
   seen_answer multi read slots vs p r snap its judged ranges = record {
     allowed = (
@@ -217,7 +216,7 @@ module _ (tells : Bool) (start : Start) (n : ℕ) (s : Session) (name : List ℕ
               members = i.members;
               has = has_members multi i.members p i.has;
               each = all_told start more (length (history lists)) n read r i.members vs (λ id h. i.full id (has_contains (ids_of i.members) id h))
-                  (subst (λ (t : List Pair). AreJudged start more read t vs) i.shown (judged t.0 t.1));
+                  (subst (λ (t : List Pair). AreJudged start more read t vs) i.shown (judged t.0 t.1 (few_pairs slots i.members i.shown i.most)));
             },
           ),
     );

@@ -1,5 +1,5 @@
 -- What a look at a multixact's members did, by what its steps did.
-use Rattle.std.proofs.Common.{Err, IsTrue, List, None, Ok, Some, [], ap, append-nil, inl, refl, sym, subst, ⊎_elim, ℕ, ◌∙◌, ◌∷◌, ◌≡◌}
+use Rattle.std.proofs.Common.{Err, IsTrue, List, None, Ok, Some, [], ap, append-nil, inl, length, refl, sym, subst, ⊎_elim, ℕ, ◌∙◌, ◌∷◌, ◌≡◌, ◌≤◌}
 use Rattle.std.specs.List.{AllByRecursion, filter, filter_map}
 use Rattle.disk_core.specs.declared.log_disk.LogDisk as logs
 use Rattle.disk_core.specs.declared.page_disk.PageDisk as disks
@@ -123,7 +123,7 @@ module _ {H L P : Type 0} {l : logs.Ghosts L} {p : disks.Ghosts P} (hall : Hall 
 
       -- and each one was judged
       pub ran_judged : (read : RegisteredSnapshot) (vs : List MemberVerdict) → Adds (by_at u.number u.session.levels.commands) IsPlain (view u.pass).seen (view new.pass).seen → IsRegistered (start_of hall).base (history (view new.pass).seen) u.number read → snap_of name (stance_of u.session) ≡ Some read.command
-          → (IsTrue p.tells → AreFewIds (view new.pass).seen → AreJudged (start_of hall) (view new.pass).seen read (filter_map pair_in slots) vs) → AllByRecursion IsOfId vs → Ran hall (next_command old) (commands.SeeMulti name m) (replies.Verdicts vs) old new
+          → (IsTrue p.tells → AreFewIds (view new.pass).seen → length (filter_map pair_in slots) ≤ 64 → AreJudged (start_of hall) (view new.pass).seen read (filter_map pair_in slots) vs) → AllByRecursion IsOfId vs → Ran hall (next_command old) (commands.SeeMulti name m) (replies.Verdicts vs) old new
       ran_judged read vs adds r snap judged ranges =
           let v = (view u.pass).seen in
           let w = (view new.pass).seen in

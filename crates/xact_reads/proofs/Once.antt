@@ -1,5 +1,5 @@
 -- A multixact was pinned, its members were read, and it was let go.
-use Rattle.std.proofs.Common.{Contains, Err, List, Ok, Some, [], ap, inr, append_assoc, length, length-append, refl, subst, sym, take, arith, ℕ, ◌++◌, ◌+◌, ◌<◌, ◌∙◌, ◌∷◌, ◌≡◌, ◌≤◌}
+use Rattle.std.proofs.Common.{Contains, Err, List, Ok, Some, [], ap, inr, append_assoc, length, length-append, refl, subst, sym, take, arith, ℕ, ◌++◌, ◌<◌, ◌∙◌, ◌∷◌, ◌≡◌}
 use Rattle.std.proofs.lemmas.List.Elements.{Contains-append_left}
 use Rattle.std.specs.List.{slice_get}
 use Rattle.notes.specs.Lists.{Grows, at}

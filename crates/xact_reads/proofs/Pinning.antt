@@ -1,10 +1,8 @@
 -- What is pinned stays pinned while its session has no event of a multixact; and what was pinned before stays so.
-use Rattle.std.proofs.Common.{Contains, IsTrue, List, Some, [], ap, append-nil, arith, refl, subst, sym, take, ℕ, ◌++◌, ◌<◌, ◌∙◌, ◌∷◌, ◌≡◌, ◌≤◌, ◌≢◌, append_assoc, eq-eqb}
+use Rattle.std.proofs.Common.{List, [], ap, append-nil, arith, subst, sym, ℕ, ◌++◌, ◌∙◌, ◌≡◌, ◌≤◌, ◌≢◌, append_assoc, eq-eqb}
 use Rattle.std.proofs.lemmas.List.Sums.{fold-append}
 use Rattle.std.specs.List.{filter, fold}
-use Rattle.notes.specs.Lists.{Begins, Grows}
-use Rattle.tx_events.specs.declared.event.By.{By}
-use Rattle.tx_events.specs.declared.event.Event.{Event}
+use Rattle.notes.specs.Lists.{Grows}
 use Rattle.tx_events.specs.Ids.{IsFullMulti, low_half}
 use Rattle.tx_events.specs.declared.multi.MultiEvent.{MultiEvent}
 use Rattle.tx_events.specs.declared.record.Counters.{Counters}

@@ -1,9 +1,9 @@
 -- Where the members of a pinned multixact lie, by what was read of its offset and the next one's.
-use Rattle.std.proofs.Common.{Bool, Contains, IsTrue, List, Some, [], ap, arith, cond, false, inl, inr, length, min, nat_le, refl, subst, sym, append_assoc, length-append, true, ℕ, ⊎_elim, ◌++◌, ◌+◌, ◌-◌, ◌<◌, ◌==◌, ◌^◌, ◌∙◌, ◌∷◌, ◌≡◌, ◌≤◌, ◌⊎◌, ◌%◌, eqb-true}
+use Rattle.std.proofs.Common.{Bool, Contains, IsTrue, List, [], ap, arith, cond, false, inl, inr, length, min, nat_le, refl, subst, sym, append_assoc, length-append, true, ℕ, ⊎_elim, ◌++◌, ◌+◌, ◌-◌, ◌<◌, ◌==◌, ◌^◌, ◌∙◌, ◌∷◌, ◌≡◌, ◌≤◌, ◌⊎◌, ◌%◌, eqb-true}
 use Rattle.std.proofs.lemmas.Bool.Decides.{nat_tests}
-use Rattle.notes.specs.Lists.{Begins, Grows}
+use Rattle.notes.specs.Lists.{Begins}
 use Rattle.tx_events.specs.Base.{IsBase}
-use Rattle.tx_events.specs.Ids.{IsFullMulti, low_half, next_multi}
+use Rattle.tx_events.specs.Ids.{low_half, next_multi}
 use Rattle.tx_events.specs.declared.event.By.{By}
 use Rattle.tx_events.specs.declared.multi.Member.{Member}
 use Rattle.tx_events.specs.declared.multi.MultiEvent.{MultiEvent}
@@ -11,18 +11,17 @@ use Rattle.tx_events.specs.declared.multi.MultiEvent.TheVariants as multis
 use Rattle.tx_events.specs.declared.record.Counters.{Counters}
 use Rattle.tx_events.specs.declared.record.Rec.TheVariants as records
 use Rattle.tx_events.specs.Multis.{AreLegalMultis, InBase, IsNextMade, MultiMayCome, first_member, free_offset, made, made_by, next_made, oldest_multi}
-use Rattle.tx_events.proofs.ListSteps.{le_or_over}
-use Rattle.tx_events.proofs.Membership.{Has, by_end, has_cases, has_contains, contains_has}
+use Rattle.tx_events.proofs.Membership.{Has, by_end, has_cases, has_contains}
 use Rattle.tx_events.proofs.PlaceLemmas.{each_place_last, each_place_start}
 use Rattle.tx_core.specs.declared.entry.Entry.{Entry}
 use Rattle.tx_core.specs.declared.entry.Start.{Start}
 use Rattle.tx_core.specs.EngineInvariant.{EngineInvariant}
 use Rattle.tx_core.specs.MultiEntries.{AreFewMultis, multi_history}
 use Rattle.tx_core.proofs.Growing.{begins_filter_map}
-use Rattle.tx_core.proofs.MultiOrder.{last_cases, multi_in, ordered}
+use Rattle.tx_core.proofs.MultiOrder.{last_cases, ordered}
 use Rattle.tx_core.proofs.Nearness.{free_upto, multis_are_legal}
 use Rattle.tx_core.proofs.Rising.{made_more, multi_above}
-use Rattle.recoverable.proofs.MultiChain.{Chained, chained, next_upto}
+use Rattle.recoverable.proofs.MultiChain.{chained, next_upto}
 use Rattle.recoverable.proofs.Offsets.{given_from}
 use Rattle.multi_store.specs.declared.answers.Held.{Held}
 use Rattle.multi_banks.proofs.Uncut.{members_span}

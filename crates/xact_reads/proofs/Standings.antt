@@ -1,10 +1,9 @@
 -- What stands of a multixact whose offset was read: its members, each at its place.
-use Rattle.std.proofs.Common.{Contains, IsTrue, List, Some, [], arith, length, refl, sym, subst, take, drop, take-append-drop, inl, inr, ℕ, ⊎_elim, ◌++◌, ◌+◌, ◌<◌, ◌∙◌, ◌∷◌, ◌≡◌, ◌≤◌, ◌⊎◌, ◌%◌}
+use Rattle.std.proofs.Common.{Contains, List, Some, [], arith, length, refl, sym, subst, take, inl, inr, ℕ, ⊎_elim, ◌++◌, ◌+◌, ◌∙◌, ◌∷◌, ◌≡◌, ◌≤◌, ◌⊎◌, ◌%◌}
 use Rattle.std.proofs.lemmas.Grind.{flat_map-append}
-use Rattle.std.proofs.lemmas.List.Elements.{Contains-append_left}
 use Rattle.std.proofs.lemmas.List.Sums.{fold_push}
-use Rattle.std.specs.List.{filter, flat_map, slice_get}
-use Rattle.notes.specs.Lists.{Begins, Grows, at}
+use Rattle.std.specs.List.{flat_map, slice_get}
+use Rattle.notes.specs.Lists.{Grows, at}
 use Rattle.tx_events.specs.After.{ids_of}
 use Rattle.tx_events.specs.Base.{IsBase}
 use Rattle.tx_events.specs.Ids.{IsFullId, low_half}

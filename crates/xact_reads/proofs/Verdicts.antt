@@ -1,6 +1,9 @@
 -- What is made of one member.
-use Rattle.std.proofs.Common.{Bool, IfErr, IfOk, List, None, Option, Some, [], append-nil, arith, cond, false, length, slice_index_or, refl, subst, suc, sym, take, true, zero, ap, ℕ, ⊎_elim, ◌++◌, ◌+◌, ◌<◌, ◌∙◌, ◌∷◌, ◌≡◌, ◌≤◌}
+use Rattle.std.proofs.Common.{Bool, IfErr, IfOk, List, None, Option, Some, [], append-nil, arith, cond, drop, false, length, map, slice_index_or, refl, subst, suc, sym, take, true, zero, ap, ℕ, ⊎_elim, ◌++◌, ◌+◌, ◌<◌, ◌∙◌, ◌∷◌, ◌≡◌, ◌≤◌}
+use Rattle.std.proofs.lemmas.List.{length-append, length-map, take-append-drop}
 use Rattle.std.proofs.lemmas.List.Elements.{filter_map-append}
+use Rattle.std.proofs.lemmas.Slice.Zip.{AllZip-long}
+use Rattle.tx_events.specs.declared.multi.Member.{Member}
 use Rattle.std.specs.List.{cons_option, filter_map}
 use Rattle.tx_events.specs.declared.event.By.{By}
 use Rattle.tx_events.specs.declared.refusal.Lock.TheVariants as locks
@@ -20,7 +23,7 @@ use Rattle.bank_sections.specs.Faults.{IsBankFault, IsSubtransFault}
 use Rattle.engine_parts.specs.Adding.{Adds, IsPlain, MayFault, MayMeet}
 use Rattle.engine_parts.proofs.Adding.{adds_wider}
 use Rattle.session_levels.specs.declared.session.RegisteredSnapshot.{RegisteredSnapshot}
-use Rattle.xact_reads.specs.Multis.{AreJudged, IsVerdictOn, JudgesSlot, judged_refusal, pair_in}
+use Rattle.xact_reads.specs.Multis.{AreJudged, IsJudgedNormal, IsVerdictOn, JudgesSlot, judged_refusal, pair_in, stored_member}
 use Rattle.xact_reads.specs.Readings.{IsStateUnread, IsUnread}
 use Rattle.xact_reads.proofs.Judging.{carried_now, one_more}
 
@@ -79,3 +82,23 @@ judged_slot start lists k slots slot old new before one =
         let some : filter_map pair_in (slot ∷ []) ≡ pair ∷ [] = ap (λ (o : Option Pair). cons_option o []) is in
         subst (λ (t : List Pair). AreJudged start lists k (filter_map pair_in slots ++ t) new) (sym some)
         (subst (λ (vs : List MemberVerdict). AreJudged start lists k (filter_map pair_in slots ++ pair ∷ []) vs) (sym j.1) (one_more start lists k (filter_map pair_in slots) old pair j.0 before j.2))
+
+-- ---- the room for them
+
+-- as many verdicts as members were met leave room for the slot here, where all members have room
+pub has_room : (start : Start) (lists : List (List Entry)) (k : RegisteredSnapshot) (xs : List Slot) (i : ℕ) (d : Slot) (vs : List MemberVerdict) → i < length xs → length (filter_map pair_in xs) ≤ 64 → AreJudged start lists k (filter_map pair_in (take i xs)) vs
+    → length vs + length (filter_map pair_in (slice_index_or xs i d ∷ [])) ≤ 64
+has_room start lists k xs i d vs lt fits judged =
+    let front = filter_map pair_in (take i xs) in
+    let here = filter_map pair_in (slice_index_or xs i d ∷ []) in
+    let behind = filter_map pair_in (drop (i + 1) xs) in
+    let one : filter_map pair_in (take (i + 1) xs) ≡ front ++ here = ap (filter_map pair_in) (next_place xs i d lt) ∙ filter_map-append pair_in (take i xs) (slice_index_or xs i d ∷ []) in
+    let all : (front ++ here) ++ behind ≡ filter_map pair_in xs =
+    ap (λ (t : List Pair). t ++ behind) (sym one) ∙ sym (filter_map-append pair_in (take (i + 1) xs) (drop (i + 1) xs)) ∙ ap (filter_map pair_in) (take-append-drop (i + 1) xs) in
+    let whole : length (front ++ here) + length behind ≡ length (filter_map pair_in xs) = sym (length-append (front ++ here) behind) ∙ ap (λ (t : List Pair). length t) all in
+    let both : length (front ++ here) ≡ length front + length here = length-append front here in
+    let long : length vs ≡ length front = AllZip-long (IsJudgedNormal start lists k) front vs judged in
+    omega (arith, whole, both, long, fits)
+
+pub few_pairs : (slots : List Slot) (members : List Member) → filter_map pair_in slots ≡ map stored_member members → length members ≤ 64 → length (filter_map pair_in slots) ≤ 64
+few_pairs slots members e most = subst (λ n. n ≤ 64) (sym (ap (λ (t : List Pair). length t) e ∙ length-map members stored_member)) most

@@ -116,6 +116,7 @@ pub record AreItsSlots (start : Start) (lists : List (List Entry)) (multi : ℕ)
   pub has : HasMembersIn start lists multi members
   pub full : (id : ℕ) → Contains (ids_of members) id → IsFullId id
   pub shown : filter_map pair_in slots ≡ map stored_member members
+  pub most : length members ≤ 64
 
 -- ---- the verdicts
 

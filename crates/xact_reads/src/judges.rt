@@ -1,5 +1,5 @@
 //! The verdicts on a multixact's members.
-ghost use Rattle.std.specs.Prelude.{◌≡◌, ℕ, ◌+◌, ◌*◌, ◌^◌, ◌<◌, ◌≤◌, [], IfErr, IfOk, IsTrue, OnOk, Some, cond, length, vec_capacity};
+ghost use Rattle.std.specs.Prelude.{◌≡◌, ℕ, ◌+◌, ◌*◌, ◌^◌, ◌<◌, ◌≤◌, [], ◌∷◌, ◌++◌, IfErr, IfOk, IsTrue, OnOk, Some, cond, length, vec_capacity};
 ghost use Rattle.std.specs.List.{AllByRecursion, filter_map};
 ghost use Rattle.hall.specs.Calls.{view, IsOf, start_of};
 ghost use Rattle.tx_events.specs.Ids.{IsXidNumber};
@@ -24,6 +24,9 @@ use proc_sections::read_oldest;
 use session_levels::registered_as;
 use tx_events::{FullXid, Mode, Name, Refusal, Xid};
 use tx_model::{MemberVerdict, Verdict};
+
+/// The most members of a multixact.
+pub(crate) const MOST_MEMBERS: usize = 64;
 
 /// The id of the first epoch.
 fn lone(x: Xid) -> FullXid
@@ -159,6 +162,19 @@ fn judge<R: Passing, L: LogDisk, P: PageDisk>(
     }
 }
 
+/// Adds a verdict. Behind those on as many members as a multixact has at most, which can be met over a store that tells
+/// nothing alone, it is dropped.
+fn add_verdict(into: &mut Vec<MemberVerdict>, verdict: MemberVerdict)
+    requires { 64 ≤ vec_capacity into.old }
+    ensures pushed { length into.old.items < 64 → into.new.items ≡ into.old.items ++ verdict ∷ [] }
+    ensures ranges { AllByRecursion IsOfId into.old.items → IsOfId verdict → AllByRecursion IsOfId into.new.items }
+    ensures room { vec_capacity into.new ≡ vec_capacity into.old }
+{
+    if into.len() < MOST_MEMBERS {
+        into.push_reserved(verdict);
+    }
+}
+
 /// The verdict on the member in a slot, behind those on the slots before it. A slot whose mode no member has counts as
 /// unused; it can be met over a store that tells nothing alone.
 fn judge_slot<R: Passing, L: LogDisk, P: PageDisk>(
@@ -178,17 +194,17 @@ fn judge_slot<R: Passing, L: LogDisk, P: PageDisk>(
     requires named { (k : RegisteredSnapshot) × IsNamed caller.old.session.levels name.now k }
     requires oldest { IsCarried (start_of hall.now) (view caller.old.pass).seen oldest }
     requires from { (start_of hall.now).base.oldest ≤ oldest }
-    requires room { length into.old.items < vec_capacity into.old }
+    requires room { 64 ≤ vec_capacity into.old }
     ensures own { IsOf hall.now caller.new.pass }
     ensures ready { IsReady (start_of hall.now) (view caller.new.pass) caller.new.number caller.new.session }
     ensures went { WentOn caller.old.number [] (view caller.old.pass).seen (view caller.new.pass).seen }
     ensures adds { Adds (by_at caller.old.number caller.old.session.levels.commands) (MayFault result)
         (view caller.old.pass).seen (view caller.new.pass).seen }
-    ensures said { IsTrue P.tells → AreFewIds (view caller.new.pass).seen → (k : RegisteredSnapshot)
+    ensures said { IsTrue P.tells → AreFewIds (view caller.new.pass).seen
+        → length into.old.items + length (filter_map pair_in (slot ∷ [])) ≤ 64 → (k : RegisteredSnapshot)
         → IsNamed caller.old.session.levels name.now k → OnOk result
         (JudgesSlot (start_of hall.now) (view caller.new.pass).seen k (pair_in slot) into.old.items into.new.items) }
     ensures ranges { AllByRecursion IsOfId into.old.items → AllByRecursion IsOfId into.new.items }
-    ensures long { length into.new.items ≤ length into.old.items + 1 }
     ensures room { vec_capacity into.new ≡ vec_capacity into.old }
     ensures fault { IfErr result (IsBankFault (view caller.new.pass).seen
         (by_at caller.old.number caller.old.session.levels.commands)) }
@@ -197,7 +213,7 @@ fn judge_slot<R: Passing, L: LogDisk, P: PageDisk>(
     match slot {
         Slot::Is { x, mode } => match judge(rt, hall, caller, banks, name, x, mode, oldest) {
             Ok(verdict) => {
-                into.push_reserved(verdict);
+                add_verdict(into, verdict);
                 Ok(())
             }
             Err(refusal) => Err(refusal),
@@ -223,13 +239,14 @@ pub(crate) fn judge_all<R: Passing, L: LogDisk, P: PageDisk>(
     requires ready { IsReady (start_of hall.now) (view caller.old.pass) caller.old.number caller.old.session }
     requires named { (k : RegisteredSnapshot) × IsNamed caller.old.session.levels name.now k }
     requires none { into.old.items ≡ [] }
-    requires room { length slots.now ≤ vec_capacity into.old }
+    requires room { 64 ≤ vec_capacity into.old }
     ensures own { IsOf hall.now caller.new.pass }
     ensures ready { IsReady (start_of hall.now) (view caller.new.pass) caller.new.number caller.new.session }
     ensures went { WentOn caller.old.number [] (view caller.old.pass).seen (view caller.new.pass).seen }
     ensures adds { Adds (by_at caller.old.number caller.old.session.levels.commands) (MayFault result)
         (view caller.old.pass).seen (view caller.new.pass).seen }
-    ensures said { IsTrue P.tells → AreFewIds (view caller.new.pass).seen → (k : RegisteredSnapshot)
+    ensures said { IsTrue P.tells → AreFewIds (view caller.new.pass).seen
+        → length (filter_map pair_in slots.now) ≤ 64 → (k : RegisteredSnapshot)
         → IsNamed caller.old.session.levels name.now k → OnOk result
         (AreJudged (start_of hall.now) (view caller.new.pass).seen k (filter_map pair_in slots.now) into.new.items) }
     ensures fault { IfErr result (IsBankFault (view caller.new.pass).seen

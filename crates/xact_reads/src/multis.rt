@@ -10,7 +10,7 @@ ghost use Rattle.engine_parts.specs.Sessions.{IsReady, by_at};
 ghost use Rattle.xact_reads.specs.Multis.{ReadsMulti};
 
 use crate::gathers::gather;
-use crate::judges::judge_all;
+use crate::judges::{MOST_MEMBERS, judge_all};
 use bank_stores::Slot;
 use disk_core::{LogDisk, PageDisk};
 use engine_parts::{Caller, EngineLaw, Passing, count};
@@ -93,7 +93,7 @@ pub fn see_multi<R: Passing, L: LogDisk, P: PageDisk>(
     let Ok(mut slots) = Vec::with_capacity(alloc, SLOTS) else {
         return Err(Refusal::Memory);
     };
-    let Ok(mut verdicts) = Vec::with_capacity(alloc, SLOTS) else {
+    let Ok(mut verdicts) = Vec::with_capacity(alloc, MOST_MEMBERS) else {
         return Err(Refusal::Memory);
     };
     match read_pinned(rt, hall, caller, banks, m, &mut slots) {

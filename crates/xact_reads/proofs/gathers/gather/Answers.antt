@@ -1,19 +1,14 @@
-use Rattle.std.proofs.Common.{[], arith, length, refl, subst, sym, ◌+◌, ◌++◌, ◌<◌, ◌∙◌, ◌≡◌, ◌≤◌, ◌^◌, ℕ}
+use Rattle.std.proofs.Common.{arith, sym, ◌∙◌, ◌≡◌}
 use Rattle.std.proofs.lemmas.Bool.Decides.{nat_tests}
 use Rattle.hall.specs.Calls.{view, start_of}
 use Rattle.engine_parts.specs.Adding.{IsPlain, MayMeet}
 use Rattle.engine_parts.proofs.Adding.{plain_meets}
-use Rattle.tx_events.specs.Multis.{free_offset, oldest_offset}
-use Rattle.tx_core.specs.MultiEntries.{multi_history}
-use Rattle.bank_stores.specs.declared.slot.Slot.{Slot}
-use Rattle.multi_banks.specs.Members.{AreSlotsRead}
-use Rattle.xact_reads.specs.Multis.{AreItsSlots, full_upto}
 use Rattle.xact_reads.proofs.Ending.{end_small}
 use Rattle.xact_reads.proofs.Gathering.{gathered, none_between}
 use Rattle.xact_reads.proofs.Going.{read_adds}
 use Rattle.xact_reads.proofs.Once.{few_multis_before}
 use Rattle.xact_reads.proofs.Pinning.{multi_both, pinned_from, pinned_later, pins_kept}
-use Rattle.xact_reads.proofs.Spanning.{Spanned, spanned}
+use Rattle.xact_reads.proofs.Spanning.{spanned}
 use Rattle.xact_reads.proofs.gathers.gather.Goals as goal
 
 pub returns-then-count-eq0-clause-slots : goal.returns-then-count-eq0-clause-slots

@@ -1,4 +1,4 @@
-use Rattle.std.proofs.Common.{arith, subst, ◌+◌, ◌-◌, ◌∙◌, ◌≡◌, ◌≤◌, ℕ}
+use Rattle.std.proofs.Common.{arith, subst, ◌+◌, ◌-◌, ◌≡◌, ◌≤◌}
 use Rattle.hall.specs.Calls.{view, start_of}
 use Rattle.engine_parts.specs.Adding.{IsPlain, MayMeet}
 use Rattle.engine_parts.proofs.Adding.{plain_meets}

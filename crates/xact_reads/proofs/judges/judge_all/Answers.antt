@@ -1,4 +1,4 @@
-use Rattle.std.proofs.Common.{List, [], ap, arith, length, subst, sym, take, take_all, ◌+◌, ◌∙◌, ◌≡◌, ◌≤◌, ℕ}
+use Rattle.std.proofs.Common.{List, [], arith, subst, sym, take, take_all, ◌∙◌}
 use Rattle.std.specs.List.{AllByRecursion, filter_map}
 use Rattle.hall.specs.Calls.{view, start_of}
 use Rattle.bank_stores.specs.declared.slot.Slot.{Slot}
@@ -14,7 +14,7 @@ use Rattle.xact_reads.specs.Multis.{AreJudged, pair_in}
 use Rattle.xact_reads.proofs.Going.{read_adds, went_both}
 use Rattle.xact_reads.proofs.Judging.{all_later, carried_later, carried_now}
 use Rattle.xact_reads.proofs.Replying.{named_at, oldest_from}
-use Rattle.xact_reads.proofs.Verdicts.{judged_slot, next_place}
+use Rattle.xact_reads.proofs.Verdicts.{has_room, judged_slot, next_place}
 use Rattle.xact_reads.proofs.judges.judge_all.Goals as goal
 
 pub loop-place-init : goal.loop-place-init
@@ -31,8 +31,8 @@ loop-place-init g c =
       oldest = carried_now start (view u.pass).seen c.read_oldest-oldest.result e.oldest;
       from = (let low = oldest_from start (view u.pass).seen e.ready.at.kept in let is = e.oldest in omega (arith, low, is));
       within = omega arith;
-      room = (let none : length c.args.into.now.items ≡ 0 = ap (λ (xs : List MemberVerdict). length xs) c.requires.none in let room = c.requires.room in omega (arith, none, room));
-      said = λ told few k named. subst (λ (xs : List MemberVerdict). AreJudged start (view u.pass).seen k [] xs) (sym c.requires.none) tt;
+      room = c.requires.room;
+      said = λ told few fits k named. subst (λ (xs : List MemberVerdict). AreJudged start (view u.pass).seen k [] xs) (sym c.requires.none) tt;
       ranges = subst (AllByRecursion IsOfId) (sym c.requires.none) tt;
       adds = look_adds start (view old.pass) (view u.pass) old.number old.session IsPlain c.requires.ready.at tt e.section;
     }
@@ -70,12 +70,13 @@ loop-place-preserved g c =
       oldest = carried_later start (view u.pass).seen (view w.pass).seen _ e.went.on.grows i.oldest;
       from = i.from;
       within = omega arith;
-      room = (let long = e.long in let room = i.room in let cap = e.room in omega (arith, long, room, cap));
-      said = λ told few k named.
+      room = (let room = i.room in let cap = e.room in omega (arith, room, cap));
+      said = λ told few fits k named.
           let few_then = few_before (view u.pass).seen (view w.pass).seen e.went.on.grows few in
           let here = named_at start (view u.pass) u.number u.session c.args.name.now k i.ready.at (subst (λ (s : Session). IsNamed s.levels c.args.name.now k) (sym i.same.0) named) in
-          let before = all_later start (view u.pass).seen (view w.pass).seen e.went.on.grows u.number k here.0 (filter_map pair_in (take c.loop-place.place c.args.slots.now)) c.loop-place.into.items (i.said told few_then k named) in
-          let one = e.said told few k (subst (λ (s : Session). IsNamed s.levels c.args.name.now k) (sym i.same.0) named) in
+          let first = i.said told few_then fits k named in
+          let before = all_later start (view u.pass).seen (view w.pass).seen e.went.on.grows u.number k here.0 (filter_map pair_in (take c.loop-place.place c.args.slots.now)) c.loop-place.into.items first in
+          let one = e.said told few (has_room start (view u.pass).seen k c.args.slots.now c.loop-place.place _ c.loop-place.into.items inside fits first) k (subst (λ (s : Session). IsNamed s.levels c.args.name.now k) (sym i.same.0) named) in
           subst (λ (t : List Slot). AreJudged start (view w.pass).seen k (filter_map pair_in t) c.judge_slot.new.into.items) (sym (next_place c.args.slots.now c.loop-place.place _ inside))
           (judged_slot start (view w.pass).seen k (take c.loop-place.place c.args.slots.now) _ c.loop-place.into.items c.judge_slot.new.into.items before one);
       ranges = e.ranges i.ranges;
@@ -83,9 +84,9 @@ loop-place-preserved g c =
     }
 
 pub returns-clause-said : goal.returns-clause-said
-returns-clause-said g c told few k named =
+returns-clause-said g c told few fits k named =
     let start = start_of c.args.hall.now in
     let i = c.loop-place.invariant in
     let past = c.loop-place-test.false in
     let within = i.within in
-    subst (λ (t : List Slot). AreJudged start (view c.loop-place.caller.pass).seen k (filter_map pair_in t) c.loop-place.into.items) (take_all c.loop-place.place c.args.slots.now (omega (arith, past, within))) (i.said told few k named)
+    subst (λ (t : List Slot). AreJudged start (view c.loop-place.caller.pass).seen k (filter_map pair_in t) c.loop-place.into.items) (take_all c.loop-place.place c.args.slots.now (omega (arith, past, within))) (i.said told few fits k named)

@@ -1,4 +1,4 @@
-use Rattle.std.proofs.Common.{length, [], take, vec_capacity, IsTrue, ℕ, ◌+◌, ◌-◌, ◌≡◌, ◌≤◌}
+use Rattle.std.proofs.Common.{length, [], take, vec_capacity, IsTrue, ◌-◌, ◌≡◌, ◌≤◌}
 use Rattle.std.specs.List.{AllByRecursion, filter_map}
 use Rattle.hall.specs.Calls.{view, IsOf, start_of}
 use Rattle.life_law.specs.MultiReplies.{IsOfId}
@@ -20,8 +20,8 @@ invariant-loop-place g l = record {
   oldest : IsCarried (start_of l.hall) (view l.caller.pass).seen l.oldest;
   from : (start_of l.hall).base.oldest ≤ l.oldest;
   within : l.place ≤ length l.slots;
-  room : length l.into.items + (length l.slots - l.place) ≤ vec_capacity l.into;
-  said : IsTrue g.P.PageDisk.tells → AreFewIds (view l.caller.pass).seen → (k : RegisteredSnapshot) → IsNamed l.fn.caller.session.levels l.name k → AreJudged (start_of l.hall) (view l.caller.pass).seen k (filter_map pair_in (take l.place l.slots)) l.into.items;
+  room : 64 ≤ vec_capacity l.into;
+  said : IsTrue g.P.PageDisk.tells → AreFewIds (view l.caller.pass).seen → length (filter_map pair_in l.slots) ≤ 64 → (k : RegisteredSnapshot) → IsNamed l.fn.caller.session.levels l.name k → AreJudged (start_of l.hall) (view l.caller.pass).seen k (filter_map pair_in (take l.place l.slots)) l.into.items;
   ranges : AllByRecursion IsOfId l.into.items;
   adds : Adds (by_at l.fn.caller.number l.fn.caller.session.levels.commands) IsPlain (view l.fn.caller.pass).seen (view l.caller.pass).seen;
 }

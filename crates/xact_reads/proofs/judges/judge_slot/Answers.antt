@@ -1,9 +1,7 @@
-use Rattle.std.proofs.Common.{arith, refl, subst, sym}
-use Rattle.std.specs.List.{AllByRecursion}
+use Rattle.std.proofs.Common.{[], arith, length, refl, subst, sym, ◌+◌, ◌∷◌, ◌≤◌}
+use Rattle.std.specs.List.{filter_map}
 use Rattle.hall.specs.Calls.{view, start_of}
 use Rattle.bank_stores.specs.declared.slot.Slot.{Slot}
-use Rattle.tx_events.proofs.ListSteps.{all_push}
-use Rattle.life_law.specs.MultiReplies.{IsOfId}
 use Rattle.engine_parts.specs.Adding.{IsPlain}
 use Rattle.engine_parts.specs.Sessions.{by_at}
 use Rattle.engine_parts.proofs.Adding.{adds_nothing}
@@ -12,15 +10,15 @@ use Rattle.xact_reads.specs.Multis.{JudgesSlot, pair_in}
 use Rattle.xact_reads.proofs.judges.judge_slot.Goals as goal
 
 pub returns-in-Ok-clause-said : goal.returns-in-Ok-clause-said
-returns-in-Ok-clause-said g c told few k named =
+returns-in-Ok-clause-said g c told few room k named =
     let start = start_of c.args.hall.now in
     let w = (view c.judge.new.caller.pass).seen in
-    subst (λ (s : Slot). JudgesSlot start w k (pair_in s) c.args.into.now.items c.push_reserved.new.self.items) (sym c.in-Is.is)
-    (c.in-Ok.verdict, c.push_reserved.ensures.items, c.in-Ok.ensures.said told few k named)
+    let fits : length c.args.into.now.items + 1 ≤ 64 = subst (λ (s : Slot). length c.args.into.now.items + length (filter_map pair_in (s ∷ [])) ≤ 64) c.in-Is.is room in
+    subst (λ (s : Slot). JudgesSlot start w k (pair_in s) c.args.into.now.items c.add_verdict.new.into.items) (sym c.in-Is.is)
+    (c.in-Ok.verdict, c.add_verdict.ensures.pushed (omega (arith, fits)), c.in-Ok.ensures.said told few k named)
 
 pub returns-in-Ok-clause-ranges : goal.returns-in-Ok-clause-ranges
-returns-in-Ok-clause-ranges g c told =
-    subst (AllByRecursion IsOfId) (sym c.push_reserved.ensures.items) (all_push IsOfId c.args.into.now.items c.in-Ok.verdict told c.in-Ok.ensures.ranges)
+returns-in-Ok-clause-ranges g c told = c.add_verdict.ensures.ranges told c.in-Ok.ensures.ranges
 
 pub returns-in-Unused : goal.returns-in-Unused
 returns-in-Unused g c =
@@ -31,9 +29,8 @@ returns-in-Unused g c =
       ready = c.requires.ready;
       went = went_nowhere old.number v;
       adds = adds_nothing (by_at old.number old.session.levels.commands) IsPlain v;
-      said = λ told few k named. subst (λ (s : Slot). JudgesSlot (start_of c.args.hall.now) v k (pair_in s) c.args.into.now.items c.args.into.now.items) (sym c.in-Unused.is) refl;
+      said = λ told few room k named. subst (λ (s : Slot). JudgesSlot (start_of c.args.hall.now) v k (pair_in s) c.args.into.now.items c.args.into.now.items) (sym c.in-Unused.is) refl;
       ranges = λ told. told;
-      long = omega arith;
       room = refl;
       fault = tt;
       same = (refl, refl);
@@ -48,9 +45,8 @@ returns-in-Odd g c =
       ready = c.requires.ready;
       went = went_nowhere old.number v;
       adds = adds_nothing (by_at old.number old.session.levels.commands) IsPlain v;
-      said = λ told few k named. subst (λ (s : Slot). JudgesSlot (start_of c.args.hall.now) v k (pair_in s) c.args.into.now.items c.args.into.now.items) (sym c.in-Odd.is) refl;
+      said = λ told few room k named. subst (λ (s : Slot). JudgesSlot (start_of c.args.hall.now) v k (pair_in s) c.args.into.now.items c.args.into.now.items) (sym c.in-Odd.is) refl;
       ranges = λ told. told;
-      long = omega arith;
       room = refl;
       fault = tt;
       same = (refl, refl);

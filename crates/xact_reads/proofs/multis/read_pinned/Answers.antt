@@ -1,4 +1,4 @@
-use Rattle.std.proofs.Common.{IsTrue, [], ◌∷◌, arith, inl, refl, subst, sym, ◌∙◌, ℕ}
+use Rattle.std.proofs.Common.{IsTrue, [], ◌∷◌, arith, refl, subst, sym, ◌∙◌, ℕ}
 use Rattle.hall.specs.Calls.{view, start_of}
 use Rattle.tx_events.specs.declared.event.By.{By}
 use Rattle.tx_core.specs.Locks.{multi_lock}
@@ -6,7 +6,7 @@ use Rattle.engine_parts.specs.declared.session.Session.{Session}
 use Rattle.engine_parts.specs.Adding.{Adds, IsPlain, MayMeet}
 use Rattle.engine_parts.specs.Sessions.{by_at, look_by}
 use Rattle.engine_parts.specs.Steps.{WentMulti}
-use Rattle.engine_parts.proofs.Adding.{adds_then, adds_wider, plain_meets}
+use Rattle.engine_parts.proofs.Adding.{adds_then, plain_meets}
 use Rattle.engine_parts.proofs.Sectioning.{same_command, shared_adds}
 use Rattle.multi_sections.specs.Pinnings.{Pins, hold_event, unhold_event}
 use Rattle.multi_sections.specs.Steps.{entry_of}

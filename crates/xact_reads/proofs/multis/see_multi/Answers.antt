@@ -1,4 +1,4 @@
-use Rattle.std.proofs.Common.{List, [], sym, subst, ◌∙◌}
+use Rattle.std.proofs.Common.{List, [], length, sym, subst, ◌∙◌, ◌≤◌}
 use Rattle.hall.specs.Calls.{view, start_of}
 use Rattle.tx_events.specs.declared.order.Xid.{Xid}
 use Rattle.tx_model.specs.declared.command.Command.TheVariants as commands
@@ -8,7 +8,7 @@ use Rattle.session_levels.proofs.ActsLemmas.{snap_found}
 use Rattle.engine_parts.specs.declared.session.Session.{Session}
 use Rattle.engine_parts.specs.Adding.{IsPlain, MayMeet}
 use Rattle.engine_parts.specs.Calls.{Ran, next_command}
-use Rattle.engine_parts.specs.Sessions.{by_at, stance_of}
+use Rattle.engine_parts.specs.Sessions.{stance_of}
 use Rattle.engine_parts.specs.Steps.{WentOn}
 use Rattle.engine_parts.proofs.Adding.{plain_meets}
 use Rattle.engine_parts.proofs.Calling.{may_counted}
@@ -79,7 +79,8 @@ returns-in-Ok-judge_all g c =
     mid new c.read_pinned.new.into.items f.own f.ready same number e.reads went k c.judge_all.new.into.items adds
     (named_at start (view new.pass) u.number u.session name k (at_same start (view new.pass) u.number new.number u.session new.session number same f.ready) named).0
     (snap_found name (stance_of u.session).levels u.session.levels.registered.items k named)
-    (λ told few. subst (λ (t : List Slot). AreJudged start (view new.pass).seen k (filter_map pair_in t) c.judge_all.new.into.items) c.deref.ensures.value (f.said told few k (subst (λ (s : Session). IsNamed s.levels name k) (sym e.same.0) named))) f.ranges)
+    (λ told few fits. subst (λ (t : List Slot). AreJudged start (view new.pass).seen k (filter_map pair_in t) c.judge_all.new.into.items) c.deref.ensures.value
+    (f.said told few (subst (λ (t : List Slot). length (filter_map pair_in t) ≤ 64) (sym c.deref.ensures.value) fits) k (subst (λ (s : Session). IsNamed s.levels name k) (sym e.same.0) named))) f.ranges)
 
 pub returns : goal.returns
 returns g c =

@@ -1,7 +1,6 @@
-use Rattle.std.proofs.Common.{IsTrue, None, Option, Some, arith, inl, inr, refl, subst, sym, ◌<◌, ◌∙◌, ◌≡◌, ◌≤◌, ◌^◌, ℕ}
+use Rattle.std.proofs.Common.{Some, arith, inl, inr, refl, subst, sym, ◌∙◌}
 use Rattle.std.proofs.lemmas.Bool.{false≢true}
 use Rattle.hall.specs.Calls.{view, start_of}
-use Rattle.tx_events.specs.Ids.{low_half, next_multi}
 use Rattle.tx_events.specs.declared.refusal.Refusal.TheVariants as refusals
 use Rattle.life_law.specs.MultiReplies.{IsMultiNumber}
 use Rattle.engine_parts.specs.Adding.{IsPlain, MayMeet}

@@ -1,0 +1,9 @@
+use Rattle.std.proofs.Common.{ℕ, List, ◌++◌, take, ◌∙◌, ap}
+use Rattle.std.proofs.lemmas.List.{with_items_is}
+use Rattle.std.specs.Fmt.{decimal}
+use Rattle.report_text.proofs.bytes.lay_digits.Goals as goal
+
+pub returns-clause-written : goal.returns-clause-written
+returns-clause-written c =
+    ap (take c.digits_over.result) (with_items_is c.args.bytes.now c.digits_over.new.bytes (c.digits_over.auto.bytes ∙ c.deref_mut.ensures.len)) ∙ c.digits_over.ensures.written
+    ∙ ap (λ (l : List ℕ). take c.args.at l ++ decimal c.args.n) c.deref_mut.ensures.value

@@ -11,6 +11,9 @@ use disk_core::{Memory, PageDisk};
 use std::alloc::{AllocError, Global};
 use store_pages::PageRule;
 
+// As many banks as an engine has at most: 16 of each of four stores.
+const MOST_BANKS: usize = 64;
+
 /// Buffers that go on from bank to bank, one of each bank that is over. A bank that is made with them takes no memory, and
 /// fills no buffer with zeros.
 #[derive(Drop)]
@@ -64,6 +67,8 @@ impl BankRooms {
         {
             return Ok(room);
         }
+        // So that `keep` takes no memory. Where there is none, no buffer is kept.
+        let _ = self.rooms.reserve(MOST_BANKS);
         first_buffer(self.alloc)
     }
 
@@ -86,15 +91,17 @@ impl BankRooms {
         }
     }
 
-    /// The volume of a bank that is over, of which a buffer is kept if there is memory for its place. Changed pages are not
-    /// written first.
+    /// The volume of a bank that is over. A buffer is kept, where there is a place for it. Changed pages are not written
+    /// first. Takes no memory.
     pub fn keep<P: PageDisk, O: PageRule>(&mut self, bank: SlruBank<P, O>) -> P
         ensures { result ≡ volume_of bank }
     {
         let (disk, buffers) = bank.into_parts();
         let mut buffers = buffers;
-        buffers.truncate(1);
-        let _ = self.rooms.push(buffers);
+        if self.rooms.len() < self.rooms.capacity() {
+            buffers.truncate(1);
+            self.rooms.push_reserved(buffers);
+        }
         disk
     }
 }

@@ -1,6 +1,4 @@
 //! What lives leave for the next ones to use.
-ghost use Rattle.std.specs.Prelude.{◌≡◌};
-
 use crate::cluster::BankVolumes;
 use slru_bank::BankRooms;
 use std::alloc::Global;
@@ -10,7 +8,7 @@ use std::alloc::Global;
 #[derive(Drop)]
 pub struct LifeRooms<P> {
     alloc: Global,
-    pub(crate) banks: BankRooms,
+    pub banks: BankRooms,
     vectors: Option<BankVolumes<P>>,
 }
 

@@ -116,7 +116,7 @@ pub fn open_old<L: LogDisk + Drop, P: PageDisk + Drop>(
         offsets,
         members,
     } = volumes;
-    match recover(alloc, found, xact, subtrans, offsets, members) {
+    match recover(&mut rooms.banks, found, xact, subtrans, offsets, members) {
         Ok(recovered) => {
             is_full_multi(&recovered.base);
             open_recovered(alloc, rooms, recovered, sessions)

@@ -64,17 +64,6 @@ fn byte_over(bytes: &mut [u8], at: usize, byte: u8) -> usize
     at + 1
 }
 
-/// Writes the digit of a number below 10.
-#[inline(always)]
-fn one_over(bytes: &mut [u8], at: usize, n: u64) -> usize
-    requires room { at + 1 ≤ length bytes.old }
-    requires small { n < 10 }
-    ensures next { result ≡ at + 1 }
-    ensures written { take result bytes.new ≡ take at bytes.old ++ (48 + n) ∷ [] }
-{
-    byte_over(bytes, at, b'0' + n as u8)
-}
-
 /// Writes the two digits of a number below 100.
 #[inline(always)]
 fn pair_over(bytes: &mut [u8], at: usize, n: u64) -> usize
@@ -99,7 +88,7 @@ fn first_over(bytes: &mut [u8], at: usize, n: u64) -> usize
     ensures written { take result bytes.new ≡ take at bytes.old ++ decimal n }
 {
     if n < 10 {
-        one_over(bytes, at, n)
+        byte_over(bytes, at, b'0' + n as u8)
     } else {
         pair_over(bytes, at, n)
     }
@@ -120,21 +109,6 @@ fn few_over(bytes: &mut [u8], at: usize, n: u64) -> usize
     pair_over(bytes, next, n % 100)
 }
 
-/// Writes the digits of a number from 10,000 to below 100,000,000.
-#[inline(always)]
-fn more_over(bytes: &mut [u8], at: usize, n: u64) -> usize
-    requires room { at + 8 ≤ length bytes.old }
-    requires some { 10000 ≤ n }
-    requires small { n < 100000000 }
-    ensures next { result ≤ at + 8 }
-    ensures written { take result bytes.new ≡ take at bytes.old ++ decimal n }
-{
-    let low = n % 10_000;
-    let next = few_over(bytes, at, n / 10_000);
-    let next = pair_over(bytes, next, low / 100);
-    pair_over(bytes, next, low % 100)
-}
-
 /// Writes the digits of a number of up to eight.
 #[inline(always)]
 fn digits_over(bytes: &mut [u8], at: usize, n: u64) -> usize
@@ -144,10 +118,12 @@ fn digits_over(bytes: &mut [u8], at: usize, n: u64) -> usize
     ensures written { take result bytes.new ≡ take at bytes.old ++ decimal n }
 {
     if n < 10_000 {
-        few_over(bytes, at, n)
-    } else {
-        more_over(bytes, at, n)
+        return few_over(bytes, at, n);
     }
+    let low = n % 10_000;
+    let next = few_over(bytes, at, n / 10_000);
+    let next = pair_over(bytes, next, low / 100);
+    pair_over(bytes, next, low % 100)
 }
 
 /// Writes them behind a space.
@@ -359,6 +335,8 @@ impl Bytes {
     }
 
     // Adds a name that is long, or for which there is no room, behind a space.
+    #[cold]
+    #[inline(never)]
     fn long_name(&mut self, name: &[u8]) -> Result<(), Memory>
         ensures ok { OnOk result (self.new ≡ self.old ++ 32 ∷ name.now) }
     {

@@ -2,7 +2,7 @@
 use Rattle.std.proofs.Common.{◌≡◌, ℕ, suc, ◌+◌, ◌-◌, ◌<◌, ◌≤◌, List, [], ◌∷◌, ◌++◌, refl, sym, ap, subst, ◌∙◌, arith, append_assoc, append-nil, drop, get_or, length, take}
 use Rattle.std.proofs.Math.Seq.{drop-cons, drop-length, take-length}
 use Rattle.std.proofs.Math.ListN.{drop_of_length-le}
-use Rattle.std.proofs.lemmas.List.{drop-append-le, length-append, length-drop, take-append-le}
+use Rattle.std.proofs.lemmas.List.{drop-append-le, length-append, length-drop, take-append-drop, take-append-le}
 use Rattle.script_rounds.specs.declared.woven.Shared.{Shared}
 use Rattle.script_rounds.specs.Woven.{own_before, woven}
 
@@ -155,3 +155,17 @@ told_all written kept own piece more here self e f =
 pub told_on : (written done new kept both more self : List ℕ) → done ++ new ≡ kept ++ both → self ≡ written ++ (kept ++ both ++ more) → written ++ done ++ new ++ more ≡ self
 told_on written done new kept both more self e f =
     ap (λ (t : List ℕ). t ++ more) (append_assoc written done new ∙ ap (λ (t : List ℕ). written ++ t) e) ∙ append_assoc written (kept ++ both) more ∙ sym f
+
+-- own bytes of which the end was cut off
+pub stands_cut : (before : ℕ) (ms : List Shared) (own cut : List ℕ) (start : ℕ) → Stands before ms own → start ≡ length own → start ≤ length cut → Stands before ms cut
+stands_cut before ms own cut start s e l = (s.0, within before (length own) start (length cut) s.1 e l) where
+  within : (a n s m : ℕ) → a ≤ n → s ≡ n → s ≤ m → a ≤ m
+  within a n s m l e h = omega arith
+
+-- the end, put back as a shared piece, makes up the line that was put
+pub told_cut : (before : ℕ) (ms : List Shared) (own line put cut piece : List ℕ) (start : ℕ) → Stands before ms own → start ≡ length own → start ≤ length cut → put ≡ own ++ line → cut ++ piece ≡ put → woven ms cut ++ piece ≡ woven ms own ++ line
+told_cut before ms own line put cut piece start s e l p f =
+    sym (told_then before ms cut piece put (stands_cut before ms own cut start s e l) (sym f)) ∙ told_then before ms own line put s p
+
+pub whole_cut : (cut piece own : List ℕ) (at : ℕ) → cut ≡ take at own → piece ≡ drop at own → cut ++ piece ≡ own
+whole_cut cut piece own at e f = ap (λ (t : List ℕ). t ++ piece) e ∙ ap (λ (t : List ℕ). take at own ++ t) f ∙ take-append-drop at own

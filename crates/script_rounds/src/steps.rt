@@ -5,7 +5,6 @@ ghost use Rattle.tx_io.specs.Causes.{HasCause};
 
 use crate::LineKeeper;
 use crate::woven::Woven;
-use report_text::{Text, put_command_line};
 use std::alloc::Global;
 use std::marker::Model;
 use tx_io::{Failed, Sink};
@@ -14,10 +13,7 @@ use tx_model::{By, Command, Memory, NameList, Reply, Step};
 /// The text of steps. A snapshot's line shares its long end with the ones before that had the same.
 #[derive(Drop)]
 pub struct Steps {
-    alloc: Global,
     text: Woven,
-    /// Room for a line. Each session of a round has a keeper, most of which tell of no snapshot.
-    line: Option<Box<Text>>,
 }
 
 impl Model for Steps {
@@ -53,9 +49,7 @@ impl LineKeeper for Steps {
 
     fn none(alloc: Global) -> Steps {
         Steps {
-            alloc,
             text: Woven::new(alloc),
-            line: None,
         }
     }
 
@@ -75,19 +69,9 @@ impl LineKeeper for Steps {
         command: &Command,
         reply: &Reply,
     ) -> Result<(), Memory> {
-        let Reply::Snapped { lists: _ } = reply else {
-            return self.text.add_line(names, by, command, reply);
-        };
-        if self.line.is_none() {
-            self.line = Box::new(self.alloc, Text::new(self.alloc)).ok();
-        }
-        match &mut self.line {
-            Some(line) => {
-                line.clear();
-                put_command_line(line, names, by, command, reply)?;
-                self.text.add_again(line.bytes())
-            }
-            None => self.text.add_line(names, by, command, reply),
+        match reply {
+            Reply::Snapped { .. } => self.text.add_again(names, by, command, reply),
+            _ => self.text.add_line(names, by, command, reply),
         }
     }
 

@@ -1,5 +1,5 @@
 //! A text in which a long end of a line that comes again and again stands once.
-ghost use Rattle.std.specs.Prelude.{◌≡◌, ℕ, ◌+◌, ◌≤◌, List, [], ◌∷◌, ◌++◌, IfSome, OnErr, OnOk, length, take};
+ghost use Rattle.std.specs.Prelude.{◌≡◌, ℕ, ◌+◌, ◌≤◌, List, [], ◌∷◌, ◌++◌, IfNone, IfSome, OnErr, OnOk, length, take};
 ghost use Rattle.std.specs.Io.KnownBytes.{Appends};
 ghost use Rattle.tx_io.specs.Causes.{HasCause};
 ghost use Rattle.report_text.specs.ReportText.{command_line, round_line, step_text};
@@ -58,6 +58,47 @@ fn reply_at(line: &[u8]) -> usize
         at += 1;
     }
     at
+}
+
+/// The piece that was kept, where it is this end of a line. Else this end is kept, if it is long.
+fn again(alloc: Global, last: &mut Option<Piece>, end: &[u8]) -> Option<Piece>
+    ensures { IfSome result (λ piece. piece.value.items ≡ end.now) }
+{
+    if end.len() < LONG {
+        return None;
+    }
+    if let Some(kept) = last {
+        if kept.as_slice() == end {
+            return Arc::try_clone(kept).ok();
+        }
+    }
+    let mut bytes = Vec::new(alloc);
+    *last = match bytes.extend_from_slice(end) {
+        Ok(()) => Arc::new(alloc, bytes).ok(),
+        Err(_) => None,
+    };
+    None
+}
+
+/// Cuts the end off what stands from this place on, from its arrow on, where it is that of the line before.
+fn cut_end(alloc: Global, own: &mut Text, last: &mut Option<Piece>, start: usize) -> Option<Piece>
+    requires { start ≤ length own.old }
+    ensures some { IfSome result (λ piece. own.new ++ piece.value.items ≡ own.old) }
+    ensures none { IfNone result (own.new ≡ own.old) }
+    ensures front { start ≤ length own.new }
+{
+    let line = &own.bytes()[start..];
+    if line.len() < LONG {
+        return None;
+    }
+    let at = start + reply_at(line);
+    match again(alloc, last, &own.bytes()[at..]) {
+        Some(piece) => {
+            own.cut(at);
+            Some(piece)
+        }
+        None => None,
+    }
 }
 
 /// Takes a whole text off. Its room stays. Where memory was wanting, nothing is known of the own bytes, among which the
@@ -165,38 +206,27 @@ impl Woven {
         Ok(())
     }
 
-    // The piece that was kept, where it is this end of a line. Else this end is kept, if it is long.
-    fn again(&mut self, end: &[u8]) -> Option<Piece>
-        ensures same { self.new ≡ self.old }
-        ensures end { IfSome result (λ piece. piece.value.items ≡ end.now) }
+    /// Adds the line of a command with its reply. Its end, from its arrow on, is shared where it is that of the line which
+    /// was added so before. Where there is no memory it isn't known what the text is.
+    pub fn add_again(
+        &mut self,
+        names: &NameList,
+        by: By,
+        command: &Command,
+        reply: &Reply,
+    ) -> Result<(), Memory>
+        ensures { OnOk result (self.new ≡ self.old ++ command_line names.now (record { by = by; command = command.now; reply = reply.now })) }
     {
-        if end.len() < LONG {
-            return None;
-        }
-        if let Some(last) = &self.last {
-            if last.as_slice() == end {
-                return Arc::try_clone(last).ok();
+        let start = self.own.bytes().len();
+        match put_command_line(&mut self.own, names, by, command, reply) {
+            Ok(()) => match cut_end(self.alloc, &mut self.own, &mut self.last, start) {
+                Some(piece) => self.share(piece),
+                None => Ok(()),
+            },
+            Err(Memory) => {
+                take_off(&mut self.own, &mut self.shared, &mut self.before);
+                Err(Memory)
             }
-        }
-        let mut bytes = Vec::new(self.alloc);
-        self.last = match bytes.extend_from_slice(end) {
-            Ok(()) => Arc::new(self.alloc, bytes).ok(),
-            Err(_) => None,
-        };
-        None
-    }
-
-    /// Adds a line. Its end, from its arrow on, is shared where it is that of the line which was added so before.
-    pub fn add_again(&mut self, line: &[u8]) -> Result<(), Memory>
-        ensures { OnOk result (self.new ≡ self.old ++ line.now) }
-    {
-        let (start, end) = line.split_at(reply_at(line));
-        match self.again(end) {
-            Some(piece) => {
-                self.put(start)?;
-                self.share(piece)
-            }
-            None => self.put(line),
         }
     }
 

@@ -1,4 +1,4 @@
-use Rattle.std.proofs.Common.{List, subst, ◌++◌}
+use Rattle.std.proofs.Common.{subst, ◌++◌}
 use Rattle.std.proofs.lemmas.Result.{on_err_weaker}
 use Rattle.std.specs.Io.KnownBytes.{Appends}
 use Rattle.script_rounds.proofs.Fronts.{first_stopped, then_stopped}

@@ -2,7 +2,7 @@ use Rattle.std.proofs.Common.{◌++◌, ◌/◌, ◌%◌, ap, sym, take, ◌∙�
 use Rattle.std.specs.Fmt.{decimal}
 use Rattle.report_text.specs.Words.{pair}
 use Rattle.report_text.proofs.Laid.{of_more, then_three}
-use Rattle.report_text.proofs.bytes.more_over.Goals as goal
+use Rattle.report_text.proofs.bytes.digits_over.Goals as goal
 
 pub returns-clause-written : goal.returns-clause-written
 returns-clause-written c =
@@ -11,4 +11,4 @@ returns-clause-written c =
     then_three old (decimal (n / 10000)) (pair (n % 10000 / 100)) (pair (n % 10000 % 100))
     (take c.pair_over.result c.pair_over.new.bytes) (take c.pair_over-next.result c.pair_over-next.new.bytes) (take c.few_over-next.result c.few_over-next.new.bytes)
     c.few_over-next.ensures.written c.pair_over-next.ensures.written c.pair_over.ensures.written
-    ∙ ap (λ t. old ++ t) (sym (of_more n c.requires.some c.requires.small))
+    ∙ ap (λ t. old ++ t) (sym (of_more n c.if-n-lt10000.false c.requires.small))

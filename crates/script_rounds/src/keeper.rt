@@ -28,10 +28,6 @@ pub trait LineKeeper {
     fn none(alloc: Global) -> Self
         ensures { result ≡ nothing };
 
-    /// Keeps nothing any more. Its room stays.
-    fn forget(&mut self)
-        ensures { self.new ≡ nothing };
-
     /// Begins the round of this number.
     fn add_round(&mut self, number: u64) -> Result<(), Memory>
         ensures { OnOk result (self.new ≡ with_round self.old number) };
@@ -72,17 +68,3 @@ pub fn keeper_laws<K: LineKeeper>(_names: &NameList)
     ensures join { (kept : K) (lines : List Line)
         → K.joined kept (K.with_lines _names.now K.nothing lines) ≡ K.with_lines _names.now kept lines }
 {}
-
-/// A keeper of nothing, in the room of one that is not used any more, if there is one.
-pub fn fresh<K: LineKeeper>(alloc: Global, spare: &mut Vec<K>) -> K
-    ensures { result ≡ K.nothing }
-{
-    match spare.pop() {
-        Some(used) => {
-            let mut kept = used;
-            kept.forget();
-            kept
-        }
-        None => K::none(alloc),
-    }
-}

@@ -17,7 +17,7 @@ mod told;
 mod turns;
 mod woven;
 
-pub use keeper::{LineKeeper, fresh, keeper_laws};
+pub use keeper::{LineKeeper, keeper_laws};
 pub use life_text::{LifeText, have_full_multis, put_life, whole_text};
 pub use plan::Plan;
 pub use round_threads::RoundThreads;

@@ -1,5 +1,6 @@
 //! On how many threads the sessions of a round run.
-ghost use Rattle.std.specs.Prelude.{◌<◌};
+ghost use Rattle.std.specs.Prelude.{◌≡◌, ℕ, ◌<◌, ◌≤◌, length};
+ghost use Rattle.script_rounds.specs.declared.round_threads.RoundThreads.TheVariants as ways;
 
 use crate::plan::Plan;
 use session_lang::Items;
@@ -20,7 +21,12 @@ pub enum RoundThreads {
 impl RoundThreads {
     /// How many threads this round takes.
     pub fn count(self, plan: &Plan, round: &Items) -> usize
-        ensures { 0 < result }
+        ensures some { 0 < result }
+        ensures many { (most : ℕ) → self ≡ ways.AtMost most → 1 ≤ most → 2 ≤ length plan.now.sessions.items
+            → 4096 ≤ length round.now → result ≡ most }
+        ensures few { (most : ℕ) → self ≡ ways.AtMost most → length round.now < 4096 → result ≡ 1 }
+        ensures each { self ≡ ways.OneEach → 1 ≤ length plan.now.sessions.items
+            → result ≡ length plan.now.sessions.items }
     {
         let sessions = plan.sessions.len();
         let count = match self {

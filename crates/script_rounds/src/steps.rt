@@ -53,10 +53,6 @@ impl LineKeeper for Steps {
         }
     }
 
-    fn forget(&mut self) {
-        self.text.clear();
-    }
-
     fn add_round(&mut self, number: u64) -> Result<(), Memory> {
         self.text.add_round(number)
     }

@@ -83,12 +83,6 @@ impl LineKeeper for Tally {
         }
     }
 
-    fn forget(&mut self) {
-        self.commands = 0;
-        self.verdicts = 0;
-        self.lines = ToldLines::none();
-    }
-
     fn add_round(&mut self, _number: u64) -> Result<(), Memory> {
         Ok(())
     }

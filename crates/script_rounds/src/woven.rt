@@ -127,13 +127,6 @@ impl Woven {
         }
     }
 
-    /// Takes the whole text off. Its room stays.
-    pub fn clear(&mut self)
-        ensures { self.new ≡ [] }
-    {
-        take_off(&mut self.own, &mut self.shared, &mut self.before);
-    }
-
     /// Adds the line that begins a round. Where there is no memory the text is taken off.
     pub fn add_round(&mut self, number: u64) -> Result<(), Memory>
         ensures { OnOk result (self.new ≡ self.old ++ round_line number) }

@@ -14,16 +14,13 @@ use disk_core::{LogDisk, PageDisk};
 use engine_host::{Host, admit, dismiss, new_session};
 use engine_parts::{EngineLaw, Gate, Session};
 use hall::Hall;
-use script_rounds::{LineKeeper, Plan, ToldLines, fresh, keeper_laws};
+use script_rounds::{LineKeeper, Plan, ToldLines, keeper_laws};
 use session_lang::Items;
 use std::alloc::Global;
 use std::sync::Wait;
 use std::thread::Threads;
 use std::{mem, thread};
 use tx_model::{Memory, NameList};
-
-// The lines of a round of so many commands are worth no room of their own beyond it.
-const MANY_COMMANDS: usize = 4_096;
 
 /// Lets the sessions of a round in.
 fn let_in<K: LineKeeper, L: LogDisk, P: PageDisk>(
@@ -33,7 +30,6 @@ fn let_in<K: LineKeeper, L: LogDisk, P: PageDisk>(
     numbers: &[u32],
     sessions: &mut [Session],
     members: &mut Vec<Member<K, L, P>>,
-    spare: &mut Vec<K>,
 )
     requires host { IsHost hall.now host.old }
     requires names { HoldsAllBut host.old [] }
@@ -53,7 +49,7 @@ fn let_in<K: LineKeeper, L: LogDisk, P: PageDisk>(
         let session = mem::replace(&mut sessions[*number as usize], new_session(alloc));
         members.push_reserved(Member {
             caller: admit(hall, host, *number, session),
-            kept: fresh(alloc, spare),
+            kept: K::none(alloc),
             lines: ToldLines::none(),
             lost: false,
         });
@@ -146,26 +142,22 @@ fn run_members<K: LineKeeper + Send, L: LogDisk + Send + Sync, P: PageDisk + Sen
     );
 }
 
-/// Lets what a member keeps go, where it may be much.
+/// Lets what a member keeps go.
 fn let_lines_go<K: LineKeeper + Drop, L: LogDisk, P: PageDisk>(
     alloc: Global,
     member: &mut Member<K, L, P>,
-    much: bool,
 )
     ensures { member.new.caller ≡ member.old.caller }
 {
-    if much {
-        member.kept = K::none(alloc);
-    }
+    member.kept = K::none(alloc);
 }
 
-/// Keeps what the members kept, one member behind another. Where they keep much, each lets it go as soon as it is kept
-/// here, so that no more than one member's lines are held twice.
+/// Keeps what the members kept, one member behind another. Each lets it go as soon as it is kept here, so that no more than
+/// one member's lines are held twice.
 fn join_members<K: LineKeeper + Drop, L: LogDisk, P: PageDisk>(
     alloc: Global,
     members: &mut Vec<Member<K, L, P>>,
     kept: &mut K,
-    much: bool,
 ) -> Result<(), Memory>
     ensures sufficed { OnOk result (All (λ m. m.lost ≡ false) members.old.items) }
     ensures kept { OnOk result (kept.new ≡ with_members K.LineKeeper kept.old members.old.items) }
@@ -176,18 +168,17 @@ fn join_members<K: LineKeeper + Drop, L: LogDisk, P: PageDisk>(
             return Err(Memory);
         }
         kept.join(&member.kept)?;
-        let_lines_go(alloc, member, much);
+        let_lines_go(alloc, member);
     }
     Ok(())
 }
 
-/// Takes the sessions of a round back, and their keepers for the next round.
+/// Takes the sessions of a round back.
 fn take_back<K: LineKeeper + Drop, L: LogDisk, P: PageDisk>(
     hall: &Hall<EngineLaw<L, P>>,
     host: &mut Host<L, P>,
     members: &mut Vec<Member<K, L, P>>,
     sessions: &mut [Session],
-    spare: &mut Vec<K>,
 )
     requires host { IsHost hall.now host.old }
     requires names { HoldsAllBut host.old (numbers_of members.old.items) }
@@ -205,15 +196,13 @@ fn take_back<K: LineKeeper + Drop, L: LogDisk, P: PageDisk>(
     while let Some(member) = members.pop() {
         let Member {
             caller,
-            kept,
+            kept: _,
             lines: _,
             lost: _,
         } = member;
         let number = caller.number;
         let session = dismiss(hall, host, caller);
         sessions[number as usize] = session;
-        // Without memory for its place it goes.
-        let _ = spare.push(kept);
     }
 }
 
@@ -231,7 +220,6 @@ pub fn run_round<K: LineKeeper + Send + Drop, L: LogDisk + Send + Sync, P: PageD
     round: &Items,
     names: &NameList,
     kept: &mut K,
-    spare: &mut Vec<K>,
     threads: usize,
     gate: &(impl Gate + Sync),
 ) -> Result<(), Memory>
@@ -257,13 +245,12 @@ pub fn run_round<K: LineKeeper + Send + Drop, L: LogDisk + Send + Sync, P: PageD
     let mut sent = Vec::with_capacity(alloc, plan.sessions.len())?;
     let banks = host.cluster.banks;
     let numbers = plan.sessions.as_slice();
-    let_in(hall, alloc, host, numbers, sessions, &mut sent, spare);
+    let_in(hall, alloc, host, numbers, sessions, &mut sent);
     run_members(
         rt, hall, &mut sent, kept, banks, alloc, names, plan, round, threads, gate,
     );
-    let much = round.len() >= MANY_COMMANDS;
-    let joined = join_members(alloc, &mut sent, kept, much);
-    take_back(hall, host, &mut sent, sessions, spare);
+    let joined = join_members(alloc, &mut sent, kept);
+    take_back(hall, host, &mut sent, sessions);
     sent.destroy_empty();
     joined
 }

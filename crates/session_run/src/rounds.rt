@@ -40,7 +40,6 @@ fn run_numbered<K: LineKeeper + Send + Drop, L: LogDisk + Send + Sync, P: PageDi
     round: &Items,
     names: &NameList,
     kept: &mut K,
-    spare: &mut Vec<K>,
     threads: RoundThreads,
     gate: &(impl Gate + Sync),
 ) -> Result<(), Memory>
@@ -62,7 +61,7 @@ fn run_numbered<K: LineKeeper + Send + Drop, L: LogDisk + Send + Sync, P: PageDi
     kept.add_round(rounds + 1)?;
     let count = threads.count(plan, round);
     run_round(
-        rt, alloc, hall, host, sessions, plan, round, names, kept, spare, count, gate,
+        rt, alloc, hall, host, sessions, plan, round, names, kept, count, gate,
     )?;
     plan.clear();
     Ok(())
@@ -80,7 +79,6 @@ fn run_next<K: LineKeeper + Send + Drop, L: LogDisk + Send + Sync, P: PageDisk +
     round: &Items,
     names: &NameList,
     kept: &mut K,
-    spare: &mut Vec<K>,
     threads: RoundThreads,
     gate: &(impl Gate + Sync),
 ) -> Result<u64, Memory>
@@ -103,7 +101,7 @@ fn run_next<K: LineKeeper + Send + Drop, L: LogDisk + Send + Sync, P: PageDisk +
         return Ok(rounds);
     }
     run_numbered(
-        rt, alloc, hall, host, sessions, plan, rounds, round, names, kept, spare, threads, gate,
+        rt, alloc, hall, host, sessions, plan, rounds, round, names, kept, threads, gate,
     )?;
     Ok(rounds + 1)
 }
@@ -208,14 +206,12 @@ fn run_each<K: LineKeeper + Send + Drop, L: LogDisk + Send + Sync, P: PageDisk +
         kept.old kept.new) }
 {
     let mut plan = Plan::new(alloc, sessions.len())?;
-    let mut spare = Vec::new(alloc);
     let mut rest = script;
     let mut rounds = 0;
     while !rest.is_empty() {
         let (round, behind) = next_round(&rest);
         rounds = run_next(
-            rt, alloc, hall, host, sessions, &mut plan, rounds, &round, names, kept, &mut spare,
-            threads, gate,
+            rt, alloc, hall, host, sessions, &mut plan, rounds, &round, names, kept, threads, gate,
         )?;
         let place = round.len();
         answer_next(rt, alloc, hall, host, sessions, &rest, place, names, kept)?;

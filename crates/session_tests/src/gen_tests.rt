@@ -86,7 +86,7 @@ fn words_and_what_they_write(rt: HostRuntime) {
 
 #[test]
 fn each_run_says_the_same(rt: HostRuntime) {
-    let words = ["gen", "1", "2000"];
+    let words = ["gen", "1", "640"];
     let first = run_beside_a_source(&rt, &words, RoundThreads::OneEach);
     let second = run_beside_a_source(&rt, &words, RoundThreads::OneEach);
     assert!(rt; first.status == 0 && second.status == 0);

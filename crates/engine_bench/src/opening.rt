@@ -91,7 +91,8 @@ fn open_parts(
     ensures parked { IfSome result (λ r. (n : ℕ) (s : Session) → n < r.1.cluster.sessions → IsNewSession s
         → IsParked r.0 r.1 n s) }
 {
-    match open_new(alloc, &mut LifeRooms::new(alloc), log, volumes, cluster) {
+    let mut rooms = LifeRooms::new(alloc);
+    match open_new(alloc, &mut rooms, log, volumes, cluster) {
         Ok(parts) => table_of(alloc, parts),
         Err(_) => None,
     }

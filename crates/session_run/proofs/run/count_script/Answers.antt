@@ -1,5 +1,5 @@
 use mir.Syntax.{of_param}
-use Rattle.std.proofs.Common.{List, None, ap, arith, length, refl, subst, sym, ℕ, ◌<◌, ◌^◌, ◌∙◌, ◌≡◌, rules}
+use Rattle.std.proofs.Common.{Bool, List, None, [], ap, arith, length, refl, subst, sym, ℕ, ◌<◌, ◌^◌, ◌∙◌, ◌≡◌, ◌∷◌, rules}
 use Rattle.std.proofs.lemmas.Result.{err_from_is_err_and}
 use Rattle.std.specs.List.{flat_map}
 use Rattle.disk_core.specs.Images.{Only}
@@ -8,7 +8,9 @@ use Rattle.tx_events.specs.Ids.{IsFullMulti}
 use Rattle.tx_model.specs.declared.report.LifeReport.{LifeReport}
 use Rattle.tx_model.specs.Rounds.{lines_in}
 use Rattle.session_lang.specs.declared.script.Item.{Item}
+use Rattle.session_lang.specs.declared.script.Script.{Script}
 use Rattle.run_law.specs.Lives.{BeginsWithBase, RunStart}
+use Rattle.script_gen.specs.Summaries.{IsSummaryOf}
 use Rattle.script_gen.specs.Counts.{summary_by, summary_text}
 use Rattle.script_rounds.specs.contracts.tally.TallyLineKeeper.TheImpl as tally_keeper
 use Rattle.script_rounds.specs.Counted.{verdicts_in}
@@ -67,6 +69,15 @@ run_life-closed-requires-clause-may g c κs within =
       opened = is.so.opened;
     }
 
+-- what holds of these banks, this start and these lives holds of the summary's
+with_counts : (tells : Bool) (s : Script) (text : List ℕ) (banks : ℕ) (start : RunStart) (lives : List LifeReport) (F : ℕ → RunStart → List LifeReport → Type 0)
+    → (counts : IsSummaryOf tells s text) × (counts.banks ≡ banks) × (counts.start ≡ start) × (counts.report.lives ≡ lives)
+    → F banks start lives → (counts : IsSummaryOf tells s text) × F counts.banks counts.start counts.report.lives
+with_counts tells s text banks start lives F k f = (
+      k.0,
+      subst (λ (n : ℕ). F n k.0.start k.0.report.lives) (sym k.1) (subst (λ (z : RunStart). F banks z k.0.report.lives) (sym k.2) (subst (λ (z : List LifeReport). F banks start z) (sym k.3) f)),
+    )
+
 pub returns-in-Ok-text-clause-counts : goal.returns-in-Ok-text-clause-counts
 returns-in-Ok-text-clause-counts g c =
     let s = c.args.script.now in
@@ -98,9 +109,8 @@ returns-in-Ok-text-clause-counts g c =
       multi = full.0;
       oldest_multi = full.1;
     } in
-    let counts = counts_told p.tells so.cluster.banks start s told ran.steps c.in-Ok-text.text.items c.commands.result c.verdicts.result so.opened.banks.few (c.requires.1.1.1.1.1.1.1.1.1.1.1.0) lived (record { from = refl; base = refl }) base commands verdicts exact in
-    let only = subst (λ volumes. Only volumes gives) c.into_volumes.ensures c.rest.ensures.same in (
-      counts.0,
-      subst (λ (x : ℕ × RunStart × List LifeReport). LeavesVolumes l p (BeginsOver l p first g.kept s x.0 x.1) m.falls gives x.2) (λ j. (sym counts.1 j, sym counts.2 j, sym counts.3 j))
-          (left_alone l p so.cluster so.begins so.faults is.volumes life closed ran.steps (BeginsOver l p first g.kept s so.cluster.banks start) m.falls gives so.opened so.opens is.began only ran.left),
-    )
+    let only = subst (λ volumes. Only volumes gives) c.into_volumes.ensures c.rest.ensures.same in
+    with_counts p.tells s c.in-Ok-text.text.items so.cluster.banks start (report_of told ran.steps None ∷ [])
+    (λ banks begins lives. LeavesVolumes l p (BeginsOver l p first g.kept s banks begins) m.falls gives lives)
+    (counts_told p.tells so.cluster.banks start s told ran.steps c.in-Ok-text.text.items c.commands.result c.verdicts.result so.opened.banks.few (c.requires.1.1.1.1.1.1.1.1.1.1.1.0) lived (record { from = refl; base = refl }) base commands verdicts exact)
+    (left_alone l p so.cluster so.begins so.faults is.volumes life closed ran.steps (BeginsOver l p first g.kept s so.cluster.banks start) m.falls gives so.opened so.opens is.began only ran.left)

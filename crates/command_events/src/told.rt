@@ -56,11 +56,14 @@ fn told_refused(
 fn list_of(alloc: Global, event: Option<Event>) -> Result<Vec<Event>, Memory>
     ensures { IfOk result (λ es. es.items ≡ as_list event) }
 {
-    let mut events = Vec::new(alloc);
-    if let Some(event) = event {
-        events.push(event)?;
+    match event {
+        Some(event) => {
+            let mut events = Vec::with_capacity(alloc, 1)?;
+            events.push(event)?;
+            Ok(events)
+        }
+        None => Ok(Vec::new(alloc)),
     }
-    Ok(events)
 }
 
 /// Of a command that gives no ids.

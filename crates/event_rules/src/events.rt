@@ -11,18 +11,18 @@ ghost use Rattle.event_rules.specs.Lined.{AreLinesInOrder, events_in};
 ghost use Rattle.event_rules.specs.Told.{AreToldEvents, IsItsEvent};
 
 use crate::both::{is_in_time, is_told_in, stands};
+use id_sets::IdSet;
 use place_columns::{LineTable, OwnEvents, Owned};
-use std::collections::BTreeSet;
 use tx_events::Event;
 
 /// Whether a commit has its record. These are the tops of the records of commits.
-fn is_commit_logged(tops: &BTreeSet<u64>, event: &Event) -> bool
+fn is_commit_logged(tops: &IdSet, event: &Event) -> bool
     ghost j: { Judged }
     requires { (x : ℕ) → contains nat_cmp tops.now x ≡ list_any (is_commit_of x) j.life.recs }
     ensures { IsTrue result ↔ IsCommitLogged j event.now }
 {
     match event {
-        Event::Commit { top, .. } => tops.contains(&top.number()),
+        Event::Commit { top, .. } => tops.contains(top.number()),
         _ => true,
     }
 }
@@ -34,7 +34,7 @@ pub fn is_its_event(
     table: &LineTable,
     own: &OwnEvents,
     told: &[Option<Vec<Event>>],
-    tops: &BTreeSet<u64>,
+    tops: &IdSet,
     events: &[Event],
     place: u64,
 ) -> bool

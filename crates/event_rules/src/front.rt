@@ -10,18 +10,22 @@ ghost use Rattle.tx_events.specs.Base.{IsBase};
 ghost use Rattle.tx_events.specs.Events.{by_of};
 ghost use Rattle.tx_events.specs.History.{ComesInTurn, IsLegal, MayCome};
 ghost use Rattle.history_places.specs.SnapMarks.{AreSnapMarks, IsSnapMark};
+ghost use Rattle.place_rules.specs.Opens.{AreOpenCounts};
 ghost use Rattle.event_rules.specs.Fronts.{AreTold, IsFront, list_at};
 
 use history_places::{HistoryPlaces, SnapMark, snap_mark};
 use place_columns::OwnEvents;
+use place_rules::open_now;
 use std::alloc::Global;
 use tx_events::{Counters, Event, Memory, SnapData};
 
-/// The legal front of a history: what its places tell, and of each of its events that takes a snapshot what is kept of that.
+/// The legal front of a history: what its places tell, of each of its events that takes a snapshot what is kept of that, and
+/// how many ids the session of each has open behind it.
 #[derive(Drop)]
 pub struct HistoryFront {
     pub places: HistoryPlaces,
     pub snaps: Vec<Option<SnapMark>>,
+    pub opened: Vec<u64>,
 }
 
 /// What the reply of the line of this number tells of a snapshot, if it does.
@@ -69,17 +73,28 @@ pub fn history_front(
     requires own { length own.now.numbers ≡ length events.now }
     ensures front { IfOk result (λ f. IsFront base events.now f.places) }
     ensures snaps { IfOk result (λ f. (told_by : By → Option SnapData) → AreTold told_by events.now own.now.numbers lists.now → AreSnapMarks base.next f.places.events told_by f.snaps.items) }
+    ensures opened { IfOk result (λ f. AreOpenCounts f.places.events f.opened.items) }
 {
     let mut places = HistoryPlaces::new(alloc, base, sessions)?;
-    let mut snaps = Vec::new(alloc);
+    let mut snaps = Vec::with_capacity(alloc, events.len())?;
+    let mut opened = Vec::with_capacity(alloc, events.len())?;
     for (place, event) in events.iter().enumerate() {
         let mark = mark_of(&mut places, event, lists, own.number_at(place as u64))?;
         if !places.add(event)? {
-            return Ok(HistoryFront { places, snaps });
+            return Ok(HistoryFront {
+                places,
+                snaps,
+                opened,
+            });
         }
         snaps.push(mark)?;
+        opened.push(open_now(places.replay(), event))?;
     }
-    Ok(HistoryFront { places, snaps })
+    Ok(HistoryFront {
+        places,
+        snaps,
+        opened,
+    })
 }
 
 /// How many events the front has.

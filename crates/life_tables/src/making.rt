@@ -29,14 +29,14 @@ ghost use Rattle.report_law.specs.Steps.{Judged, gave_multi, lines_of};
 ghost use Rattle.event_rules.specs.SnapsTold.{told_by, told_lists};
 ghost use Rattle.life_tables.specs.Lives.{LifeAt, RisesFrom, judged_life};
 
-use crate::committed::add_all_committed;
+use crate::committed::all_committed;
 use event_rules::{HistoryFront, history_front, multi_front};
-use history_places::{HistoryPlaces, MultiPlaces, SnapMark, Start};
+use history_places::{MultiPlaces, SnapMark, Start};
+use id_sets::IdSet;
 use multi_rules::{Taken, late_multis, taken_by_lines};
 use place_columns::{
     GivenCounts, LineTable, Own, OwnEvents, Owned, bys_of, given_counts, own_places,
 };
-use place_rules::open_counts;
 use reply_rules::{
     LogEnd, Logs, are_log_faults, commit_tops, is_any_stray, recorded_multis, room_of, truncations,
 };
@@ -72,7 +72,7 @@ pub fn counts_in(alloc: Global, life: &Life) -> Result<GivenCounts, Memory>
     given_counts(alloc, &life.base, life.events.items(), life.multis.items())
 }
 
-/// The legal front of the history, with its snapshots. `lists` are what the lines' replies tell.
+/// The legal front of the history, with its snapshots and how many ids are open. `lists` are what the lines' replies tell.
 pub fn front_of(
     alloc: Global,
     report: &LifeReport,
@@ -87,6 +87,7 @@ pub fn front_of(
     requires lists { lists.now ≡ map (λ (l : Line). told_lists l.reply) (lines_of (judged_life at)) }
     ensures front { IfOk result (λ f. IsFront report.now.life.base report.now.life.events f.places) }
     ensures snaps { IfOk result (λ f. AreSnapMarks report.now.life.base.next f.places.events (told_by (judged_life at)) f.snaps.items) }
+    ensures opened { IfOk result (λ f. AreOpenCounts f.places.events f.opened.items) }
 {
     history_front(
         alloc,
@@ -105,15 +106,6 @@ pub fn turns_of<E: Owned>(alloc: Global, events: &[E]) -> Result<Vec<Vec<Own>>, 
 {
     let bys = bys_of(alloc, events)?;
     own_places(alloc, SESSIONS, bys.as_slice())
-}
-
-/// How many ids its session has open behind each event of the front.
-pub fn opened_of(alloc: Global, life: &Life, places: &HistoryPlaces) -> Result<Vec<u64>, Memory>
-    requires base { places.now.base ≡ life.now.base }
-    requires few { All (λ e. (by_of e).session < 64) places.now.events }
-    ensures { IfOk result (λ counts. AreOpenCounts places.now.events counts.items) }
-{
-    open_counts(alloc, life.base.same(), SESSIONS, places.replay().events())
 }
 
 /// The snapshots of each line's command.
@@ -217,12 +209,11 @@ pub fn late_of(
 }
 
 /// All ids of the commit records, by their numbers.
-pub fn recorded_in(alloc: Global, recs: &[Rec]) -> Result<BTreeSet<u64>, Memory>
+pub fn recorded_in(alloc: Global, recs: &[Rec]) -> Result<IdSet, Memory>
     ensures { IfOk result (λ ids. (x : ℕ) → IsTrue (contains nat_cmp ids x) ↔ IsRecorded recs.now x) }
 {
-    let mut ids = BTreeSet::new(alloc);
-    add_all_committed(&mut ids, recs)?;
-    Ok(ids)
+    let ids = all_committed(alloc, recs)?;
+    Ok(IdSet::of(ids))
 }
 
 /// What the life's log holds.

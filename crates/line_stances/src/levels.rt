@@ -35,7 +35,7 @@ fn giving_all(
 ) -> Result<Vec<Event>, Memory>
     ensures { IfOk result (λ es. es.items ≡ giving_all by parent ids.now) }
 {
-    let mut events = Vec::new(alloc);
+    let mut events = Vec::with_capacity(alloc, ids.len())?;
     let mut above = parent;
     for id in ids {
         events.push(giving(by, above, *id))?;

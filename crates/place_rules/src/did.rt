@@ -13,11 +13,12 @@ ghost use Rattle.place_rules.specs.Runs.{AreReadPlaces, Asked, Did, IsDidHere, I
 use crate::nearest::is_older;
 use crate::visible::legal;
 use history_places::{HistoryPlaces, was_visible};
+use id_sets::IdSet;
 use std::collections::BTreeSet;
 use tx_events::{FullXid, Xid, near};
 
 /// Whether the base has the id as committed, or a commit record names it.
-fn is_known(committed: &BTreeSet<u64>, recorded: &BTreeSet<u64>, id: FullXid) -> bool
+fn is_known(committed: &BTreeSet<u64>, recorded: &IdSet, id: FullXid) -> bool
     ghost did: { Did }
     requires known { (y : ℕ) → contains nat_cmp committed.now y ≡ list_any (λ z. z == y) did.ids }
     requires recorded { (y : ℕ) → IsTrue (contains nat_cmp recorded.now y) ↔ IsRecorded did.recs y }
@@ -26,7 +27,7 @@ fn is_known(committed: &BTreeSet<u64>, recorded: &BTreeSet<u64>, id: FullXid) ->
     if committed.contains(&id.number()) {
         return true;
     }
-    recorded.contains(&id.number())
+    recorded.contains(id.number())
 }
 
 /// Whether the stored half means an id at this place of which the answer is right. `from` is the first place where the
@@ -34,7 +35,7 @@ fn is_known(committed: &BTreeSet<u64>, recorded: &BTreeSet<u64>, id: FullXid) ->
 fn is_right_answer(
     places: &HistoryPlaces,
     committed: &BTreeSet<u64>,
-    recorded: &BTreeSet<u64>,
+    recorded: &IdSet,
     from: u64,
     place: u64,
     x: Xid,
@@ -66,7 +67,7 @@ fn is_right_answer(
 pub fn is_did_at(
     places: &HistoryPlaces,
     committed: &BTreeSet<u64>,
-    recorded: &BTreeSet<u64>,
+    recorded: &IdSet,
     from: u64,
     to: u64,
     x: Xid,

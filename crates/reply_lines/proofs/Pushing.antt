@@ -97,10 +97,8 @@ told_pushed at line told new o number told_at stands number_is size before here 
 
 -- ---- the ids that events give
 
-pub given_next : (h : List Event) (i : ℕ) (e : Event) (ids pushed : List ℕ) → i < length h → e ≡ get_or h i e → ids ≡ given (take i h) → pushed ≡ ids ++ given (e ∷ []) → pushed ≡ given (take (i + 1) h)
-given_next h i e ids pushed l is sofar more =
-    more ∙ ap (λ (t : List ℕ). t ++ given (e ∷ [])) sofar ∙ sym (filter_map-append given_by (take i h) (e ∷ []))
-    ∙ ap given (ap (λ (x : Event). take i h ++ x ∷ []) is ∙ sym (take_more h i e l))
+pub given_more : (old new : List Event) (e : Event) (ids pushed : List ℕ) → ids ≡ given old → new ≡ old ++ e ∷ [] → pushed ≡ ids ++ given (e ∷ []) → pushed ≡ given new
+given_more old new e ids pushed sofar more is = is ∙ ap (λ (t : List ℕ). t ++ given (e ∷ [])) sofar ∙ sym (filter_map-append given_by old (e ∷ [])) ∙ ap given (sym more)
 
 pub if_ok : {X E : Type 0} (P Q : X → Type 0) (r : Result X E) → ((x : X) → P x → Q x) → IfOk r P → IfOk r Q
 if_ok {X} {E} P Q (Ok x) f p = f x p

@@ -16,7 +16,7 @@ ghost use Rattle.reply_lines.specs.Known.{IsKept, IsKnown};
 
 use crate::both::all_six;
 use crate::known::{Kept, Known};
-use crate::own::{events_at, multis_at};
+use crate::own::{events_at, ids_at, multis_at};
 use crate::replies::is_lawful_reply;
 use crate::rounds::RoundAt;
 use command_events::{has_first_multis, told_events};
@@ -117,6 +117,23 @@ fn its_events(
     ensures { IfOk result (λ es. es.items ≡ events_of line.now.by at.j.life.events) }
 {
     events_at(alloc, report.life.events.items(), &known.events, number)
+}
+
+/// The ids that they give.
+fn its_ids(
+    alloc: Global,
+    report: &LifeReport,
+    known: &Known,
+    number: u64,
+    line: &Line,
+) -> Result<Vec<FullXid>, Memory>
+    ghost at: { AtLine }
+    requires report { IsReportOf at.j report.now }
+    requires known { IsKnown at.j known.now }
+    requires stands { StandsThere at number line.now }
+    ensures { IfOk result (λ ids. ids.items ≡ given (events_of line.now.by at.j.life.events)) }
+{
+    ids_at(alloc, report.life.events.items(), &known.events, number)
 }
 
 /// Its multixact events.
@@ -246,33 +263,6 @@ pub fn is_lawful_command(
     Ok(all_six(events, multis, standing, members, reply, logged))
 }
 
-/// Adds the id that the event gives, if it gives one.
-fn add_id(ids: &mut Vec<FullXid>, event: &Event) -> Result<(), Memory>
-    ensures { OnOk result (ids.new.items ≡ ids.old.items ++ given (event.now ∷ [])) }
-{
-    match event {
-        Event::Id { id, .. } => {
-            ids.push(*id)?;
-            Ok(())
-        }
-        Event::Sub { id, .. } => {
-            ids.push(*id)?;
-            Ok(())
-        }
-        _ => Ok(()),
-    }
-}
-
-fn given_ids(alloc: Global, events: &[Event]) -> Result<Vec<FullXid>, Memory>
-    ensures { IfOk result (λ ids. ids.items ≡ given events.now) }
-{
-    let mut ids = Vec::new(alloc);
-    for event in events {
-        add_id(&mut ids, event)?;
-    }
-    Ok(ids)
-}
-
 fn has_some(multis: &[MultiEvent]) -> bool
     ensures { result ≡ nat_lt 0 (length multis.now) }
 {
@@ -296,8 +286,7 @@ pub fn pass_line(
     requires stand { AreBehind (lived_at at) 64 sessions.old.items }
     ensures { OnOk result (AreBehind (with_line (lived_at at) line.now) 64 sessions.new.items) }
 {
-    let own = its_events(alloc, report, known, number, line)?;
-    let ids = given_ids(alloc, own.as_slice())?;
+    let ids = its_ids(alloc, report, known, number, line)?;
     let multis = its_multis(alloc, report, known, number, line)?;
     let gave = has_some(multis.as_slice());
     add_line(sessions, &known.tops, line, ids.as_slice(), gave)

@@ -1,5 +1,6 @@
 //! What is known of a life before its lines are judged.
 use history_places::{HistoryPlaces, IdMark, MultiPlaces, SnapMark, Start};
+use id_sets::IdSet;
 use multi_rules::{Home, LimitAt, Taken};
 use place_columns::{GivenCounts, LineTable, Own, OwnEvents};
 use reply_rules::{LogEnd, Logs};
@@ -35,9 +36,9 @@ pub struct Known {
     /// The multixacts that were given so behind the legal front.
     pub late: BTreeSet<u64>,
     /// The transactions of all commit records.
-    pub tops: BTreeSet<u64>,
+    pub tops: IdSet,
     /// All ids of commit records.
-    pub recorded: BTreeSet<u64>,
+    pub recorded: IdSet,
     pub logs: Logs,
     pub end: LogEnd,
 }

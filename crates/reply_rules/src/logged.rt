@@ -8,6 +8,7 @@ ghost use Rattle.report_law.specs.Steps.{IsLogged, Judged, is_ok_trim, is_trunca
 ghost use Rattle.reply_rules.specs.Logs.{AreLogs, IsCommitLogged};
 ghost use Rattle.report_law.specs.Tops.{AreTops};
 
+use id_sets::IdSet;
 use std::collections::BTreeSet;
 use tx_events::{FullXid, Rec};
 use tx_model::{Command, Line, Reply};
@@ -16,7 +17,7 @@ use tx_model::{Command, Line, Reply};
 /// many truncations are, the multixacts that are recorded, and whether one is recorded that no event gives.
 #[derive(Drop)]
 pub struct Logs {
-    pub commits: BTreeSet<u64>,
+    pub commits: IdSet,
     pub truncations: u64,
     pub multis: BTreeSet<u64>,
     pub stray: bool,
@@ -51,11 +52,11 @@ pub fn is_ok_trim(line: &Line) -> bool
     }
 }
 
-fn is_commit_logged(commits: &BTreeSet<u64>, top: Option<FullXid>) -> bool
+fn is_commit_logged(commits: &IdSet, top: Option<FullXid>) -> bool
     ensures { (recs : List Rec) → AreTops recs commits.now → IsTrue result ↔ IsCommitLogged recs top }
 {
     match top {
-        Some(top) => commits.contains(&top.number()),
+        Some(top) => commits.contains(top.number()),
         None => true,
     }
 }

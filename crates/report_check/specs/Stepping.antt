@@ -21,6 +21,11 @@ pub record AtStep : Type 0 where
   pub step : Step
   pub multis : List MultiEvent
 
+-- a life, and what is known of it before its lines are judged
+pub record KnownLife : Type 0 where
+  pub j : Judged
+  pub known : Known
+
 -- the steps before it
 abbrev pub steps_before : AtStep → List Step
 steps_before of = take of.round of.j.steps

@@ -10,7 +10,7 @@ ghost use Rattle.life_tables.specs.Lives.{LifeAt, judged_life};
 use history_places::{Start, id_marks};
 use life_tables::{
     are_in_turn, copied, counts_in, front_of, gave_by_lines, late_of, lists_by_lines, log_end_of,
-    logs_of, multi_front_of, oks_of, opened_of, owned, recorded_in, table_of, taken_of, turns_of,
+    logs_of, multi_front_of, oks_of, owned, recorded_in, table_of, taken_of, turns_of,
 };
 use multi_rules::held_limits;
 use reply_lines::Known;
@@ -40,9 +40,9 @@ pub fn known_of(alloc: Global, report: &LifeReport, starts: &[Start]) -> Result<
     let counts = counts_in(alloc, life)?;
     let lists = lists_by_lines(alloc, report.steps.items())?;
     let front = front_of(alloc, report, &own, lists.as_slice())?;
+    drop(lists);
     let turns = turns_of(alloc, front.places.replay().events())?;
     let marks = id_marks(alloc, front.places.replay())?;
-    let opened = opened_of(alloc, life, &front.places)?;
     let taken = taken_of(alloc, &table, &own, front.snaps.as_slice())?;
     let multi_places = multi_front_of(alloc, life, copied(alloc, starts)?)?;
     let multi_turns = turns_of(alloc, multi_places.events())?;
@@ -64,7 +64,7 @@ pub fn known_of(alloc: Global, report: &LifeReport, starts: &[Start]) -> Result<
         snaps: front.snaps,
         turns,
         marks,
-        opened,
+        opened: front.opened,
         taken,
         multi_places,
         multi_turns,

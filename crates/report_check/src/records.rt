@@ -7,15 +7,15 @@ ghost use Rattle.tx_events.specs.Multis.{AreLegalMultis};
 ghost use Rattle.checkpoint_rules.specs.Behind.{AreCheckpoints};
 ghost use Rattle.report_law.specs.MultiLines.{of_records};
 ghost use Rattle.report_law.specs.ReportLines.{logged, placed};
-ghost use Rattle.report_law.specs.Steps.{Judged};
 ghost use Rattle.reply_lines.specs.At.{IsReportOf};
 ghost use Rattle.reply_lines.specs.Known.{IsKnown};
+ghost use Rattle.report_check.specs.Stepping.{KnownLife};
 ghost use Rattle.report_check.specs.Walked.{IsWalked};
 
 use crate::walked::Walked;
 use checkpoint_rules::Checkpoints;
+use history_places::MultiPlaces;
 use record_rules::first_unlawful_record;
-use reply_lines::Known;
 use std::alloc::Global;
 use tx_events::Memory;
 use tx_model::LifeReport;
@@ -24,24 +24,24 @@ use tx_model::LifeReport;
 pub fn walk_records(
     alloc: Global,
     report: &LifeReport,
-    known: &Known,
+    multis: &MultiPlaces,
     checkpoints: &Checkpoints,
 ) -> Result<Walked, Memory>
-    ghost j: { Judged }
-    requires report { IsReportOf j report.now }
-    requires known { IsKnown j known.now }
-    requires base { j.begun.counters ≡ report.now.life.base }
-    requires few { All (λ e. (by_of e).session < 64) j.life.events }
-    requires legal { IsLegal j.begun.counters j.life.events }
-    requires multis { AreLegalMultis j.begun.counters (of_records j.begun.counters j.begun.recorded) j.life.multis }
-    requires checkpoints { AreCheckpoints j j.steps checkpoints.now }
-    ensures { IfOk result (IsWalked (placed (logged j) 0 j.life.recs)) }
+    ghost at: { KnownLife }
+    requires report { IsReportOf at.j report.now }
+    requires known { IsKnown at.j at.known × (multis.now ≡ at.known.multi_places) }
+    requires base { at.j.begun.counters ≡ report.now.life.base }
+    requires few { All (λ e. (by_of e).session < 64) at.j.life.events }
+    requires legal { IsLegal at.j.begun.counters at.j.life.events }
+    requires legal_multis { AreLegalMultis at.j.begun.counters (of_records at.j.begun.counters at.j.begun.recorded) at.j.life.multis }
+    requires checkpoints { AreCheckpoints at.j at.j.steps checkpoints.now }
+    ensures { IfOk result (IsWalked (placed (logged at.j) 0 at.j.life.recs)) }
 {
     let first = first_unlawful_record(
         alloc,
         &report.life.base,
         report,
-        &known.multi_places,
+        multis,
         &checkpoints.asked,
     )?;
     match first {

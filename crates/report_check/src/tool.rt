@@ -22,8 +22,8 @@ fn unlawful(alloc: Global, line: u64) -> Ending
 }
 
 /// The ending by the bytes of the whole input.
-fn judge(alloc: Global, bytes: &[u8]) -> Ending
-    ensures { Judges bytes.now result }
+fn judge(alloc: Global, bytes: Vec<u8>) -> Ending
+    ensures { Judges bytes.items result }
 {
     match first_unlawful(alloc, bytes) {
         Ok(None) => Ending::Lawful,
@@ -39,7 +39,7 @@ fn check_source<S: Source>(alloc: Global, source: &mut S) -> Ending
     ensures later { S.faults source.old ≤ S.faults source.new }
 {
     match read_all(alloc, source) {
-        Ok(bytes) => judge(alloc, bytes.as_slice()),
+        Ok(bytes) => judge(alloc, bytes),
         Err(ReadStop::TooLong) => unlawful(alloc, 0),
         Err(ReadStop::Fault) => Ending::ReadFault,
         Err(ReadStop::Memory) => Ending::Memory,

@@ -7,9 +7,9 @@ ghost use Rattle.report_law.specs.Tops.{AreTops};
 ghost use Rattle.standing_rules.specs.Sessions.{AreBehind, IsAdded, IsBehind, Lived, with_line};
 
 use crate::pending::{Unfinished, pending_after, unfinished_behind};
+use id_sets::IdSet;
 use line_stances::Standing;
 use std::alloc::Global;
-use std::collections::BTreeSet;
 use tx_events::{FullXid, Memory, Refusal};
 use tx_model::Line;
 
@@ -37,17 +37,17 @@ pub fn new_sessions(alloc: Global, count: u32) -> Result<Vec<Session>, Memory>
     Ok(all)
 }
 
-fn is_recorded(tops: &BTreeSet<u64>, top: Option<FullXid>) -> bool
+fn is_recorded(tops: &IdSet, top: Option<FullXid>) -> bool
     ensures { (recs : List Rec) → AreTops recs tops.now → result ≡ is_recorded recs top }
 {
     match top {
-        Some(top) => tops.contains(&top.number()),
+        Some(top) => tops.contains(top.number()),
         None => false,
     }
 }
 
 /// Whether a commit record stands of the transaction that is open, whose records are of these tops.
-fn is_open_recorded(tops: &BTreeSet<u64>, standing: &Standing) -> bool
+fn is_open_recorded(tops: &IdSet, standing: &Standing) -> bool
     ensures { (recs : List Rec) → AreTops recs tops.now → result ≡ is_recorded recs (top_level standing.now.levels) }
 {
     is_recorded(tops, standing.levels.top())
@@ -56,7 +56,7 @@ fn is_open_recorded(tops: &BTreeSet<u64>, standing: &Standing) -> bool
 /// A session's line more, whose command gave these ids, and a multixact or none.
 fn add_to(
     session: &mut Session,
-    tops: &BTreeSet<u64>,
+    tops: &IdSet,
     line: &Line,
     ids: &[FullXid],
     gave: bool,
@@ -73,7 +73,7 @@ fn add_to(
 /// want of memory nothing is known of the line's session.
 pub fn add_line(
     sessions: &mut Vec<Session>,
-    tops: &BTreeSet<u64>,
+    tops: &IdSet,
     line: &Line,
     ids: &[FullXid],
     gave: bool,

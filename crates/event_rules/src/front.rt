@@ -10,12 +10,11 @@ ghost use Rattle.tx_events.specs.Base.{IsBase};
 ghost use Rattle.tx_events.specs.Events.{by_of};
 ghost use Rattle.tx_events.specs.History.{ComesInTurn, IsLegal, MayCome};
 ghost use Rattle.history_places.specs.SnapMarks.{AreSnapMarks, IsSnapMark};
-ghost use Rattle.place_rules.specs.Opens.{AreOpenCounts};
+ghost use Rattle.history_places.specs.Opens.{AreOpenCounts};
 ghost use Rattle.event_rules.specs.Fronts.{AreTold, IsFront, list_at};
 
-use history_places::{HistoryPlaces, SnapMark, snap_mark};
+use history_places::{HistoryPlaces, SnapMark, open_now, snap_mark};
 use place_columns::OwnEvents;
-use place_rules::open_now;
 use std::alloc::Global;
 use tx_events::{Counters, Event, Memory, SnapData};
 

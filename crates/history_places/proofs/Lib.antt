@@ -12,3 +12,4 @@ pub mod StartFound
 pub mod Beginning
 pub mod MultiRising
 pub mod Along
+pub mod Growing

@@ -3,3 +3,4 @@ pub mod IdMarks
 pub mod SnapMarks
 pub mod Starts
 pub mod MultiTold
+pub mod Opens

@@ -4,6 +4,7 @@
 mod ids;
 mod mark;
 mod multis;
+mod opens;
 mod places;
 mod snaps;
 mod start;
@@ -12,6 +13,7 @@ mod visible;
 pub use ids::{id_marks, was_running};
 pub use mark::IdMark;
 pub use multis::MultiPlaces;
+pub use opens::open_now;
 pub use places::HistoryPlaces;
 pub use snaps::{SnapMark, snap_mark};
 pub use start::{Start, is_start};

@@ -19,7 +19,7 @@ ghost use Rattle.event_rules.specs.Fronts.{IsFront, IsMultiFront};
 ghost use Rattle.multi_rules.specs.Gens.{is_ok_gen};
 ghost use Rattle.history_places.specs.Starts.{FitsBase};
 ghost use Rattle.multi_rules.specs.Snapped.{AreTakenByLines, LifeEvents};
-ghost use Rattle.place_rules.specs.Opens.{AreOpenCounts};
+ghost use Rattle.history_places.specs.Opens.{AreOpenCounts};
 ghost use Rattle.place_columns.specs.Lined.{AreInOrder, bys_of, lines_from, numbered};
 ghost use Rattle.place_columns.specs.declared.own.Own.{Own};
 ghost use Rattle.place_columns.specs.Owned.{AreAllOwn, AreInTurn};

@@ -13,7 +13,7 @@ use Rattle.tx_events.proofs.GivenIds.{legal_take}
 use Rattle.tx_events.proofs.Membership.{filter_none_on}
 use Rattle.place_columns.specs.Owned.{IsReadFrom}
 use Rattle.report_law.specs.Answers.{own_before}
-use Rattle.place_rules.specs.Opens.{AreOpenCounts}
+use Rattle.history_places.specs.Opens.{AreOpenCounts}
 use Rattle.place_rules.proofs.Apart.{own_open}
 use Rattle.place_rules.proofs.Earlier.{before_place, last_earlier, length_mapped, mapped}
 

@@ -13,6 +13,7 @@ use Rattle.tx_events.specs.History.{IsLegal}
 use Rattle.tx_events.proofs.Membership.{Has, all_at, filter_agree_on, filter_none_on, has_contains}
 use Rattle.place_columns.specs.Owned.{AreInTurn, AreLater, IsReadFrom}
 use Rattle.report_law.specs.Answers.{own_before}
+use Rattle.history_places.proofs.Growing.{has_there}
 use Rattle.place_rules.proofs.Apart.{own}
 
 -- ---- lists
@@ -43,11 +44,6 @@ module _ {A : Type 0} where
       (λ (e : y ≡ x). (0, omega arith, ap Some e))
       (λ t. let p = place_of r xs x t in (suc p.0, omega (arith, p.1), p.2))
       h
-
-  pub has_there : (xs : List A) (k : ℕ) (x : A) → slice_get xs k ≡ Some x → Has xs x
-  has_there [] k x e = absurd cc
-  has_there (y ∷ xs) zero x e = inl cc
-  has_there (y ∷ xs) (suc k) x e = inr (has_there xs k x e)
 
   pub shorter : (to r : ℕ) (xs : List A) → r ≤ to → take r (take to xs) ≡ take r xs
   shorter to zero xs l = refl

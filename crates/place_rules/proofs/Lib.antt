@@ -10,4 +10,3 @@ pub mod SeenRules
 pub mod Apart
 pub mod Earlier
 pub mod Counting
-pub mod Growing

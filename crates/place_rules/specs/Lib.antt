@@ -1,4 +1,3 @@
 pub mod Readings
 pub mod Runs
 pub mod Members
-pub mod Opens

@@ -18,7 +18,7 @@ mod visible;
 pub use asked::{is_future_at, is_status_at, is_warned};
 pub use did::{is_did_at, is_did_too_old};
 pub use members::{is_not_given, is_old_member};
-pub use open::{open_before, open_now};
+pub use open::open_before;
 pub use reading::{Reading, reading_of};
 pub use rules::{is_backward_at, is_horizon_at, is_stopped_at, is_too_new_at, may_carry};
 pub use snapshots::{is_seen, is_snapped, is_too_old_for};

@@ -19,7 +19,7 @@ use Rattle.report_law.specs.Steps.{lines_of}
 use Rattle.place_columns.proofs.Numbering.{number_is}
 use Rattle.event_rules.proofs.Standing.{at_number, in_order, within}
 use Rattle.event_rules.proofs.Judging.{few_steps}
-use Rattle.place_rules.proofs.Earlier.{has_there}
+use Rattle.history_places.proofs.Growing.{has_there}
 use Rattle.reply_lines.specs.At.{AtLine, IsAsking, IsRoundAt, StandsThere, lines_at, multi_span_at, rounds_at, span_at}
 use Rattle.event_rules.specs.SnapsTold.{told_by, told_in, told_lists}
 use Rattle.reply_lines.specs.Known.{IsKnown}

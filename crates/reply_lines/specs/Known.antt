@@ -18,7 +18,7 @@ use Rattle.place_columns.specs.Counted.{AreCounts}
 use Rattle.history_places.specs.Starts.{start_of}
 use Rattle.place_columns.specs.Lined.{bys_of, line_by, lines_from}
 use Rattle.place_columns.specs.Owned.{AreAllOwn, AreInTurn}
-use Rattle.place_rules.specs.Opens.{AreOpenCounts}
+use Rattle.history_places.specs.Opens.{AreOpenCounts}
 use Rattle.reply_rules.specs.Ends.{IsLogEnd}
 use Rattle.reply_rules.specs.Logs.{AreLogs}
 use Rattle.report_law.specs.Begun.{Begun}

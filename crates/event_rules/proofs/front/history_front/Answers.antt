@@ -14,9 +14,8 @@ use Rattle.tx_events.proofs.Membership.{has_contains}
 use Rattle.history_check.specs.Replays.{IsLawfulNext, Replayed}
 use Rattle.history_places.specs.declared.snaps.SnapMark.{SnapMark}
 use Rattle.history_places.specs.SnapMarks.{AreSnapMarks, IsSnapMark}
-use Rattle.place_rules.specs.Opens.{AreOpenCounts}
-use Rattle.place_rules.proofs.Earlier.{has_there}
-use Rattle.place_rules.proofs.Growing.{counted_push, none_counted}
+use Rattle.history_places.specs.Opens.{AreOpenCounts}
+use Rattle.history_places.proofs.Growing.{counted_push, has_there, none_counted}
 use Rattle.event_rules.specs.Fronts.{IsFront, list_at}
 use Rattle.event_rules.proofs.Fronting.{front_here, front_whole, marks_none, marks_push}
 use Rattle.event_rules.proofs.front.history_front.Goals as goal

@@ -2,7 +2,7 @@ use Rattle.std.proofs.Common.{◌≡◌, List, Option, length, take}
 use Rattle.tx_events.specs.declared.event.By.{By}
 use Rattle.tx_events.specs.declared.snapshot.SnapData.{SnapData}
 use Rattle.history_places.specs.SnapMarks.{AreSnapMarks}
-use Rattle.place_rules.specs.Opens.{AreOpenCounts}
+use Rattle.history_places.specs.Opens.{AreOpenCounts}
 use Rattle.event_rules.specs.Fronts.{AreTold}
 use Rattle.event_rules.proofs.front.history_front.Given as goal
 

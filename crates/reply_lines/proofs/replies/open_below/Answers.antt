@@ -8,7 +8,7 @@ use Rattle.history_check.specs.Replays.{Replayed}
 use Rattle.place_columns.specs.Owned.{own_of}
 use Rattle.report_law.specs.Answers.{own_before}
 use Rattle.report_law.proofs.Fronts.{taken}
-use Rattle.place_rules.specs.Opens.{AreOpenCounts}
+use Rattle.history_places.specs.Opens.{AreOpenCounts}
 use Rattle.reply_lines.specs.declared.known.Known.{Known}
 use Rattle.reply_lines.proofs.Askings.{its_list}
 use Rattle.reply_lines.proofs.replies.open_below.Goals as goal

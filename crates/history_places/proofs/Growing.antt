@@ -4,7 +4,8 @@ use Rattle.std.specs.List.{slice_get}
 use Rattle.tx_events.specs.declared.event.Event.{Event}
 use Rattle.tx_events.specs.Events.{by_of}
 use Rattle.tx_events.specs.Running.{open_ids}
-use Rattle.place_rules.specs.Opens.{AreOpenCounts}
+use Rattle.tx_events.proofs.Membership.{Has}
+use Rattle.history_places.specs.Opens.{AreOpenCounts}
 
 module _ {A : Type 0} where
   push_cases : (xs : List A) (x : A) (p : ℕ) (y : A) → slice_get (xs ++ x ∷ []) p ≡ Some y → ((p < length xs) × (slice_get xs p ≡ Some y)) ⊎ ((p ≡ length xs) × (x ≡ y))
@@ -50,3 +51,9 @@ counted_push h e counts n a is = record {
 
 pub none_counted : AreOpenCounts [] []
 none_counted = record { size = refl; each = λ p f m at its. absurd cc }
+
+-- what stands at a place is there
+pub has_there : {A : Type 0} (xs : List A) (k : ℕ) (x : A) → slice_get xs k ≡ Some x → Has xs x
+has_there [] k x e = absurd cc
+has_there (y ∷ xs) zero x e = inl cc
+has_there (y ∷ xs) (suc k) x e = inr (has_there xs k x e)

@@ -1,0 +1,32 @@
+//! How many ids sessions have open as a history goes on.
+ghost use Rattle.std.specs.Prelude.{◌≡◌, ◌<◌, length};
+ghost use Rattle.tx_events.specs.Events.{by_of};
+ghost use Rattle.tx_events.specs.Running.{open_ids};
+
+use history_check::HistoryReplay;
+use tx_events::Event;
+
+/// The session of the event.
+fn session_of(event: &Event) -> u32
+    ensures { result ≡ (by_of event.now).session }
+{
+    match event {
+        Event::Id { by, .. } => by.session,
+        Event::Sub { by, .. } => by.session,
+        Event::Undo { by, .. } => by.session,
+        Event::Commit { by, .. } => by.session,
+        Event::Abort { by, .. } => by.session,
+        Event::Snap { by, .. } => by.session,
+        Event::SnapDrop { by, .. } => by.session,
+        Event::Oldest { by, .. } => by.session,
+        Event::Ask { by, .. } => by.session,
+    }
+}
+
+/// How many ids the event's session has open now.
+pub fn open_now(replay: &HistoryReplay, event: &Event) -> u64
+    requires { (by_of event.now).session < replay.now.sessions }
+    ensures { result ≡ length (open_ids (by_of event.now).session replay.now.events) }
+{
+    replay.open_ids(session_of(event)).len() as u64
+}

@@ -33,12 +33,12 @@ loop-number-preserved g c =
     let known : n < length c.args.sessions.now = All-get_or (λ j. j < length c.args.sessions.now) c.args.numbers.now k 0 c.loop-number-test.true c.requires.known in
     let here : r ≡ get_or ss n r = c.replace-session.ensures.value ∙ ap (λ (d : Session). get_or ss n d) (c.index-sessions-number.is ∙ sym c.replace-session.ensures.value) in
     let a = c.admit.ensures in
-    let m : Member _ _ _ _ _ = record { caller = c.admit.result; kept = c.none.result; lines = c.none-2.result; lost = false } in
+    let m : Member _ _ _ _ _ = record { caller = c.admit.result; kept = c.none.result; lines = c.none-in-loop-number.result; lost = false } in
     record {
       are_in = subst (AreIn g.K.LineKeeper h c.args.host.now c.args.sessions.now c.args.numbers.now (k + 1) c.admit.new.host _) (sym c.push_reserved.ensures.items)
           (one_more_in g.K.LineKeeper h c.args.host.now c.args.sessions.now c.args.numbers.now k c.loop-number.host c.admit.new.host ss _ c.loop-number.members.items
           c.replace-session.new.dest r m c.requires.apart c.loop-number-test.true known i refl a.host a.cluster a.seen a.names a.stay
-          a.number (a.session ∙ here) a.told a.caller c.none.ensures c.none-2.ensures);
+          a.number (a.session ∙ here) a.told a.caller c.none.ensures c.none-in-loop-number.ensures);
       room = (let w = c.loop-number.invariant.room in let e = c.push_reserved.ensures.capacity in omega (arith, w, e));
     }
 

@@ -74,9 +74,9 @@ with_counts : (tells : Bool) (s : Script) (text : List ℕ) (banks : ℕ) (start
     → (counts : IsSummaryOf tells s text) × (counts.banks ≡ banks) × (counts.start ≡ start) × (counts.report.lives ≡ lives)
     → F banks start lives → (counts : IsSummaryOf tells s text) × F counts.banks counts.start counts.report.lives
 with_counts tells s text banks start lives F k f = (
-      k.0,
-      subst (λ (n : ℕ). F n k.0.start k.0.report.lives) (sym k.1) (subst (λ (z : RunStart). F banks z k.0.report.lives) (sym k.2) (subst (λ (z : List LifeReport). F banks start z) (sym k.3) f)),
-    )
+  k.0,
+  subst (λ (n : ℕ). F n k.0.start k.0.report.lives) (sym k.1) (subst (λ (z : RunStart). F banks z k.0.report.lives) (sym k.2) (subst (λ (z : List LifeReport). F banks start z) (sym k.3) f)),
+)
 
 pub returns-in-Ok-text-clause-counts : goal.returns-in-Ok-text-clause-counts
 returns-in-Ok-text-clause-counts g c =

@@ -4,3 +4,4 @@ pub mod Records
 pub mod ReadLemmas
 pub mod Lengths
 pub mod LawfulTests
+pub mod Kept

@@ -7,7 +7,7 @@ ghost use Rattle.engine_host.specs.Stores.{HaveEach};
 ghost use Rattle.engine_parts.specs.declared.session.Session.{Session};
 
 use disk_core::{Media, MemLog, MemMedia, MemPages, Volumes};
-use engine_host::{BankVolumes, Cluster, Host, Parts, close, make_table, open_new};
+use engine_host::{BankVolumes, Cluster, Host, LifeRooms, Parts, close, make_table, open_new};
 use engine_parts::{EngineLaw, Part};
 use hall::Hall;
 use replay_core::{FoundLog, find_log};
@@ -91,7 +91,7 @@ fn open_parts(
     ensures parked { IfSome result (λ r. (n : ℕ) (s : Session) → n < r.1.cluster.sessions → IsNewSession s
         → IsParked r.0 r.1 n s) }
 {
-    match open_new(alloc, log, volumes, cluster) {
+    match open_new(alloc, &mut LifeRooms::new(alloc), log, volumes, cluster) {
         Ok(parts) => table_of(alloc, parts),
         Err(_) => None,
     }

@@ -14,7 +14,7 @@ ghost use Rattle.engine_host.specs.Opening.{Beginning, IsNewMembers, IsNewOffset
 use crate::cluster::Cluster;
 use crate::refusal::OpenRefusal;
 use disk_core::PageDisk;
-use slru_bank::{BankRefusal, SlruBank};
+use slru_bank::{BankRefusal, BankRooms, SlruBank};
 use std::alloc::Global;
 use store_pages::{
     MemberPages, OFFSETS_PER_PAGE, OffsetPages, PageRule, SubtransPages, XactPages,
@@ -52,6 +52,7 @@ fn empty<P: PageDisk, O: PageRule>(
 // first.
 fn open_bank<P: PageDisk + Drop, O: PageRule>(
     alloc: Global,
+    rooms: &mut BankRooms,
     disk: P,
     last: u32,
     cutoff: u32,
@@ -67,7 +68,7 @@ fn open_bank<P: PageDisk + Drop, O: PageRule>(
     ensures same_err { removes ≡ false → IfErr result (λ e. e.0 ≡ disk) }
     ensures refused { IfErr result (λ e. (e.1 ≡ refusals.Memory) ⊎ ((e.1 ≡ refusals.DiskFault lock) × HasRisen (P.faults disk) (P.faults e.0))) }
 {
-    let mut store = match SlruBank::<P, O>::new(alloc, disk, last, cutoff) {
+    let mut store = match rooms.bank::<P, O>(disk, last, cutoff) {
         Ok(store) => store,
         Err((disk, _)) => return Err((disk, OpenRefusal::Memory)),
     };
@@ -83,6 +84,7 @@ fn open_bank<P: PageDisk + Drop, O: PageRule>(
 // A bank of pg_xact. The page of the next id counts as made.
 pub(crate) fn open_xact<P: PageDisk + Drop>(
     alloc: Global,
+    rooms: &mut BankRooms,
     disk: P,
     cluster: &Cluster,
     bank: u32,
@@ -102,12 +104,13 @@ pub(crate) fn open_xact<P: PageDisk + Drop>(
 {
     let last = xact_page(cluster.base.next.low());
     let cutoff = xact_page(cluster.base.oldest.low());
-    open_bank(alloc, disk, last, cutoff, Lock::Xact(bank), removes)
+    open_bank(alloc, rooms, disk, last, cutoff, Lock::Xact(bank), removes)
 }
 
 // So a bank of pg_subtrans.
 pub(crate) fn open_subtrans<P: PageDisk + Drop>(
     alloc: Global,
+    rooms: &mut BankRooms,
     disk: P,
     cluster: &Cluster,
     bank: u32,
@@ -127,7 +130,15 @@ pub(crate) fn open_subtrans<P: PageDisk + Drop>(
 {
     let last = subtrans_page(cluster.base.next.low());
     let cutoff = subtrans_page(cluster.base.next.retreat().low());
-    open_bank(alloc, disk, last, cutoff, Lock::Subtrans(bank), removes)
+    open_bank(
+        alloc,
+        rooms,
+        disk,
+        last,
+        cutoff,
+        Lock::Subtrans(bank),
+        removes,
+    )
 }
 
 // The page as it is stored from which on offsets are kept: that of the multixact before the oldest one.
@@ -146,6 +157,7 @@ fn first_offset_page(oldest: FullMulti) -> u32
 // A bank of the offsets of multixacts. The page of the next one counts as made.
 pub(crate) fn open_offsets<P: PageDisk + Drop>(
     alloc: Global,
+    rooms: &mut BankRooms,
     disk: P,
     cluster: &Cluster,
     bank: u32,
@@ -164,12 +176,21 @@ pub(crate) fn open_offsets<P: PageDisk + Drop>(
 {
     let last = (offset_page_in_full(cluster.base.multi) % OFFSET_PAGES) as u32;
     let cutoff = first_offset_page(cluster.base.oldest_multi);
-    open_bank(alloc, disk, last, cutoff, Lock::Offsets(bank), removes)
+    open_bank(
+        alloc,
+        rooms,
+        disk,
+        last,
+        cutoff,
+        Lock::Offsets(bank),
+        removes,
+    )
 }
 
 // And one of their members.
 pub(crate) fn open_members<P: PageDisk + Drop>(
     alloc: Global,
+    rooms: &mut BankRooms,
     disk: P,
     cluster: &Cluster,
     bank: u32,
@@ -188,5 +209,13 @@ pub(crate) fn open_members<P: PageDisk + Drop>(
 {
     let last = (member_page_in_full(cluster.base.offset) % MEMBER_PAGES) as u32;
     let cutoff = (member_page_in_full(cluster.base.oldest_offset) % MEMBER_PAGES) as u32;
-    open_bank(alloc, disk, last, cutoff, Lock::Members(bank), removes)
+    open_bank(
+        alloc,
+        rooms,
+        disk,
+        last,
+        cutoff,
+        Lock::Members(bank),
+        removes,
+    )
 }

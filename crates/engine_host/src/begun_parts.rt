@@ -8,6 +8,7 @@ ghost use Rattle.engine_host.specs.Stores.{HaveEach, Store, banks_of, volumes_in
 
 use crate::building::{add_banks, first_locks, gather, taken_apart, with_log};
 use crate::cluster::{BankVolumes, Cluster, Parts};
+use crate::rooms::LifeRooms;
 use disk_core::{LogDisk, PageDisk, Volumes};
 use std::alloc::Global;
 use wal_core::WalLog;
@@ -19,6 +20,7 @@ use wal_core::WalLog;
 /// Only memory may be wanting. Then the volumes come back as they were.
 pub fn open_begun<L: LogDisk + Drop, P: PageDisk + Drop>(
     alloc: Global,
+    rooms: &mut LifeRooms<P>,
     log: WalLog<L>,
     volumes: BankVolumes<P>,
     cluster: Cluster,
@@ -44,8 +46,16 @@ pub fn open_begun<L: LogDisk + Drop, P: PageDisk + Drop>(
         Ok(locks) => locks,
         Err(_) => return Err(with_log(Box::into_inner(log).into_disk(), volumes)),
     };
-    if let Err(_) = add_banks(alloc, &mut locks, &mut volumes, &cluster, false) {
-        return Err(taken_apart(log, locks, volumes));
+    if let Err(_) = add_banks(
+        alloc,
+        &mut rooms.banks,
+        &mut locks,
+        &mut volumes,
+        &cluster,
+        false,
+    ) {
+        return Err(taken_apart(&mut rooms.banks, log, locks, volumes));
     }
+    rooms.keep_vectors(volumes);
     Ok(gather(cluster, log, locks))
 }

@@ -17,6 +17,7 @@ use engine_parts::Part;
 use multi_store::MultiGen;
 use notes::Note;
 use proc_table::ProcTable;
+use slru_bank::BankRooms;
 use std::alloc::Global;
 use tx_core::Start;
 use wal_core::WalLog;
@@ -55,6 +56,7 @@ pub(crate) fn first_locks<L: LogDisk, P: PageDisk>(
 // error these are back in their place.
 fn add_bank<L: LogDisk, P: PageDisk + Drop>(
     alloc: Global,
+    rooms: &mut BankRooms,
     locks: &mut Vec<Part<L, P>>,
     volumes: &mut BankVolumes<P>,
     cluster: &Cluster,
@@ -86,6 +88,7 @@ fn add_bank<L: LogDisk, P: PageDisk + Drop>(
 {
     let (states, parents) = match open_states(
         alloc,
+        rooms,
         &mut volumes.xact,
         &mut volumes.subtrans,
         cluster,
@@ -97,6 +100,7 @@ fn add_bank<L: LogDisk, P: PageDisk + Drop>(
     };
     match open_multis(
         alloc,
+        rooms,
         &mut volumes.offsets,
         &mut volumes.members,
         cluster,
@@ -122,6 +126,7 @@ fn add_bank<L: LogDisk, P: PageDisk + Drop>(
 // added are left.
 pub(crate) fn add_banks<L: LogDisk, P: PageDisk + Drop>(
     alloc: Global,
+    rooms: &mut BankRooms,
     locks: &mut Vec<Part<L, P>>,
     volumes: &mut BankVolumes<P>,
     cluster: &Cluster,
@@ -147,13 +152,14 @@ pub(crate) fn add_banks<L: LogDisk, P: PageDisk + Drop>(
         × IsBankRefusal P.PageDisk bank (λ k. drop bank (volumes_in k volumes.old).items) (λ k. (volumes_in k volumes.new).items) refusal) }
 {
     for bank in 0..cluster.banks {
-        add_bank(alloc, locks, volumes, cluster, bank, removes)?;
+        add_bank(alloc, rooms, locks, volumes, cluster, bank, removes)?;
     }
     Ok(())
 }
 
 // The volumes of an engine that wasn't opened.
 pub(crate) fn taken_apart<L: LogDisk + Drop, P: PageDisk + Drop>(
+    rooms: &mut BankRooms,
     log: Box<WalLog<L>>,
     locks: Vec<Part<L, P>>,
     volumes: BankVolumes<P>,
@@ -164,7 +170,7 @@ pub(crate) fn taken_apart<L: LogDisk + Drop, P: PageDisk + Drop>(
 {
     with_log(
         Box::into_inner(log).into_disk(),
-        bank_volumes(locks, volumes),
+        bank_volumes(rooms, locks, volumes),
     )
 }
 

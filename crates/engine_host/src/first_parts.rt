@@ -10,6 +10,7 @@ use crate::building::{add_banks, first_locks, gather, taken_apart, with_log};
 use crate::cluster::{BankVolumes, Cluster, Parts};
 use crate::first_log::begin_log;
 use crate::refusal::OpenRefusal;
+use crate::rooms::LifeRooms;
 use disk_core::{LogDisk, PageDisk, Volumes};
 use std::alloc::Global;
 use wal_core::WalLog;
@@ -24,6 +25,7 @@ use wal_core::WalLog;
 /// and the checkpoint written.
 pub fn open_new<L: LogDisk + Drop, P: PageDisk + Drop>(
     alloc: Global,
+    rooms: &mut LifeRooms<P>,
     log: WalLog<L>,
     volumes: BankVolumes<P>,
     cluster: Cluster,
@@ -49,12 +51,20 @@ pub fn open_new<L: LogDisk + Drop, P: PageDisk + Drop>(
         Ok(locks) => locks,
         Err(refusal) => return Err((with_log(Box::into_inner(log).into_disk(), volumes), refusal)),
     };
-    if let Err(refusal) = add_banks(alloc, &mut locks, &mut volumes, &cluster, true) {
-        return Err((taken_apart(log, locks, volumes), refusal));
+    if let Err(refusal) = add_banks(
+        alloc,
+        &mut rooms.banks,
+        &mut locks,
+        &mut volumes,
+        &cluster,
+        true,
+    ) {
+        return Err((taken_apart(&mut rooms.banks, log, locks, volumes), refusal));
     }
     let fresh = &mut *log;
     if let Err(refusal) = begin_log(fresh, &cluster) {
-        return Err((taken_apart(log, locks, volumes), refusal));
+        return Err((taken_apart(&mut rooms.banks, log, locks, volumes), refusal));
     }
+    rooms.keep_vectors(volumes);
     Ok(gather(cluster, log, locks))
 }

@@ -11,6 +11,7 @@ mod first_parts;
 mod host;
 mod pairs;
 mod refusal;
+mod rooms;
 mod volumes;
 
 pub use begun_parts::open_begun;
@@ -18,4 +19,5 @@ pub use cluster::{BankVolumes, Cluster, Parts};
 pub use first_parts::open_new;
 pub use host::{Host, admit, close, dismiss, make_table, new_session};
 pub use refusal::OpenRefusal;
+pub use rooms::LifeRooms;
 pub use volumes::{TakenApart, take_apart};

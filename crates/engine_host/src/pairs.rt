@@ -10,13 +10,14 @@ use crate::cluster::Cluster;
 use crate::refusal::OpenRefusal;
 use crate::volumes::put_back;
 use disk_core::PageDisk;
-use slru_bank::SlruBank;
+use slru_bank::{BankRooms, SlruBank};
 use std::alloc::Global;
 use store_pages::{MemberPages, OffsetPages, SubtransPages, XactPages};
 
 // Those of pg_xact and of pg_subtrans, over the first volumes that are left. After an error these are back in their place.
 pub(crate) fn open_states<P: PageDisk + Drop>(
     alloc: Global,
+    rooms: &mut BankRooms,
     xact: &mut Vec<P>,
     subtrans: &mut Vec<P>,
     cluster: &Cluster,
@@ -39,14 +40,14 @@ pub(crate) fn open_states<P: PageDisk + Drop>(
     ensures refused { IfErr result (λ refusal. IsFailed P.PageDisk (locks.Xact bank) xact.old.items xact.new.items refusal
         ⊎ IsFailed P.PageDisk (locks.Subtrans bank) subtrans.old.items subtrans.new.items refusal) }
 {
-    let states = match open_xact(alloc, xact.remove(0), cluster, bank, removes) {
+    let states = match open_xact(alloc, rooms, xact.remove(0), cluster, bank, removes) {
         Ok(store) => store,
         Err((disk, refusal)) => {
             put_back(xact, disk);
             return Err(refusal);
         }
     };
-    match open_subtrans(alloc, subtrans.remove(0), cluster, bank, removes) {
+    match open_subtrans(alloc, rooms, subtrans.remove(0), cluster, bank, removes) {
         Ok(parents) => Ok((states, parents)),
         Err((disk, refusal)) => {
             put_back(subtrans, disk);
@@ -59,6 +60,7 @@ pub(crate) fn open_states<P: PageDisk + Drop>(
 // And those of the offsets and of the members.
 pub(crate) fn open_multis<P: PageDisk + Drop>(
     alloc: Global,
+    rooms: &mut BankRooms,
     offsets: &mut Vec<P>,
     members: &mut Vec<P>,
     cluster: &Cluster,
@@ -80,14 +82,14 @@ pub(crate) fn open_multis<P: PageDisk + Drop>(
     ensures refused { IfErr result (λ refusal. IsFailed P.PageDisk (locks.Offsets bank) offsets.old.items offsets.new.items refusal
         ⊎ IsFailed P.PageDisk (locks.Members bank) members.old.items members.new.items refusal) }
 {
-    let first = match open_offsets(alloc, offsets.remove(0), cluster, bank, removes) {
+    let first = match open_offsets(alloc, rooms, offsets.remove(0), cluster, bank, removes) {
         Ok(store) => store,
         Err((disk, refusal)) => {
             put_back(offsets, disk);
             return Err(refusal);
         }
     };
-    match open_members(alloc, members.remove(0), cluster, bank, removes) {
+    match open_members(alloc, rooms, members.remove(0), cluster, bank, removes) {
         Ok(second) => Ok((first, second)),
         Err((disk, refusal)) => {
             put_back(members, disk);

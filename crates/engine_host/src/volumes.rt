@@ -5,10 +5,12 @@ ghost use Rattle.engine_host.specs.Refused.{AreInPlace};
 ghost use Rattle.engine_host.specs.Stores.{Store, disks_in, volumes_in};
 
 use crate::cluster::BankVolumes;
+use crate::rooms::LifeRooms;
 use disk_core::{LogDisk, PageDisk};
 use engine_parts::Part;
 use multi_store::MultiGen;
 use proc_table::ProcTable;
+use slru_bank::BankRooms;
 use wal_core::WalLog;
 
 /// The parts of an engine, taken apart: its log, its ProcArray, its generator of multixacts, and the volumes of its banks,
@@ -32,6 +34,7 @@ pub(crate) fn put_back<P: PageDisk + Drop>(volumes: &mut Vec<P>, disk: P)
 
 // Takes parts apart, and puts the volumes of their banks, in their order, before these. The volume of a log is dropped.
 pub(crate) fn bank_volumes<L: LogDisk + Drop, P: PageDisk + Drop>(
+    rooms: &mut BankRooms,
     locks: Vec<Part<L, P>>,
     volumes: BankVolumes<P>,
 ) -> BankVolumes<P>
@@ -42,15 +45,15 @@ pub(crate) fn bank_volumes<L: LogDisk + Drop, P: PageDisk + Drop>(
     let mut locks = locks;
     while let Some(part) = locks.pop() {
         match part {
-            Part::Xact(store) => put_back(&mut volumes.xact, Box::into_inner(store).into_disk()),
+            Part::Xact(store) => put_back(&mut volumes.xact, rooms.keep(Box::into_inner(store))),
             Part::Subtrans(store) => {
-                put_back(&mut volumes.subtrans, Box::into_inner(store).into_disk())
+                put_back(&mut volumes.subtrans, rooms.keep(Box::into_inner(store)))
             }
             Part::Offsets(store) => {
-                put_back(&mut volumes.offsets, Box::into_inner(store).into_disk())
+                put_back(&mut volumes.offsets, rooms.keep(Box::into_inner(store)))
             }
             Part::Members(store) => {
-                put_back(&mut volumes.members, Box::into_inner(store).into_disk())
+                put_back(&mut volumes.members, rooms.keep(Box::into_inner(store)))
             }
             Part::Log(_log) => {}
             Part::Proc(_table) => {}
@@ -64,6 +67,7 @@ pub(crate) fn bank_volumes<L: LogDisk + Drop, P: PageDisk + Drop>(
 /// Takes the parts apart that lie behind an engine's locks, in the order of these. What isn't on the volumes yet is lost.
 /// The vectors of volumes are empty, and have room for as many as there are locks.
 pub fn take_apart<L: LogDisk + Drop, P: PageDisk + Drop>(
+    rooms: &mut LifeRooms<P>,
     locks: Vec<Part<L, P>>,
     room: BankVolumes<P>,
 ) -> TakenApart<L, P>
@@ -89,7 +93,7 @@ pub fn take_apart<L: LogDisk + Drop, P: PageDisk + Drop>(
     let Part::Multi(multis) = third else {
         unreachable!()
     };
-    let volumes = bank_volumes(locks, room);
+    let volumes = bank_volumes(&mut rooms.banks, locks, room);
     TakenApart {
         log,
         table,

@@ -9,7 +9,7 @@ ghost use Rattle.engine_life.specs.declared.refusal.NoLife.TheVariants as no_liv
 use crate::life::{Aside, OpenLife};
 use crate::refusal::NoLife;
 use disk_core::{LogDisk, PageDisk, Volumes};
-use engine_host::{BankVolumes, Parts, TakenApart, make_table, take_apart};
+use engine_host::{BankVolumes, LifeRooms, Parts, TakenApart, make_table, take_apart};
 use std::alloc::{AllocError, Global};
 use tx_events::Counters;
 
@@ -18,6 +18,7 @@ const MOST_LOCKS: usize = 67;
 
 // The volumes of parts that are taken apart.
 fn volumes_of<L: LogDisk + Drop, P: PageDisk + Drop>(
+    rooms: &mut LifeRooms<P>,
     parts: Parts<L, P>,
     aside: Aside<P>,
 ) -> Volumes<L, P>
@@ -34,7 +35,7 @@ fn volumes_of<L: LogDisk + Drop, P: PageDisk + Drop>(
         table: _,
         multis: _,
         volumes,
-    } = take_apart(locks, room);
+    } = take_apart(rooms, locks, room);
     with_log(Box::into_inner(log).into_disk(), volumes)
 }
 
@@ -61,6 +62,7 @@ pub(crate) fn with_log<L, P>(log: L, volumes: BankVolumes<P>) -> Volumes<L, P>
 // Makes the lock table over parts that were made.
 pub(crate) fn begin_life<L: LogDisk + Drop, P: PageDisk + Drop>(
     alloc: Global,
+    rooms: &mut LifeRooms<P>,
     parts: Parts<L, P>,
     aside: Aside<P>,
 ) -> Result<OpenLife<L, P>, (Volumes<L, P>, NoLife)>
@@ -70,7 +72,7 @@ pub(crate) fn begin_life<L: LogDisk + Drop, P: PageDisk + Drop>(
 {
     match make_table(alloc, parts) {
         Ok((hall, host)) => Ok(OpenLife { hall, host, aside }),
-        Err(parts) => Err((volumes_of(parts, aside), NoLife::Memory)),
+        Err(parts) => Err((volumes_of(rooms, parts, aside), NoLife::Memory)),
     }
 }
 
@@ -82,12 +84,27 @@ fn new_room<P>(alloc: Global) -> Result<Vec<P>, AllocError>
     Vec::with_capacity(alloc, MOST_LOCKS)
 }
 
+// The same in a vector that an earlier life left, if it has the room.
+fn room_in<P: Drop>(alloc: Global, left: Vec<P>) -> Result<Vec<P>, AllocError>
+    ensures empty { IfOk result (λ room. room.items ≡ []) }
+    ensures room { IfOk result (λ room. 67 ≤ vec_capacity room) }
+{
+    if left.is_empty() && left.capacity() >= MOST_LOCKS {
+        return Ok(left);
+    }
+    new_room(alloc)
+}
+
 // Room for those of each store.
-pub(crate) fn new_aside<P: Drop>(alloc: Global) -> Result<Aside<P>, AllocError> {
-    let xact = new_room(alloc)?;
-    let subtrans = new_room(alloc)?;
-    let offsets = new_room(alloc)?;
-    let members = new_room(alloc)?;
+pub(crate) fn new_aside<P: Drop>(
+    alloc: Global,
+    rooms: &mut LifeRooms<P>,
+) -> Result<Aside<P>, AllocError> {
+    let left = rooms.take_vectors();
+    let xact = room_in(alloc, left.xact)?;
+    let subtrans = room_in(alloc, left.subtrans)?;
+    let offsets = room_in(alloc, left.offsets)?;
+    let members = room_in(alloc, left.members)?;
     let room = BankVolumes {
         xact,
         subtrans,

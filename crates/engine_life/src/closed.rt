@@ -15,7 +15,7 @@ ghost use Rattle.engine_life.specs.Lives.{EndFit, HaveCountedTold, HaveFollowed,
 
 use crate::life::{Aside, OpenLife};
 use disk_core::{LogDisk, PageDisk, Volumes};
-use engine_host::{BankVolumes, Parts, TakenApart, close, take_apart};
+use engine_host::{BankVolumes, LifeRooms, Parts, TakenApart, close, take_apart};
 use multi_store::MultiGen;
 use tx_events::EventList;
 use wal_core::WalLog;
@@ -35,7 +35,10 @@ pub struct ClosedLife<L: LogDisk, P> {
 /// which are all that was done, and of which the engine invariant holds; so is the history of its multixacts. Each bank has
 /// its four volumes. Each of these has counted at least the faults that its list tells, and a crash would leave of each of
 /// pg_xact, of the offsets and of the members what its list allows. Takes no memory.
-pub fn close_life<L: LogDisk + Drop, P: PageDisk + Drop>(life: OpenLife<L, P>) -> ClosedLife<L, P>
+pub fn close_life<L: LogDisk + Drop, P: PageDisk + Drop>(
+    life: OpenLife<L, P>,
+    rooms: &mut LifeRooms<P>,
+) -> ClosedLife<L, P>
     requires host { IsHost life.hall life.host }
     requires all { HoldsAllBut life.host [] }
     ensures events { result.events ≡ history (view life.host.pass).seen }
@@ -70,7 +73,7 @@ pub fn close_life<L: LogDisk + Drop, P: PageDisk + Drop>(life: OpenLife<L, P>) -
         table,
         multis,
         volumes,
-    } = take_apart(locks, room);
+    } = take_apart(rooms, locks, room);
     let BankVolumes {
         xact,
         subtrans,

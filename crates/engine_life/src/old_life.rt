@@ -13,13 +13,14 @@ use crate::life::{Aside, OpenLife};
 use crate::old_parts::open_old;
 use crate::refusal::{NoLife, unrecovered};
 use disk_core::{LogDisk, PageDisk, Volumes};
-use engine_host::BankVolumes;
+use engine_host::{BankVolumes, LifeRooms};
 use replay_core::Found;
 use std::alloc::Global;
 
 // Goes on from a log that was found on a volume. After an error the volumes come back.
 pub(crate) fn begin_old<L: LogDisk + Drop, P: PageDisk + Drop>(
     alloc: Global,
+    rooms: &mut LifeRooms<P>,
     found: Found<L>,
     volumes: BankVolumes<P>,
     aside: Aside<P>,
@@ -37,8 +38,8 @@ pub(crate) fn begin_old<L: LogDisk + Drop, P: PageDisk + Drop>(
     ensures refused { (log : L) → IsFound log found → (fresh : Cluster)
         → IfErr result (λ e. IsNoLife L.LogDisk P.PageDisk fresh (volumes_over log volumes) e.0 e.1) }
 {
-    match open_old(alloc, found, volumes, sessions) {
-        Ok(parts) => begin_life(alloc, parts, aside),
+    match open_old(alloc, rooms, found, volumes, sessions) {
+        Ok(parts) => begin_life(alloc, rooms, parts, aside),
         Err((volumes, refusal)) => Err((volumes, unrecovered(refusal))),
     }
 }

@@ -16,13 +16,14 @@ ghost use Rattle.engine_life.specs.Reopening.{IsBaseAt, KeepsStart, LeavesLog, b
 
 use crate::begun::is_full_multi;
 use disk_core::{LogDisk, PageDisk, Volumes};
-use engine_host::{BankVolumes, Cluster, Parts, open_begun};
+use engine_host::{BankVolumes, Cluster, LifeRooms, Parts, open_begun};
 use replay_core::{Found, RecoverRefusal, Recovered, recover};
 use std::alloc::Global;
 
 // The parts over what a recovery left. Only memory may be wanting; the volumes come back then.
 fn open_recovered<L: LogDisk + Drop, P: PageDisk + Drop>(
     alloc: Global,
+    rooms: &mut LifeRooms<P>,
     recovered: Recovered<L, P>,
     sessions: u32,
 ) -> Result<Parts<L, P>, (Volumes<L, P>, RecoverRefusal)>
@@ -67,7 +68,7 @@ fn open_recovered<L: LogDisk + Drop, P: PageDisk + Drop>(
         offsets,
         members,
     };
-    match open_begun(alloc, log, volumes, cluster) {
+    match open_begun(alloc, rooms, log, volumes, cluster) {
         Ok(parts) => Ok(parts),
         Err(volumes) => Err((volumes, RecoverRefusal::Memory)),
     }
@@ -83,6 +84,7 @@ fn open_recovered<L: LogDisk + Drop, P: PageDisk + Drop>(
 /// what they hold, nothing is known to be committed.
 pub fn open_old<L: LogDisk + Drop, P: PageDisk + Drop>(
     alloc: Global,
+    rooms: &mut LifeRooms<P>,
     found: Found<L>,
     volumes: BankVolumes<P>,
     sessions: u32,
@@ -114,10 +116,10 @@ pub fn open_old<L: LogDisk + Drop, P: PageDisk + Drop>(
         offsets,
         members,
     } = volumes;
-    match recover(alloc, found, xact, subtrans, offsets, members) {
+    match recover(&mut rooms.banks, found, xact, subtrans, offsets, members) {
         Ok(recovered) => {
             is_full_multi(&recovered.base);
-            open_recovered(alloc, recovered, sessions)
+            open_recovered(alloc, rooms, recovered, sessions)
         }
         Err(refused) => Err(refused),
     }

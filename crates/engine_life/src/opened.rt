@@ -17,7 +17,7 @@ use crate::life::{Aside, OpenLife};
 use crate::old_life::begin_old;
 use crate::refusal::{NoLife, refusal_of, unrecovered};
 use disk_core::{LogDisk, Media, MountRefusal, PageDisk, Volumes};
-use engine_host::{BankVolumes, Cluster, open_new};
+use engine_host::{BankVolumes, Cluster, LifeRooms, open_new};
 use replay_core::{FoundLog, find_log};
 use std::alloc::Global;
 use wal_core::WalLog;
@@ -26,6 +26,7 @@ use wal_core::WalLog;
 // back.
 fn begin_new<L: LogDisk + Drop, P: PageDisk + Drop>(
     alloc: Global,
+    rooms: &mut LifeRooms<P>,
     log: WalLog<L>,
     volumes: BankVolumes<P>,
     aside: Aside<P>,
@@ -39,8 +40,8 @@ fn begin_new<L: LogDisk + Drop, P: PageDisk + Drop>(
         → IfErr result (λ e. IsNoLife L.LogDisk P.PageDisk cluster (volumes_over disk volumes) e.0 e.1) }
 {
     is_full_multi(&cluster.base);
-    match open_new(alloc, log, volumes, cluster) {
-        Ok(parts) => begin_life(alloc, parts, aside),
+    match open_new(alloc, rooms, log, volumes, cluster) {
+        Ok(parts) => begin_life(alloc, rooms, parts, aside),
         Err((volumes, refusal)) => Err((volumes, refusal_of(refusal))),
     }
 }
@@ -49,6 +50,7 @@ fn begin_new<L: LogDisk + Drop, P: PageDisk + Drop>(
 // an error the volumes come back.
 fn begin_over<L: LogDisk + Drop, P: PageDisk + Drop>(
     alloc: Global,
+    rooms: &mut LifeRooms<P>,
     volumes: Volumes<L, P>,
     cluster: Cluster,
 ) -> Result<OpenLife<L, P>, (Volumes<L, P>, NoLife)>
@@ -61,7 +63,7 @@ fn begin_over<L: LogDisk + Drop, P: PageDisk + Drop>(
         → WhenRefused L.LogDisk P.PageDisk kept volumes e.0 e.1) }
     ensures refused { IfErr result (λ e. IsNoLife L.LogDisk P.PageDisk cluster volumes e.0 e.1) }
 {
-    let Ok(aside) = new_aside(alloc) else {
+    let Ok(aside) = new_aside(alloc, rooms) else {
         return Err((volumes, NoLife::Memory));
     };
     let Volumes {
@@ -82,8 +84,8 @@ fn begin_over<L: LogDisk + Drop, P: PageDisk + Drop>(
         Err((log, refusal)) => return Err((with_log(log, volumes), unrecovered(refusal))),
     };
     match found {
-        FoundLog::New(log) => begin_new(alloc, log, volumes, aside, cluster),
-        FoundLog::Old(found) => begin_old(alloc, found, volumes, aside, cluster.sessions),
+        FoundLog::New(log) => begin_new(alloc, rooms, log, volumes, aside, cluster),
+        FoundLog::Old(found) => begin_old(alloc, rooms, found, volumes, aside, cluster.sessions),
     }
 }
 
@@ -115,6 +117,7 @@ fn with_banks(cluster: &Cluster, banks: usize) -> Cluster
 /// wanting nothing is said of that.
 pub fn open_life<M: Media>(
     alloc: Global,
+    rooms: &mut LifeRooms<M::Pages>,
     media: &mut M,
     cluster: Cluster,
 ) -> Result<OpenLife<M::Log, M::Pages>, NoLife>
@@ -144,7 +147,7 @@ pub fn open_life<M: Media>(
         Err(MountRefusal::Memory) => return Err(NoLife::Memory),
     };
     let cluster = with_banks(&cluster, volumes.xact.len());
-    match begin_over(alloc, volumes, cluster) {
+    match begin_over(alloc, rooms, volumes, cluster) {
         Ok(life) => Ok(life),
         Err((volumes, refusal)) => {
             media.rest(volumes);

@@ -3,6 +3,7 @@ use crate::rows::check_rows;
 use crate::runs::run_over;
 use disk_core::Which::Subtrans;
 use disk_fuse::Fails;
+use script_rounds::RoundThreads;
 use std::alloc::AllocGlobal;
 use std::process::Abort;
 
@@ -267,7 +268,13 @@ fn many_subtransactions(rt: &(impl Abort + AllocGlobal)) -> String {
 #[test]
 fn a_fault_of_pg_subtrans_stops_a_write_halfway(rt: HostRuntime) {
     let script = many_subtransactions(&rt);
-    let run = run_over(&rt, script.as_str(), Subtrans(0), Fails::Behind(3), 1);
+    let run = run_over(
+        &rt,
+        script.as_str(),
+        Subtrans(0),
+        Fails::Behind(3),
+        RoundThreads::AtMost(1),
+    );
     assert!(rt; run.status == 0);
     assert!(rt;
         run.written.contains(

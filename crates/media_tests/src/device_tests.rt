@@ -4,6 +4,7 @@ use crate::rows::check_rows;
 use crate::runs::{run_words, text_from};
 use disk_core::Which::Log;
 use disk_fuse::Fails;
+use script_rounds::RoundThreads;
 use std::alloc::AllocGlobal;
 use std::process::Abort;
 use std::sync::Wait;
@@ -296,7 +297,14 @@ fn check_generated(
     text: &str,
 ) {
     let words = [text_from(rt, "gen"), text_from(rt, "1"), text_from(rt, "1")];
-    let run = run_words(rt, &words, "", Log, Fails::Behind(passes), 1);
+    let run = run_words(
+        rt,
+        &words,
+        "",
+        Log,
+        Fails::Behind(passes),
+        RoundThreads::AtMost(1),
+    );
     let is_well = run.status == status && run.written.as_str() == text;
     assert!(rt; is_well, "{passes}: {} {}", run.status, run.written);
 }

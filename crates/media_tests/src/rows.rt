@@ -2,6 +2,7 @@
 use crate::runs::{Ran, is_lawful, run_over};
 use disk_core::Which;
 use disk_fuse::Fails;
+use script_rounds::RoundThreads;
 use std::alloc::AllocGlobal;
 use std::process::Abort;
 use std::str::SplitWhitespace;
@@ -112,7 +113,7 @@ fn way_of(
     fails: Fails,
     number: usize,
 ) -> usize {
-    let run = run_over(rt, script, at, fails, 1);
+    let run = run_over(rt, script, at, fails, RoundThreads::AtMost(1));
     if is_so(rt, way_at(part, number), row.plain, &run) {
         return number;
     }
@@ -184,7 +185,13 @@ fn check_part(rt: &(impl Abort + AllocGlobal + Threads + Wait + Sync), row: Row<
 
 /// A run in which no call fails has the plain report.
 fn check_plain(rt: &(impl Abort + AllocGlobal + Threads + Wait + Sync), row: Row<'_>) {
-    let run = run_over(rt, row.script, Which::Log, Fails::At(0), 1);
+    let run = run_over(
+        rt,
+        row.script,
+        Which::Log,
+        Fails::At(0),
+        RoundThreads::AtMost(1),
+    );
     let is_plain = run.status == 0 && run.written.as_str() == row.plain;
     assert!(rt; is_plain, "{}: {} {}", row.name, run.status, run.written);
 }

@@ -97,19 +97,18 @@ pub fn text_from(rt: &(impl Abort + AllocGlobal), text: &str) -> String {
     String::from_str(rt.alloc(), text).expect(rt, "memory")
 }
 
-/// Runs the tool with these words over a media of which this volume fails such calls, the sessions of a round on at most so
-/// many threads.
+/// Runs the tool with these words over a media of which this volume fails such calls, the sessions of a round on such
+/// threads.
 pub fn run_words(
     rt: &(impl Abort + AllocGlobal + Threads + Wait + Sync),
     words: &[String],
     script: &str,
     at: Which,
     fails: Fails,
-    threads: usize,
+    threads: RoundThreads,
 ) -> Ran {
     let mut source = source_of(rt, script);
     let mut sink = sink_of(rt, ROOM);
-    let threads = RoundThreads::AtMost(threads);
     let status = status_fused(rt, words, &mut source, &mut sink, at, fails, threads);
     let written = text_of(rt, &sink);
     Ran { status, written }
@@ -121,7 +120,7 @@ pub fn run_over(
     script: &str,
     at: Which,
     fails: Fails,
-    threads: usize,
+    threads: RoundThreads,
 ) -> Ran {
     run_words(rt, &[text_from(rt, "run")], script, at, fails, threads)
 }

@@ -3,6 +3,7 @@
 use crate::runs::{Ran, run_over};
 use disk_core::Which;
 use disk_fuse::Fails;
+use script_rounds::RoundThreads;
 use std::alloc::AllocGlobal;
 use std::process::Abort;
 
@@ -35,6 +36,11 @@ NAME 9 snap s -> ok
 NAME 10 drop s -> ok
 ";
 
+/// Refused commands behind them, so that the round has 4,096: one of fewer would run on one thread.
+const FIRST_REFUSED: usize = 11;
+
+const LAST: usize = 64;
+
 /// The events of its commands, up to the space behind the command's number.
 const EVENTS: &str =
     "id NAME 2 \nsub NAME 4 \nundo NAME 5 \nsub NAME 7 \ncommit NAME 8 \nsnap NAME 9 \ndrop NAME 10 \n";
@@ -49,6 +55,18 @@ fn for_each_session(rt: &(impl Abort + AllocGlobal), lines: &str) -> String {
             .expect(rt, "memory");
     }
     text
+}
+
+/// The lines of a session's commands, the refused ones with them.
+fn lines_of_one(rt: &(impl Abort + AllocGlobal)) -> String {
+    let mut lines = String::from_str(rt.alloc(), LINES).expect(rt, "memory");
+    for number in FIRST_REFUSED..LAST + 1 {
+        let line = format!(in rt.alloc(); "NAME {number} drop s -> no-snapshot\n").expect(
+            rt, "memory",
+        );
+        lines.push_str(line.as_str()).expect(rt, "memory");
+    }
+    lines
 }
 
 /// One round of all sessions, command by command.
@@ -108,6 +126,10 @@ fn count_lines(text: &str, begin: &str, end: &str) -> usize {
 /// The round, and behind it a snapshot of the first session and a look at each id of the round.
 fn round_and_looks(rt: &(impl Abort + AllocGlobal)) -> String {
     let mut script = one_round(rt, &COMMANDS);
+    for _ in FIRST_REFUSED..LAST + 1 {
+        let refused = for_each_session(rt, "NAME drop s\n");
+        script.push_str(refused.as_str()).expect(rt, "memory");
+    }
     script.push_str(".round\ns0 snap t\n").expect(rt, "memory");
     for id in 3..195u32 {
         let look = format!(in rt.alloc(); "s0 see t {id}\n").expect(rt, "memory");
@@ -117,18 +139,18 @@ fn round_and_looks(rt: &(impl Abort + AllocGlobal)) -> String {
 }
 
 /// What the second round writes first.
-const SNAP: &str = "s0 11 snap t -> ok xmin 195 xmax 195 xip - sub - overflow no\n";
+const SNAP: &str = "s0 65 snap t -> ok xmin 195 xmax 195 xip - sub - overflow no\n";
 
-/// The lines of the round are those of the sessions, one session after another, and each command is answered `ok`. The events
+/// The lines of the round are those of the sessions, one session after another, each command with its answer. The events
 /// are those of the sessions' commands, each once and in its session's order. Each session was given three ids, of which one
 /// was undone.
 fn check_round(rt: &(impl Abort + AllocGlobal), run: &Ran) {
     let report = run.written.as_str();
     let lines = between(report, "\nround 1\n", "round 2\n");
-    let fronts = for_each_session(rt, LINES);
+    let fronts = for_each_session(rt, lines_of_one(rt).as_str());
     let are_lines = begin_so(lines, fronts.as_str());
     assert!(rt; run.status == 0 && are_lines, "{report}");
-    let end = "snap s0 11 t\nmultis\nlog flushed 65 end ";
+    let end = "snap s0 65 t\nmultis\nlog flushed 65 end ";
     let history = between(report, "\nhistory\n", end);
     let events = by_session(rt, history);
     let fronts = for_each_session(rt, EVENTS);
@@ -144,7 +166,12 @@ fn check_round(rt: &(impl Abort + AllocGlobal), run: &Ran) {
 #[test]
 fn threads_tell_each_session_once_and_in_order(rt: HostRuntime) {
     let script = round_and_looks(&rt);
-    for threads in [1, 4, 64] {
+    let ways = [
+        RoundThreads::AtMost(1),
+        RoundThreads::AtMost(4),
+        RoundThreads::OneEach,
+    ];
+    for threads in ways {
         let run = run_over(&rt, script.as_str(), Which::Log, Fails::Never, threads);
         check_round(&rt, &run);
     }
@@ -187,7 +214,14 @@ fn check_fault(rt: &(impl Abort + AllocGlobal), run: &Ran) {
 fn one_thread_is_told_the_fault_of_the_log(rt: HostRuntime) {
     let script = one_round(&rt, &COMMITS);
     for passes in 8..30 {
-        let run = run_over(&rt, script.as_str(), Which::Log, Fails::Behind(passes), 8);
+        let threads = RoundThreads::OneEach;
+        let run = run_over(
+            &rt,
+            script.as_str(),
+            Which::Log,
+            Fails::Behind(passes),
+            threads,
+        );
         check_fault(&rt, &run);
     }
 }

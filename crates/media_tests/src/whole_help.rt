@@ -2,6 +2,7 @@
 use crate::runs::{Ran, is_lawful, run_over};
 use disk_core::Which;
 use disk_fuse::Fails;
+use script_rounds::RoundThreads;
 use std::alloc::AllocGlobal;
 use std::process::Abort;
 use std::sync::Wait;
@@ -50,7 +51,7 @@ fn written_whole(
     at: Which,
     fails: Fails,
 ) -> String {
-    let run = run_over(rt, script, at, fails, 1);
+    let run = run_over(rt, script, at, fails, RoundThreads::AtMost(1));
     let is_well = is_whole(rt, &run, asked);
     assert!(rt; is_well, "{at:?} {fails:?}: {} {}", run.status, run.written);
     run.written

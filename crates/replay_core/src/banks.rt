@@ -13,8 +13,7 @@ use disk_core::PageDisk;
 use replay_multis::{
     MemberSpan, OffsetSpan, RestoreRefusal, Share, restore_members, restore_offsets, sync_if_empty,
 };
-use slru_bank::SlruBank;
-use std::alloc::Global;
+use slru_bank::BankRooms;
 use store_pages::{SubtransPages, subtrans_page};
 use tx_events::{Counters, Lock, Rec};
 
@@ -40,7 +39,7 @@ fn refusal_at(lock: Lock, refusal: RestoreRefusal) -> RecoverRefusal
 
 // One volume of pg_xact is restored.
 fn restore_states_at<P: PageDisk + Drop>(
-    alloc: Global,
+    rooms: &mut BankRooms,
     volumes: &mut Vec<P>,
     recs: &[Rec],
     base: &Counters,
@@ -55,7 +54,7 @@ fn restore_states_at<P: PageDisk + Drop>(
 {
     let at = share.bank as usize;
     let disk = volumes.remove(at);
-    let (disk, outcome) = restore_states(alloc, disk, recs, base, share);
+    let (disk, outcome) = restore_states(rooms, disk, recs, base, share);
     put_back(volumes, at, disk);
     match outcome {
         Ok(()) => Ok(()),
@@ -65,7 +64,7 @@ fn restore_states_at<P: PageDisk + Drop>(
 
 /// All volumes of pg_xact are restored, one after another.
 pub(crate) fn restore_all_states<P: PageDisk + Drop>(
-    alloc: Global,
+    rooms: &mut BankRooms,
     volumes: &mut Vec<P>,
     recs: &[Rec],
     base: &Counters,
@@ -77,14 +76,14 @@ pub(crate) fn restore_all_states<P: PageDisk + Drop>(
 {
     let banks = volumes.len() as u32;
     for bank in 0..banks {
-        restore_states_at(alloc, volumes, recs, base, &Share { banks, bank })?;
+        restore_states_at(rooms, volumes, recs, base, &Share { banks, bank })?;
     }
     Ok(())
 }
 
 // One volume of the offsets is restored.
 fn restore_offsets_at<P: PageDisk + Drop>(
-    alloc: Global,
+    rooms: &mut BankRooms,
     volumes: &mut Vec<P>,
     recs: &[Rec],
     span: &OffsetSpan,
@@ -98,7 +97,7 @@ fn restore_offsets_at<P: PageDisk + Drop>(
 {
     let at = share.bank as usize;
     let disk = volumes.remove(at);
-    let (disk, outcome) = restore_offsets(alloc, disk, recs, span, share);
+    let (disk, outcome) = restore_offsets(rooms, disk, recs, span, share);
     put_back(volumes, at, disk);
     match outcome {
         Ok(()) => Ok(()),
@@ -108,7 +107,7 @@ fn restore_offsets_at<P: PageDisk + Drop>(
 
 /// All volumes of the offsets are restored, one after another.
 pub(crate) fn restore_all_offsets<P: PageDisk + Drop>(
-    alloc: Global,
+    rooms: &mut BankRooms,
     volumes: &mut Vec<P>,
     recs: &[Rec],
     span: &OffsetSpan,
@@ -119,14 +118,14 @@ pub(crate) fn restore_all_offsets<P: PageDisk + Drop>(
 {
     let banks = volumes.len() as u32;
     for bank in 0..banks {
-        restore_offsets_at(alloc, volumes, recs, span, &Share { banks, bank })?;
+        restore_offsets_at(rooms, volumes, recs, span, &Share { banks, bank })?;
     }
     Ok(())
 }
 
 // One volume of the members is restored.
 fn restore_members_at<P: PageDisk + Drop>(
-    alloc: Global,
+    rooms: &mut BankRooms,
     volumes: &mut Vec<P>,
     recs: &[Rec],
     span: &MemberSpan,
@@ -142,7 +141,7 @@ fn restore_members_at<P: PageDisk + Drop>(
 {
     let at = share.bank as usize;
     let disk = volumes.remove(at);
-    let (disk, outcome) = restore_members(alloc, disk, recs, span, share);
+    let (disk, outcome) = restore_members(rooms, disk, recs, span, share);
     put_back(volumes, at, disk);
     match outcome {
         Ok(()) => Ok(()),
@@ -152,7 +151,7 @@ fn restore_members_at<P: PageDisk + Drop>(
 
 /// All volumes of the members are restored, one after another.
 pub(crate) fn restore_all_members<P: PageDisk + Drop>(
-    alloc: Global,
+    rooms: &mut BankRooms,
     volumes: &mut Vec<P>,
     recs: &[Rec],
     span: &MemberSpan,
@@ -165,14 +164,14 @@ pub(crate) fn restore_all_members<P: PageDisk + Drop>(
 {
     let banks = volumes.len() as u32;
     for bank in 0..banks {
-        restore_members_at(alloc, volumes, recs, span, &Share { banks, bank })?;
+        restore_members_at(rooms, volumes, recs, span, &Share { banks, bank })?;
     }
     Ok(())
 }
 
 // Removes all pages of a volume of pg_subtrans, and syncs.
 fn empty_present<P: PageDisk + Drop>(
-    alloc: Global,
+    rooms: &mut BankRooms,
     disk: P,
     base: &Counters,
     lock: Lock,
@@ -180,23 +179,23 @@ fn empty_present<P: PageDisk + Drop>(
     ensures { Emptying P.PageDisk lock result.1 disk result.0 }
 {
     let page = subtrans_page(base.next.low());
-    let mut store = match SlruBank::<P, SubtransPages>::new(alloc, disk, page, page) {
+    let mut store = match rooms.bank::<P, SubtransPages>(disk, page, page) {
         Ok(store) => store,
         Err((disk, _)) => return (disk, Err(RecoverRefusal::Memory)),
     };
     let fault = RecoverRefusal::DiskFault { lock };
     if let Err(_) = store.clear_all() {
-        return (store.into_disk(), Err(fault));
+        return (rooms.keep(store), Err(fault));
     }
     match store.flush_all() {
-        Ok(()) => (store.into_disk(), Ok(())),
-        Err(_) => (store.into_disk(), Err(fault)),
+        Ok(()) => (rooms.keep(store), Ok(())),
+        Err(_) => (rooms.keep(store), Err(fault)),
     }
 }
 
 // The same of a volume that may have none.
 fn empty<P: PageDisk + Drop>(
-    alloc: Global,
+    rooms: &mut BankRooms,
     disk: P,
     base: &Counters,
     lock: Lock,
@@ -206,13 +205,13 @@ fn empty<P: PageDisk + Drop>(
     let mut disk = disk;
     match sync_if_empty(&mut disk) {
         Ok(true) => (disk, Ok(())),
-        Ok(false) => empty_present(alloc, disk, base, lock),
+        Ok(false) => empty_present(rooms, disk, base, lock),
         Err(_) => (disk, Err(RecoverRefusal::DiskFault { lock })),
     }
 }
 
 fn empty_at<P: PageDisk + Drop>(
-    alloc: Global,
+    rooms: &mut BankRooms,
     volumes: &mut Vec<P>,
     base: &Counters,
     bank: u32,
@@ -222,7 +221,7 @@ fn empty_at<P: PageDisk + Drop>(
 {
     let at = bank as usize;
     let disk = volumes.remove(at);
-    let (disk, outcome) = empty(alloc, disk, base, Lock::Subtrans(bank));
+    let (disk, outcome) = empty(rooms, disk, base, Lock::Subtrans(bank));
     put_back(volumes, at, disk);
     outcome
 }
@@ -230,7 +229,7 @@ fn empty_at<P: PageDisk + Drop>(
 /// All volumes of pg_subtrans are emptied, one after another: nothing is read of them that an earlier life left
 /// (`StartupSUBTRANS` of `subtrans.c`).
 pub(crate) fn empty_all<P: PageDisk + Drop>(
-    alloc: Global,
+    rooms: &mut BankRooms,
     volumes: &mut Vec<P>,
     base: &Counters,
 ) -> Result<(), RecoverRefusal>
@@ -239,7 +238,7 @@ pub(crate) fn empty_all<P: PageDisk + Drop>(
 {
     let banks = volumes.len() as u32;
     for bank in 0..banks {
-        empty_at(alloc, volumes, base, bank)?;
+        empty_at(rooms, volumes, base, bank)?;
     }
     Ok(())
 }

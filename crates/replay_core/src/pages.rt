@@ -11,12 +11,12 @@ use crate::refusal::RecoverRefusal;
 use crate::spans::{member_span, offset_span};
 use crate::volumes::PageVolumes;
 use disk_core::PageDisk;
-use std::alloc::Global;
+use slru_bank::BankRooms;
 use tx_events::{Counters, Rec};
 
 /// The pages of pg_xact, of the offsets and of the members are restored, bank by bank, and pg_subtrans is emptied.
 pub(crate) fn restore_pages<P: PageDisk + Drop>(
-    alloc: Global,
+    rooms: &mut BankRooms,
     volumes: &mut PageVolumes<P>,
     recs: &[Rec],
     base: &Counters,
@@ -27,10 +27,10 @@ pub(crate) fn restore_pages<P: PageDisk + Drop>(
     requires multis { AreMultisInReach recs.now base.now }
     ensures { RestoresPages P.PageDisk recs.now base.now volumes.old volumes.new result }
 {
-    restore_all_states(alloc, &mut volumes.xact, recs, base)?;
+    restore_all_states(rooms, &mut volumes.xact, recs, base)?;
     let offsets = offset_span(recs, base);
-    restore_all_offsets(alloc, &mut volumes.offsets, recs, &offsets)?;
+    restore_all_offsets(rooms, &mut volumes.offsets, recs, &offsets)?;
     let members = member_span(recs, base);
-    restore_all_members(alloc, &mut volumes.members, recs, &members)?;
-    empty_all(alloc, &mut volumes.subtrans, base)
+    restore_all_members(rooms, &mut volumes.members, recs, &members)?;
+    empty_all(rooms, &mut volumes.subtrans, base)
 }

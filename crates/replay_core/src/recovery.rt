@@ -22,7 +22,7 @@ use crate::refusal::RecoverRefusal;
 use crate::settle::settle;
 use crate::volumes::PageVolumes;
 use disk_core::{LogDisk, PageDisk, Volumes};
-use std::alloc::Global;
+use slru_bank::BankRooms;
 use tx_events::{Counters, Rec};
 use wal_core::WalLog;
 
@@ -33,7 +33,7 @@ use wal_core::WalLog;
 ///
 /// There is one volume of each store for each bank, 1 to 16.
 pub fn recover<L: LogDisk + Drop, P: PageDisk + Drop>(
-    alloc: Global,
+    rooms: &mut BankRooms,
     found: Found<L>,
     xact: Vec<P>,
     subtrans: Vec<P>,
@@ -81,7 +81,7 @@ pub fn recover<L: LogDisk + Drop, P: PageDisk + Drop>(
     let Found { log, recs, base } = found;
     let mut log = log;
     let from = log.next();
-    if let Err(refusal) = replay(alloc, &mut log, &mut pages, recs.items(), &base) {
+    if let Err(refusal) = replay(rooms, &mut log, &mut pages, recs.items(), &base) {
         return Err((with_log(log.into_disk(), pages), refusal));
     }
     Ok(begun(log, pages, from, &base))
@@ -138,7 +138,7 @@ fn with_log<L: Drop, P: Drop>(log: L, pages: PageVolumes<P>) -> Volumes<L, P>
 
 // The pages, and then the checkpoint.
 fn replay<L: LogDisk, P: PageDisk + Drop>(
-    alloc: Global,
+    rooms: &mut BankRooms,
     log: &mut WalLog<L>,
     pages: &mut PageVolumes<P>,
     recs: &[Rec],
@@ -151,6 +151,6 @@ fn replay<L: LogDisk, P: PageDisk + Drop>(
     requires multis { AreMultisInReach recs.now base.now }
     ensures { Replays P.PageDisk recs.now base.now log.old log.new pages.old pages.new result }
 {
-    restore_pages(alloc, pages, recs, base)?;
+    restore_pages(rooms, pages, recs, base)?;
     settle(log, *base)
 }

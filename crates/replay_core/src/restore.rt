@@ -11,14 +11,13 @@ use crate::empty::rests_empty;
 use crate::restore_bank::restore_bank;
 use disk_core::PageDisk;
 use replay_multis::{RestoreRefusal, Share};
-use slru_bank::SlruBank;
-use std::alloc::Global;
+use slru_bank::BankRooms;
 use store_pages::xact_page;
 use tx_events::{Counters, Rec};
 
 // The same as below, of a volume that has pages or that records name.
 fn restore_present<P: PageDisk + Drop>(
-    alloc: Global,
+    rooms: &mut BankRooms,
     disk: P,
     recs: &[Rec],
     base: &Counters,
@@ -35,13 +34,13 @@ fn restore_present<P: PageDisk + Drop>(
 {
     let last = xact_page(base.next.low());
     let cutoff = xact_page(base.oldest.low());
-    let mut bank = match SlruBank::new(alloc, disk, last, cutoff) {
+    let mut bank = match rooms.bank(disk, last, cutoff) {
         Ok(bank) => bank,
         Err((disk, _)) => return (disk, Err(RestoreRefusal::Memory)),
     };
     match restore_bank(&mut bank, recs, share, base.oldest, base.next) {
-        Ok(()) => (bank.into_disk(), Ok(())),
-        Err(_) => (bank.into_disk(), Err(RestoreRefusal::DiskFault)),
+        Ok(()) => (rooms.keep(bank), Ok(())),
+        Err(_) => (rooms.keep(bank), Err(RestoreRefusal::DiskFault)),
     }
 }
 
@@ -50,7 +49,7 @@ fn restore_present<P: PageDisk + Drop>(
 /// volume comes back with the outcome; after an error it is restored in part, and the same may be done again. A volume
 /// without pages, of which no record names one, is synced alone.
 pub fn restore_states<P: PageDisk + Drop>(
-    alloc: Global,
+    rooms: &mut BankRooms,
     disk: P,
     recs: &[Rec],
     base: &Counters,
@@ -69,7 +68,7 @@ pub fn restore_states<P: PageDisk + Drop>(
     let mut disk = disk;
     match rests_empty(&mut disk, recs, share, base.oldest) {
         Ok(true) => (disk, Ok(())),
-        Ok(false) => restore_present(alloc, disk, recs, base, share),
+        Ok(false) => restore_present(rooms, disk, recs, base, share),
         Err(_) => (disk, Err(RestoreRefusal::DiskFault)),
     }
 }

@@ -18,8 +18,7 @@ use crate::redo_offsets::low_offset;
 use crate::refusal::RestoreRefusal;
 use crate::share::Share;
 use disk_core::PageDisk;
-use slru_bank::{BankRefusal, SlruBank};
-use std::alloc::Global;
+use slru_bank::{BankRefusal, BankRooms, SlruBank};
 use store_pages::{MemberPages, id_position, member_page};
 use tx_events::Rec;
 
@@ -58,7 +57,7 @@ fn restore_bank<P: PageDisk>(
 
 // The same as below, of a volume that has pages or that records name.
 fn restore_present<P: PageDisk + Drop>(
-    alloc: Global,
+    rooms: &mut BankRooms,
     disk: P,
     recs: &[Rec],
     span: &MemberSpan,
@@ -77,13 +76,13 @@ fn restore_present<P: PageDisk + Drop>(
     ensures fault { result.1 ≡ Err DiskFault → HasRisen (P.faults disk) (P.faults result.0) }
 {
     let cutoff = member_page(low_offset(span.oldest_offset));
-    let mut bank = match SlruBank::new(alloc, disk, cutoff, cutoff) {
+    let mut bank = match rooms.bank(disk, cutoff, cutoff) {
         Ok(bank) => bank,
         Err((disk, _)) => return (disk, Err(RestoreRefusal::Memory)),
     };
     match restore_bank(&mut bank, recs, span, share) {
-        Ok(()) => (bank.into_disk(), Ok(())),
-        Err(_) => (bank.into_disk(), Err(RestoreRefusal::DiskFault)),
+        Ok(()) => (rooms.keep(bank), Ok(())),
+        Err(_) => (rooms.keep(bank), Err(RestoreRefusal::DiskFault)),
     }
 }
 
@@ -93,7 +92,7 @@ fn restore_present<P: PageDisk + Drop>(
 /// after an error it is restored in part, and the same may be done again. A volume without pages, of which no record
 /// names one, is synced alone.
 pub fn restore_members<P: PageDisk + Drop>(
-    alloc: Global,
+    rooms: &mut BankRooms,
     disk: P,
     recs: &[Rec],
     span: &MemberSpan,
@@ -115,7 +114,7 @@ pub fn restore_members<P: PageDisk + Drop>(
     let mut disk = disk;
     match rests_empty(&mut disk, recs) {
         Ok(true) => (disk, Ok(())),
-        Ok(false) => restore_present(alloc, disk, recs, span, share),
+        Ok(false) => restore_present(rooms, disk, recs, span, share),
         Err(_) => (disk, Err(RestoreRefusal::DiskFault)),
     }
 }

@@ -1,7 +1,7 @@
 // A cluster of two banks, and what it holds.
 use disk_core::{LogDisk, PageDisk, Volumes};
 use replay_core::{FoundLog, RecoverRefusal, Recovered, find_log, recover};
-use slru_bank::{SlruBank, State, set_states, state};
+use slru_bank::{BankRooms, SlruBank, State, set_states, state};
 use std::alloc::AllocGlobal;
 use std::process::Abort;
 use store_pages::{PageRule, XactPages};
@@ -180,7 +180,10 @@ fn recovered<L: LogDisk + Drop, P: PageDisk + Drop>(
         panic!(rt; "two banks")
     }
     match find_log(rt.alloc(), log) {
-        Ok(FoundLog::Old(found)) => recover(rt.alloc(), found, xact, subtrans, offsets, members),
+        Ok(FoundLog::Old(found)) => {
+            let mut rooms = BankRooms::new(rt.alloc());
+            recover(&mut rooms, found, xact, subtrans, offsets, members)
+        }
         Ok(FoundLog::New(_)) => panic!(rt; "a log without a record"),
         Err((log, refusal)) => {
             let volumes = Volumes {

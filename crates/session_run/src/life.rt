@@ -10,6 +10,7 @@ ghost use Rattle.session_run.specs.Parts.{IsTakenPart};
 use crate::laws::life_ends;
 use crate::rounds::run_rounds;
 use disk_core::{LogDisk, PageDisk};
+use engine_host::LifeRooms;
 use engine_life::{ClosedLife, OpenLife, close_life};
 use engine_parts::Gate;
 use script_rounds::{LineKeeper, RoundThreads};
@@ -45,6 +46,7 @@ pub fn run_life<
     rt: &(impl Threads + Wait + Sync),
     alloc: Global,
     life: OpenLife<L, P>,
+    rooms: &mut LifeRooms<P>,
     names: &NameList,
     part: Items,
     kept: &mut K,
@@ -70,7 +72,7 @@ pub fn run_life<
         threads,
         gate,
     );
-    let closed = close_life(life);
+    let closed = close_life(life, rooms);
     has_64_bits(closed.log.next());
     has_64_bits(closed.log.end());
     reads_an_image(&closed.log);

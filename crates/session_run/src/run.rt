@@ -30,7 +30,7 @@ use crate::ended::{Ended, FittedLog, log_left};
 use crate::life::run_life;
 use crate::stop::Stopped;
 use disk_core::{Crash, LogDisk, Media, PageDisk, Volumes};
-use engine_host::Cluster;
+use engine_host::{Cluster, LifeRooms};
 use engine_life::laws::crash_goes_on;
 use engine_life::{EndText, NoLife, OpenLife, end_life, open_life};
 use engine_parts::Gate;
@@ -93,6 +93,7 @@ fn run_part<L: LogDisk + Send + Sync + Drop, P: PageDisk + Send + Sync + Drop>(
     rt: &(impl Threads + Wait + Sync),
     alloc: Global,
     life: OpenLife<L, P>,
+    rooms: &mut LifeRooms<P>,
     names: &NameList,
     part: Items,
     threads: RoundThreads,
@@ -107,7 +108,9 @@ fn run_part<L: LogDisk + Send + Sync + Drop, P: PageDisk + Send + Sync + Drop>(
     let start = Note::by(&life.host.start);
     let base = life.host.cluster.base.same();
     let mut text = Steps::none(alloc);
-    let (closed, ran) = run_life(rt, alloc, life, names, part, &mut text, threads, gate);
+    let (closed, ran) = run_life(
+        rt, alloc, life, rooms, names, part, &mut text, threads, gate,
+    );
     let ended = Ended { start, closed };
     match ran {
         Ok(()) => Lived {
@@ -170,6 +173,7 @@ fn tell_part<K: Sink, L: LogDisk + Drop, P: PageDisk + Drop>(
 /// log from its note. The cluster is the script's: over volumes that tell nothing a log may have lost all records.
 fn go_on<M: Media>(
     alloc: Global,
+    rooms: &mut LifeRooms<M::Pages>,
     media: &mut M,
     volumes: Volumes<M::Log, M::Pages>,
     _log: &Note<FittedLog>,
@@ -194,7 +198,7 @@ fn go_on<M: Media>(
         Ok(()) => crash_goes_on::<M::Log, M::Pages>(),
         Err(_) => return Err(NoLife::Device),
     }
-    open_life(alloc, media, cluster)
+    open_life(alloc, rooms, media, cluster)
 }
 
 /// Ends the last part of a script: writes its text.
@@ -229,6 +233,7 @@ fn end_run<K: Sink, M: Media>(
 /// Ends a part of a script that a crash ends: writes its text, makes the crash, and opens the next life.
 fn end_part<K: Sink, M: Media>(
     alloc: Global,
+    rooms: &mut LifeRooms<M::Pages>,
     names: &NameList,
     cluster: &Cluster,
     lived: Lived<M::Log, M::Pages>,
@@ -260,7 +265,7 @@ fn end_part<K: Sink, M: Media>(
             return Err(stop);
         }
     };
-    match go_on(alloc, media, volumes, &log, how, same(cluster)) {
+    match go_on(alloc, rooms, media, volumes, &log, how, same(cluster)) {
         Ok(life) => Ok(life),
         Err(refusal) => Err(Stopped::NoLife(refusal)),
     }
@@ -302,7 +307,8 @@ where
     ensures sink { K.faults sink.old ≤ K.faults sink.new }
 {
     let cluster = cluster_of(&script);
-    let mut life = match open_life(alloc, media, same(&cluster)) {
+    let mut rooms = LifeRooms::new(alloc);
+    let mut life = match open_life(alloc, &mut rooms, media, same(&cluster)) {
         Ok(life) => life,
         Err(refusal) => return Err(Stopped::NoLife(refusal)),
     };
@@ -316,7 +322,7 @@ where
     let mut number = 1;
     'lives: loop {
         let (part, crash, behind) = next_part(&items);
-        let lived = run_part(rt, alloc, life, &names, part, threads, gate);
+        let lived = run_part(rt, alloc, life, &mut rooms, &names, part, threads, gate);
         let how = match crash {
             Some(how) => how,
             None => {
@@ -325,7 +331,9 @@ where
                 return end_run(alloc, &names, lived, number, sink, media);
             }
         };
-        life = end_part(alloc, &names, &cluster, lived, number, how, sink, media)?;
+        life = end_part(
+            alloc, &mut rooms, &names, &cluster, lived, number, how, sink, media,
+        )?;
         items = behind;
         number += 1;
     }
@@ -362,12 +370,15 @@ where
         (MayMount (M.is_new media.old) (M.begins media.old) (M.gives media.old)) kept (M.is_new media.old ≡ false) M.falls
         (M.faults media.old) (M.faults media.new) (M.gives media.new) script.now) }
 {
-    let life = open_life(alloc, media, cluster_of(script))?;
+    let mut rooms = LifeRooms::new(alloc);
+    let life = open_life(alloc, &mut rooms, media, cluster_of(script))?;
     have_full_multis(&life.host.cluster.base);
     let mut tally = Tally::none(alloc);
     let names = &script.names;
     let items = script.items.items();
-    let (closed, ran) = run_life(rt, alloc, life, names, items, &mut tally, threads, gate);
+    let (closed, ran) = run_life(
+        rt, alloc, life, &mut rooms, names, items, &mut tally, threads, gate,
+    );
     let summary = Summary::of(closed.events.items(), tally.commands(), tally.verdicts());
     media.rest(closed.into_volumes());
     match ran {

@@ -66,9 +66,9 @@ const ROWS: [(&[&str], u8, &str); 21] = [
 fn run_beside_a_source(
     rt: &(impl Abort + AllocGlobal + Threads + Wait + Sync),
     words: &[&str],
+    threads: RoundThreads,
 ) -> Ran {
     let mut source = source_of(rt, "a begin\n", &[]);
-    let threads = RoundThreads::AtMost(4);
     let run = run_past(rt, words, &mut source, 200, threads, &TestGate::Open);
     let left = source.read(&mut [0; 16]).ok();
     assert!(rt; left == Some(8), "the source was read");
@@ -78,7 +78,7 @@ fn run_beside_a_source(
 #[test]
 fn words_and_what_they_write(rt: HostRuntime) {
     for (words, status, line) in &ROWS {
-        let run = run_beside_a_source(&rt, words);
+        let run = run_beside_a_source(&rt, words, RoundThreads::AtMost(4));
         let is_well = run.status == *status && run.written.as_str() == *line;
         assert!(rt; is_well, "not {line} but {}: {}", run.status, run.written);
     }
@@ -86,8 +86,9 @@ fn words_and_what_they_write(rt: HostRuntime) {
 
 #[test]
 fn each_run_says_the_same(rt: HostRuntime) {
-    let first = run_beside_a_source(&rt, &["gen", "1", "2000"]);
-    let second = run_beside_a_source(&rt, &["gen", "1", "2000"]);
+    let words = ["gen", "1", "2000"];
+    let first = run_beside_a_source(&rt, &words, RoundThreads::OneEach);
+    let second = run_beside_a_source(&rt, &words, RoundThreads::OneEach);
     assert!(rt; first.status == 0 && second.status == 0);
     assert!(rt; first.written.as_str() == second.written.as_str());
 }

@@ -6,7 +6,7 @@ ghost use Rattle.disk_core.specs.Faults.{CountsFault, HasRisen};
 ghost use Rattle.disk_core.specs.Images.{Only};
 ghost use Rattle.disk_core.specs.Pages.{Pages, page_bytes, zero_page};
 ghost use Rattle.tx_events.specs.PageOrder.{is_cut, page_precedes};
-ghost use Rattle.slru_bank.specs.Bank.{buffered, map_of, Distinct, AllAgree, FirstHolds, PutsPage, OthersStay, masked, placed, IsPage, StaysAPage, Distinct-prop, AllAgree-prop};
+ghost use Rattle.slru_bank.specs.Bank.{buffered, map_of, AllEmpty, Distinct, AllAgree, FirstHolds, PutsPage, OthersStay, masked, placed, IsPage, StaysAPage, Distinct-prop, AllAgree-prop};
 ghost use Rattle.slru_bank.specs.Crash.{SameMap, CrashLeaves, IsMixture, IsMixtureOrGone};
 ghost use Rattle.slru_bank.specs.Removal.{removes, later_cutoff, MayDrop, Drops, ClearsAfter, AllAbsent};
 ghost use Rattle.slru_bank.specs.declared.refusal.BankRefusal.TheVariants.{Cut, DiskFault};
@@ -253,14 +253,37 @@ impl<P: PageDisk + Drop, O: PageRule> SlruBank<P, O> {
         ensures err { IfErr result (λ e. e.0 ≡ disk) }
     {
         match first_buffer(alloc) {
-            Ok(buffers) => Ok(SlruBank {
-                disk,
-                rule: PhantomData,
-                last,
-                cutoff,
-                buffers,
-            }),
+            Ok(buffers) => Ok(SlruBank::over(disk, last, cutoff, buffers)),
             Err(_) => Err((disk, Memory)),
         }
+    }
+}
+
+impl<P: PageDisk, O: PageRule> SlruBank<P, O> {
+    ghost use Rattle.slru_bank.specs.Calls.{cutoff_of, last_page, pages_of, volume_of};
+
+    // A bank over a volume, with buffers that have no page.
+    pub(crate) fn over(disk: P, last: u32, cutoff: u32, buffers: Vec<Buffer>) -> SlruBank<P, O>
+        requires some { 1 ≤ length buffers.items }
+        requires empty { AllEmpty buffers.items }
+        ensures disk { volume_of result ≡ disk }
+        ensures last { last_page result ≡ last }
+        ensures cutoff { cutoff_of result ≡ cutoff }
+        ensures map { SameMap (λ q. page_bytes (P.pages disk q)) (pages_of result) }
+    {
+        SlruBank {
+            disk,
+            rule: PhantomData,
+            last,
+            cutoff,
+            buffers,
+        }
+    }
+
+    // The volume, and the buffers, whatever they have. Changed pages are not written first.
+    pub(crate) fn into_parts(self) -> (P, Vec<Buffer>)
+        ensures { result.0 ≡ volume_of self }
+    {
+        (self.disk, self.buffers)
     }
 }

@@ -11,7 +11,7 @@ returns-in-Ok-flush_all g c =
     record {
       empty = λ told.
           let durable = c.in-Ok-flush_all.ensures.durable told in
-          subst (λ z. IsEmpty p z) (sym c.into_disk-in-Ok-flush_all.ensures) (record {
+          subst (λ z. IsEmpty p z) (sym c.keep-in-Ok-flush_all.ensures) (record {
             zeros = λ x left q small. durable x left q ∙ (c.flush_all.ensures.same told q ∙ (c.in_default.ensures.bank.drops told).zeros q small refl);
             on_disk = read_durable store durable (g.met.P.PageDisk.reads_image (volume_of store) told);
           });
@@ -20,6 +20,6 @@ returns-in-Ok-flush_all g c =
           let was = ap p.faults c.in-Ok.ensures.disk in
           let cleared = c.in_default.ensures.bank.sweeps.count in
           let flushed = c.flush_all.ensures.bank.count in
-          let now = ap p.faults c.into_disk-in-Ok-flush_all.ensures in
+          let now = ap p.faults c.keep-in-Ok-flush_all.ensures in
           omega (arith, was, cleared, flushed, now);
     }

@@ -14,23 +14,23 @@ returns-in-Err-clause-moments g c told =
 pub returns-in-Ok-restore_bank-clause-shows : goal.returns-in-Ok-restore_bank-clause-shows
 returns-in-Ok-restore_bank-clause-shows g c told =
     let d = g.P.PageDisk in let A : ℕ → Type 0 = IsNamed c.args.share.now c.args.base.now.oldest (committed_in c.args.recs.now) in
-    subst (λ z. RestoresAll A c.args.base.now.next (bytes_on d c.args.disk) (bytes_on d z)) (sym c.into_disk.ensures)
+    subst (λ z. RestoresAll A c.args.base.now.next (bytes_on d c.args.disk) (bytes_on d z)) (sym c.keep.ensures)
     (shows_on A c.args.base.now.next c.args.disk c.in-Ok.bank c.restore_bank.new.bank c.in-Ok.ensures.disk c.in-Ok.ensures.map c.in-Ok-restore_bank.ensures told (g.met.P.PageDisk.reads_image (volume_of c.restore_bank.new.bank) told))
 
 pub returns-in-Ok-restore_bank-clause-durable : goal.returns-in-Ok-restore_bank-clause-durable
 returns-in-Ok-restore_bank-clause-durable g c told =
     let d = g.P.PageDisk in let A : ℕ → Type 0 = IsNamed c.args.share.now c.args.base.now.oldest (committed_in c.args.recs.now) in
-    subst (λ z. HasBytesOnDisk d z) (sym c.into_disk.ensures)
+    subst (λ z. HasBytesOnDisk d z) (sym c.keep.ensures)
     (durable_on A c.args.base.now.next c.args.disk c.in-Ok.bank c.restore_bank.new.bank c.in-Ok.ensures.disk c.in-Ok.ensures.map c.in-Ok-restore_bank.ensures told (g.met.P.PageDisk.reads_image (volume_of c.restore_bank.new.bank) told))
 
 pub returns-in-Ok-restore_bank-clause-moments : goal.returns-in-Ok-restore_bank-clause-moments
 returns-in-Ok-restore_bank-clause-moments g c told =
     let d = g.P.PageDisk in let A : ℕ → Type 0 = IsNamed c.args.share.now c.args.base.now.oldest (committed_in c.args.recs.now) in
-    subst (λ z. CrashLeaves (MayRestore A c.args.base.now.next (bytes_on d c.args.disk)) d.images d.moment d.left_at c.args.disk z) (sym c.into_disk.ensures)
+    subst (λ z. CrashLeaves (MayRestore A c.args.base.now.next (bytes_on d c.args.disk)) d.images d.moment d.left_at c.args.disk z) (sym c.keep.ensures)
     (moments_on A c.args.base.now.next c.args.disk c.in-Ok.bank c.restore_bank.new.bank c.in-Ok.ensures.disk c.in-Ok.ensures.map c.restore_bank.result c.restore_bank.ensures told)
 
 pub returns-in-Err-restore_bank-clause-moments : goal.returns-in-Err-restore_bank-clause-moments
 returns-in-Err-restore_bank-clause-moments g c told =
     let d = g.P.PageDisk in let A : ℕ → Type 0 = IsNamed c.args.share.now c.args.base.now.oldest (committed_in c.args.recs.now) in
-    subst (λ z. CrashLeaves (MayRestore A c.args.base.now.next (bytes_on d c.args.disk)) d.images d.moment d.left_at c.args.disk z) (sym c.into_disk-in-Err-restore_bank.ensures)
+    subst (λ z. CrashLeaves (MayRestore A c.args.base.now.next (bytes_on d c.args.disk)) d.images d.moment d.left_at c.args.disk z) (sym c.keep-in-Err-restore_bank.ensures)
     (moments_on A c.args.base.now.next c.args.disk c.in-Ok.bank c.restore_bank.new.bank c.in-Ok.ensures.disk c.in-Ok.ensures.map c.restore_bank.result c.restore_bank.ensures told)

@@ -15,23 +15,23 @@ returns-in-Err-clause-moments g c told =
 pub returns-in-Ok-restore_bank-clause-shows : goal.returns-in-Ok-restore_bank-clause-shows
 returns-in-Ok-restore_bank-clause-shows g c told =
     let d = g.P.PageDisk in let s = c.args.span.now in let N = IsOffsetByte c.args.share.now s.oldest c.args.recs.now in
-    subst (λ z. RestoresAll N (IsPastMulti s.from) (IsPastMulti s.next) (bytes_on d c.args.disk) (bytes_on d z)) (sym c.into_disk.ensures)
+    subst (λ z. RestoresAll N (IsPastMulti s.from) (IsPastMulti s.next) (bytes_on d c.args.disk) (bytes_on d z)) (sym c.keep.ensures)
     (shows_on N (IsPastMulti s.from) (IsPastMulti s.next) c.args.disk c.in-Ok.bank c.restore_bank.new.bank c.in-Ok.ensures.disk c.in-Ok.ensures.map c.in-Ok-restore_bank.ensures told (g.met.P.PageDisk.reads_image (volume_of c.restore_bank.new.bank) told))
 
 pub returns-in-Ok-restore_bank-clause-durable : goal.returns-in-Ok-restore_bank-clause-durable
 returns-in-Ok-restore_bank-clause-durable g c told =
     let d = g.P.PageDisk in let s = c.args.span.now in let N = IsOffsetByte c.args.share.now s.oldest c.args.recs.now in
-    subst (λ z. HasBytesOnDisk d z) (sym c.into_disk.ensures)
+    subst (λ z. HasBytesOnDisk d z) (sym c.keep.ensures)
     (durable_on N (IsPastMulti s.from) (IsPastMulti s.next) c.args.disk c.in-Ok.bank c.restore_bank.new.bank c.in-Ok.ensures.disk c.in-Ok.ensures.map c.in-Ok-restore_bank.ensures told (g.met.P.PageDisk.reads_image (volume_of c.restore_bank.new.bank) told))
 
 pub returns-in-Ok-restore_bank-clause-moments : goal.returns-in-Ok-restore_bank-clause-moments
 returns-in-Ok-restore_bank-clause-moments g c told =
     let d = g.P.PageDisk in let s = c.args.span.now in let N = IsOffsetByte c.args.share.now s.oldest c.args.recs.now in
-    subst (λ z. CrashLeaves (MayLeave (MayBecome N (IsPastMulti s.from) (IsPastMulti s.next)) (bytes_on d c.args.disk)) d.images d.moment d.left_at c.args.disk z) (sym c.into_disk.ensures)
+    subst (λ z. CrashLeaves (MayLeave (MayBecome N (IsPastMulti s.from) (IsPastMulti s.next)) (bytes_on d c.args.disk)) d.images d.moment d.left_at c.args.disk z) (sym c.keep.ensures)
     (moments_on N (IsPastMulti s.from) (IsPastMulti s.next) c.args.disk c.in-Ok.bank c.restore_bank.new.bank c.in-Ok.ensures.disk c.in-Ok.ensures.map c.restore_bank.result c.restore_bank.ensures told)
 
 pub returns-in-Err-restore_bank-clause-moments : goal.returns-in-Err-restore_bank-clause-moments
 returns-in-Err-restore_bank-clause-moments g c told =
     let d = g.P.PageDisk in let s = c.args.span.now in let N = IsOffsetByte c.args.share.now s.oldest c.args.recs.now in
-    subst (λ z. CrashLeaves (MayLeave (MayBecome N (IsPastMulti s.from) (IsPastMulti s.next)) (bytes_on d c.args.disk)) d.images d.moment d.left_at c.args.disk z) (sym c.into_disk-in-Err-restore_bank.ensures)
+    subst (λ z. CrashLeaves (MayLeave (MayBecome N (IsPastMulti s.from) (IsPastMulti s.next)) (bytes_on d c.args.disk)) d.images d.moment d.left_at c.args.disk z) (sym c.keep-in-Err-restore_bank.ensures)
     (moments_on N (IsPastMulti s.from) (IsPastMulti s.next) c.args.disk c.in-Ok.bank c.restore_bank.new.bank c.in-Ok.ensures.disk c.in-Ok.ensures.map c.restore_bank.result c.restore_bank.ensures told)

@@ -295,7 +295,6 @@ impl Bytes {
 
     // Adds a number that is long, or for which there is no room.
     #[cold]
-    #[inline(never)]
     fn long_digits(&mut self, n: u64) -> Result<(), Memory>
         ensures ok { OnOk result (self.new ≡ self.old ++ decimal n) }
     {
@@ -319,7 +318,6 @@ impl Bytes {
 
     // The same behind a space.
     #[cold]
-    #[inline(never)]
     fn long_number(&mut self, n: u64) -> Result<(), Memory>
         ensures ok { OnOk result (self.new ≡ self.old ++ 32 ∷ decimal n) }
     {

@@ -23,6 +23,7 @@ pub fn none_of(rest: &[u8]) -> Result<(), Kind>
 }
 
 /// One word and no more.
+#[inline(always)]
 pub fn one_of(rest: &[u8]) -> Result<&[u8], Kind>
     ensures { seen (λ w. w.now) result ≡ one_of (words_in rest.now) }
 {
@@ -71,6 +72,7 @@ pub fn three_of(rest: &[u8]) -> Result<(&[u8], &[u8], &[u8]), Kind>
 }
 
 /// A NAME.
+#[inline(always)]
 pub fn name_in(word: &[u8]) -> Result<Name, Kind>
     ensures { result ≡ name_in word.now }
 {

@@ -25,6 +25,7 @@ fn alone(command: Command, rest: &[u8]) -> Result<Command, Stop>
 }
 
 /// A snapshot's name, where no other word is there.
+#[inline(always)]
 fn only_name(rest: &[u8]) -> Result<Name, Kind>
     ensures { result ≡ only_name (words_in rest.now) }
 {

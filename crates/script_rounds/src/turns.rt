@@ -10,6 +10,7 @@ use session_lang::{Item, Items};
 use tx_model::{Command, How, Memory};
 
 /// The command, where it is of this session.
+#[inline(always)]
 fn command_of(number: u32, item: Item) -> Option<Command>
     ensures some { IfSome result (λ command. item ≡ items.Run number command) }
     ensures none { IfNone result (turns_of number (turns_in (item ∷ [])) ≡ []) }
@@ -21,6 +22,7 @@ fn command_of(number: u32, item: Item) -> Option<Command>
 }
 
 /// The session's command at this place of the round.
+#[inline(always)]
 pub fn command_at(number: u32, round: &Items, place: usize) -> Result<Option<Command>, Memory>
     ensures some { IfOk result (λ found. IfSome found (λ command.
         slice_get round.now place ≡ Some (items.Run number command))) }

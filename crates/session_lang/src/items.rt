@@ -182,6 +182,7 @@ impl ItemList {
     }
 
     /// Adds a command of the session of this number at the end.
+    #[inline(always)]
     pub fn push_command(&mut self, session: u8, command: Command) -> Result<(), Memory>
         requires { IsInRange command }
         ensures { OnOk result (self.new ≡ self.old ++ items.Run session command ∷ []) }
@@ -260,6 +261,7 @@ impl<'a> Items<'a> {
     }
 
     /// The item at this place, if there is one.
+    #[inline(always)]
     pub fn get(&self, place: usize) -> Result<Option<Item>, Memory>
         ensures { IfOk result (λ item. item ≡ slice_get self.now place) }
     {

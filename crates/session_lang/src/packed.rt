@@ -213,6 +213,7 @@ fn id_of(number: u64) -> FullXid
 }
 
 /// The multixact's id of a number that is one.
+#[inline(always)]
 fn multi_of(number: u64) -> FullMulti
     requires { IsFullMulti number }
     ensures { result ≡ number }
@@ -291,6 +292,7 @@ pub fn packed_between(apart: &Apart, packed: &PackedItem) -> Option<Between>
 }
 
 /// The item that is meant.
+#[inline(always)]
 pub fn unpack(apart: &Apart, packed: &PackedItem) -> Result<Item, Memory>
     requires { IsPacked apart.now packed.now }
     ensures { IfOk result (λ item. item ≡ unpacked apart.now packed.now) }

@@ -14,14 +14,14 @@ use Rattle.recoverable.specs.Bytes.{byte_held, slot_place_of}
 use Rattle.recoverable.specs.Fit.{IsCommitCode, KeptLog, base_at, log_end, recs_below}
 use Rattle.recoverable.specs.FitMultis.{member_at, offset_at}
 use Rattle.recoverable.specs.Laws.{life_base}
-use Rattle.log_bases.specs.LifeBase.{IsLifeBase, LifeBase, base_after}
+use Rattle.tx_events.specs.LifeBase.{IsLifeBase, LifeBase, base_after}
 use Rattle.recoverable.specs.MemberImages.{CleanMembers}
 use Rattle.recoverable.specs.OffsetImages.{CleanOffsets}
 use Rattle.recoverable.specs.Volumes.{EndsSettled, Left, ListFits, Restored}
 use Rattle.recoverable.specs.XactImages.{code_at}
 use Rattle.recoverable.proofs.BytesShow.{in_id}
 use Rattle.recoverable.proofs.Checkpoints.{take_next}
-use Rattle.log_bases.proofs.Bases.{base_then}
+use Rattle.tx_events.proofs.BaseSteps.{base_then}
 use Rattle.bank_follows.specs.Begins.{offset_bytes_on, state_of_code}
 use Rattle.bank_follows.specs.Restored.{RestoredBegins, shown_on}
 use Rattle.bank_follows.proofs.Begins.{bits_small, offset_held, slot_held, zero_bytes}

@@ -13,7 +13,7 @@ use Rattle.tx_events.specs.Ids.{id_before, low_half}
 use Rattle.tx_events.specs.Limits.{stop_limit}
 use Rattle.tx_events.specs.declared.record.Rec.{Rec}
 use Rattle.tx_events.proofs.Membership.{contains_has}
-use Rattle.log_bases.specs.LifeBase.{AreInOrder}
+use Rattle.tx_events.specs.LifeBase.{AreInOrder}
 use Rattle.recoverable.proofs.BytesShow.{in_id}
 use Rattle.tx_core.specs.CleanMultis.{CleanMembers, CleanOffsets}
 use Rattle.tx_core.specs.StoredBytes.{HasZeroTails, StoredBytes, byte_held, slot_place_of}

@@ -18,7 +18,7 @@ use Rattle.tx_events.specs.declared.record.Counters.{Counters}
 use Rattle.tx_events.specs.declared.record.Rec.{Rec}
 use Rattle.tx_events.specs.declared.record.Rec.TheVariants as records
 use Rattle.proc_table.specs.Table.{Table, page_of}
-use Rattle.log_bases.specs.LifeBase.{LifeBase, base_after}
+use Rattle.tx_events.specs.LifeBase.{LifeBase, base_after}
 use Rattle.wal_core.specs.declared.checkpoint.LastCheckpoint.{LastCheckpoint}
 use Rattle.wal_core.specs.Kept.{KeepsRecords}
 use Rattle.tx_core.specs.declared.entry.Kind.TheVariants as kinds

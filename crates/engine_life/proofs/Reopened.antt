@@ -19,7 +19,7 @@ use Rattle.tx_core.specs.declared.entry.Start.{Start}
 use Rattle.tx_core.specs.StoredBytes.{byte_held}
 use Rattle.recoverable.specs.Fit.{KeptLog, base_at, log_end, recs_below}
 use Rattle.recoverable.specs.Laws.{life_base}
-use Rattle.log_bases.specs.LifeBase.{LifeBase, base_after}
+use Rattle.tx_events.specs.LifeBase.{LifeBase, base_after}
 use Rattle.recoverable.specs.Volumes.{EndsSettled, KeepsUpTo, Left, Restored, checkpoint_of}
 use Rattle.recoverable.specs.Whole.{BeganClean, BeganRight}
 use Rattle.recoverable.proofs.Settled.{recovery_settles}

@@ -7,7 +7,7 @@ use Rattle.tx_events.specs.declared.event.By.{By}
 use Rattle.tx_events.specs.declared.record.Counters.{Counters}
 use Rattle.tx_events.specs.declared.record.Rec.{Rec}
 use Rattle.tx_events.specs.declared.record.Rec.TheVariants as records
-use Rattle.log_bases.specs.LifeBase.{AreBelowNext, LifeBase, base_after}
+use Rattle.tx_events.specs.LifeBase.{AreBelowNext, LifeBase, base_after}
 use Rattle.multi_store.specs.Generator.{Generator}
 use Rattle.proc_table.specs.Table.{Table}
 use Rattle.wal_core.specs.Kept.{BeginWith, KeepsRecords, other_behind}

@@ -1,7 +1,7 @@
 -- What a bank of offsets says of a multixact, by the bank's list, in a life of few: else two full pages of one stored
 -- number couldn't be told apart.
 use Rattle.std.specs.Prelude.{◌≡◌, ◌⊎◌, ℕ, ◌+◌, ◌^◌, ◌<◌, ◌≤◌, IsTrue, List, Option, None, Some, Contains}
-use Rattle.log_bases.specs.LifeBase.{AreInOrder}
+use Rattle.tx_events.specs.LifeBase.{AreInOrder}
 use Rattle.tx_events.specs.Ids.{IsFullMulti, low_half}
 use Rattle.tx_events.specs.declared.multi.Member.{Member}
 use Rattle.tx_events.specs.declared.record.Rec.TheVariants as records

@@ -13,7 +13,7 @@ use Rattle.tx_core.proofs.Nearness.{multis_are_legal}
 use Rattle.tx_core.specs.EngineInvariant.{EngineInvariant}
 use Rattle.tx_core.specs.MultiEntries.{multi_history}
 use Rattle.tx_core.specs.RecordsFollow.{IsMultiAnnounced}
-use Rattle.log_bases.specs.LifeBase.{AreInOrder}
+use Rattle.tx_events.specs.LifeBase.{AreInOrder}
 use Rattle.tx_core.proofs.MultiGiven.{raised_from}
 use Rattle.tx_core.proofs.MultiOrder.{Ordered, ordered}
 

@@ -22,7 +22,7 @@ use Rattle.tx_core.specs.RecordsFollow.{AppendOf, AreNotBelow}
 use Rattle.tx_core.specs.SyncsBeforeForgets.{MayForget}
 use Rattle.recoverable.specs.Fit.{KeptLog, MayBegin, base_at}
 use Rattle.recoverable.specs.Laws.{LogFollows, MayBeginLaw}
-use Rattle.log_bases.specs.LifeBase.{LifeBase}
+use Rattle.tx_events.specs.LifeBase.{LifeBase}
 use Rattle.recoverable.specs.Volumes.{IsWholeAt}
 use Rattle.tx_events.proofs.ListSteps.{le_or_over}
 use Rattle.recoverable.proofs.FitsXact.{may_forget}

@@ -8,7 +8,7 @@ use Rattle.tx_events.specs.declared.record.Rec.{Rec}
 use Rattle.tx_events.proofs.Membership.{contains_has, filter_has, has_cases, has_contains, has_filter, has_flat_map, has_left, has_right}
 use Rattle.recoverable.specs.Fit.{KeptLog, XactFits, base_at, recs_below}
 use Rattle.recoverable.specs.FitMultis.{MembersFit, OffsetsFit}
-use Rattle.log_bases.specs.LifeBase.{committed_by, committed_in, is_multi}
+use Rattle.tx_events.specs.LifeBase.{committed_by, committed_in, is_multi}
 use Rattle.recoverable.proofs.LogBases.{multi_grows}
 use Rattle.recoverable.proofs.Stretches.{flat_map_has, has_longer}
 

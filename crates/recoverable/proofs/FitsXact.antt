@@ -49,7 +49,7 @@ use Rattle.tx_core.specs.Verdict.{state_for}
 use Rattle.tx_core.specs.CutsFollow.{CutBy, IsTruncated, NeedsCut}
 use Rattle.recoverable.specs.Fit.{IsCommitCode, KeptLog, base_at, log_end}
 use Rattle.recoverable.specs.Laws.{LogFollows, XactFitsLaw, life_base}
-use Rattle.log_bases.specs.LifeBase.{LifeBase, base_after, committed_by, committed_in}
+use Rattle.tx_events.specs.LifeBase.{LifeBase, base_after, committed_by, committed_in}
 use Rattle.tx_core.specs.SyncsBeforeForgets.{AreStatesSynced, IsNamedBelow, MayForget}
 use Rattle.recoverable.specs.Images.{MayBeGone}
 use Rattle.recoverable.specs.XactImages.{Follows, ShowsSince, code_after, code_at, code_of, xact_ring}

@@ -27,7 +27,7 @@ use Rattle.tx_core.specs.Entries.{history, records_of}
 use Rattle.tx_core.specs.MultiEntries.{multi_history}
 use Rattle.tx_core.specs.RecordsFollow.{CheckpointOf, CountersOf, IsMultiAnnounced, IsMultiAt, IsOldestAnnounced}
 use Rattle.recoverable.specs.Laws.{ListFitsLaw, life_base}
-use Rattle.log_bases.specs.LifeBase.{AreInOrder, IsLifeBase, base_after, committed_by, committed_in, is_multi}
+use Rattle.tx_events.specs.LifeBase.{AreInOrder, IsLifeBase, base_after, committed_by, committed_in, is_multi}
 use Rattle.recoverable.proofs.Announced.{announced_given, announced_old}
 use Rattle.recoverable.proofs.Checkpoints.{append_at, whole_in}
 use Rattle.recoverable.proofs.FitsXact.{named_given}

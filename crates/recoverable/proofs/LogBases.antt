@@ -15,8 +15,8 @@ use Rattle.tx_core.specs.Locks.{log_lock}
 use Rattle.tx_core.proofs.Rising.{multi_above}
 use Rattle.wal_core.proofs.Counts.{past_above}
 use Rattle.notes.specs.Lists.{at}
-use Rattle.log_bases.specs.LifeBase.{LifeBase, base_after, committed_by, committed_in, is_multi}
-use Rattle.log_bases.proofs.Bases.{base_then}
+use Rattle.tx_events.specs.LifeBase.{LifeBase, base_after, committed_by, committed_in, is_multi}
+use Rattle.tx_events.proofs.BaseSteps.{base_then}
 use Rattle.recoverable.specs.Fit.{KeptLog, base_at}
 use Rattle.recoverable.specs.Laws.{LogFollows, life_base}
 use Rattle.recoverable.proofs.Stretches.{take_past}

@@ -11,7 +11,7 @@ use Rattle.wal_core.specs.Kept.{IsStretch, OpensToRecords}
 use Rattle.wal_core.specs.Opening.{History, Opened, next_number, opened}
 use Rattle.recoverable.specs.Fit.{KeptLog, MayBegin, log_end, recs_below}
 use Rattle.recoverable.specs.Laws.{LogOf, life_base}
-use Rattle.log_bases.specs.LifeBase.{base_after}
+use Rattle.tx_events.specs.LifeBase.{base_after}
 use Rattle.recoverable.specs.Volumes.{EndsSettled, ImageFits, Left, ListFits, LogFits}
 use Rattle.recoverable.specs.Whole.{LogBegins, LogImage}
 

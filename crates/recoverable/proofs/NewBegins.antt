@@ -4,14 +4,14 @@ use Rattle.std.specs.List.{slice_get}
 use Rattle.tx_events.proofs.Membership.{contains_has}
 use Rattle.tx_core.specs.declared.entry.Start.{Start}
 use Rattle.tx_core.specs.declared.entry.State.TheVariants as states
-use Rattle.log_bases.specs.LifeBase.{AreBelowNext, AreInOrder, LifeBase, base_after}
+use Rattle.tx_events.specs.LifeBase.{AreBelowNext, AreInOrder, LifeBase, base_after}
 use Rattle.tx_events.specs.declared.record.Counters.{Counters}
 use Rattle.tx_events.specs.declared.record.Rec.TheVariants as records
 use Rattle.tx_core.specs.declared.entry.Kind.TheVariants as kinds
 use Rattle.recoverable.specs.Laws.{LogOf, life_base}
 use Rattle.recoverable.specs.Volumes.{IsWholeAt}
 use Rattle.recoverable.specs.Whole.{NewBegins, NewLogBegins, new_log}
-use Rattle.log_bases.proofs.Settling.{checkpoint_settles}
+use Rattle.tx_events.proofs.BaseSteps.{checkpoint_settles}
 
 module _ {A : Type 0} where
   none_in : (xs : List A) (x : A) → xs ≡ [] → Contains xs x → ⊥

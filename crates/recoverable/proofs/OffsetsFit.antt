@@ -38,7 +38,7 @@ use Rattle.tx_core.specs.SyncsBeforeForgets.{AreOffsetsSynced, IsMultiBelow, May
 use Rattle.recoverable.specs.Fit.{KeptLog, base_at, log_end}
 use Rattle.recoverable.specs.Bytes.{StoredBytes, byte_held, byte_of, offset_byte}
 use Rattle.recoverable.specs.Laws.{LogFollows, OffsetsShownLaw}
-use Rattle.log_bases.specs.LifeBase.{LifeBase, is_multi}
+use Rattle.tx_events.specs.LifeBase.{LifeBase, is_multi}
 use Rattle.recoverable.specs.Images.{MayBeGone, shows_of}
 use Rattle.recoverable.specs.OffsetImages.{ByteSince, CleanOffsets, OffsetsFollow, offset_reading, offset_ring}
 use Rattle.recoverable.specs.Stored.{offset_bytes_for}

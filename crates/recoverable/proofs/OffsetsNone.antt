@@ -27,7 +27,7 @@ use Rattle.recoverable.specs.FitMultis.{ShowsNoOffset}
 use Rattle.recoverable.specs.OffsetImages.{CleanOffsets, OffsetsFollow}
 use Rattle.recoverable.specs.Bytes.{StoredBytes}
 use Rattle.recoverable.specs.Laws.{IsBeginning, LogFollows, OffsetsFitLaw}
-use Rattle.log_bases.specs.LifeBase.{LifeBase, is_multi}
+use Rattle.tx_events.specs.LifeBase.{LifeBase, is_multi}
 use Rattle.recoverable.proofs.Checkpoints.{checkpoint_flushed, counters_at}
 use Rattle.recoverable.proofs.FitsXact.{may_forget}
 use Rattle.recoverable.proofs.LogBases.{base_from, grows, life_recs, multi_up}

@@ -5,10 +5,9 @@ use Rattle.std.proofs.lemmas.List.{drop-take, length-drop, length-take-le, take-
 use Rattle.tx_events.proofs.ListSteps.{le_or_over}
 use Rattle.tx_events.specs.declared.record.Rec.{Rec}
 use Rattle.recoverable.specs.Fit.{KeptLog, base_at, log_end, recs_below}
-use Rattle.log_bases.specs.LifeBase.{LifeBase, base_after}
+use Rattle.tx_events.specs.LifeBase.{LifeBase, base_after}
 use Rattle.recoverable.specs.Volumes.{KeepsUpTo, RecoverySettles, RefusalKeeps, checkpoint_of}
-use Rattle.log_bases.proofs.Bases.{base_then}
-use Rattle.log_bases.proofs.Settling.{checkpoint_settles}
+use Rattle.tx_events.proofs.BaseSteps.{base_then, checkpoint_settles}
 
 module _ {A : Type 0} where
   take_shorter : (s t : ℕ) (xs : List A) → s ≤ t → take s (take t xs) ≡ take s xs

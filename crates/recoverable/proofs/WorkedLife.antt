@@ -18,7 +18,7 @@ use Rattle.wal_records.specs.Reading.{checkpoint_at, counters_at, id_at, multi_a
 use Rattle.recoverable.specs.Bytes.{ImageHasZeroTails, byte_of, offset_byte, slot_byte, slot_bytes}
 use Rattle.recoverable.specs.Fit.{IsCommitCode, MayBegin, XactFits, base_at}
 use Rattle.recoverable.specs.FitMultis.{MembersFit, OffsetsFit}
-use Rattle.log_bases.specs.LifeBase.{AreInOrder, IsLifeBase}
+use Rattle.tx_events.specs.LifeBase.{AreInOrder, IsLifeBase}
 use Rattle.recoverable.specs.Volumes.{ImageFits, IsWholeAt, ListFits, LogFits}
 use Rattle.recoverable.proofs.Stretches.{get_inside}
 use Rattle.recoverable.specs.WorkedLife.{recs, AreRefused, IsWorked, counters_at_3, left, log, log_volume, members, offsets, slots, states}

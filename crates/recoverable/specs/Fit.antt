@@ -7,7 +7,7 @@ use Rattle.disk_core.specs.Pages.{Pages}
 use Rattle.tx_events.specs.declared.record.Counters.{Counters}
 use Rattle.tx_events.specs.declared.record.Rec.{Rec}
 use Rattle.tx_events.specs.declared.record.Rec.TheVariants as records
-use Rattle.log_bases.specs.LifeBase.{LifeBase, base_after}
+use Rattle.tx_events.specs.LifeBase.{LifeBase, base_after}
 use Rattle.recoverable.specs.XactImages.{code_at}
 
 -- the records of a log from one on, with the base before them, and the number below which they are on disk

@@ -19,7 +19,7 @@ use Rattle.tx_core.specs.EngineInvariant.{EngineInvariant}
 use Rattle.tx_core.specs.Entries.{history, recs_in, Stands}
 use Rattle.notes.specs.Lists.{at}
 use Rattle.tx_core.specs.Locks.{log_lock, members_lock, offsets_lock, xact_lock}
-use Rattle.log_bases.specs.LifeBase.{AreBelowNext, IsLifeBase, LifeBase, base_after}
+use Rattle.tx_events.specs.LifeBase.{AreBelowNext, IsLifeBase, LifeBase, base_after}
 use Rattle.recoverable.specs.Fit.{KeptLog, MayBegin, XactFits, base_at, log_end}
 use Rattle.recoverable.specs.Volumes.{IsWholeAt, ListFits}
 use Rattle.recoverable.specs.XactImages.{Follows}

@@ -8,7 +8,7 @@ use Rattle.tx_events.specs.declared.record.Rec.TheVariants as records
 use Rattle.disk_core.specs.Pages.{Pages}
 use Rattle.disk_core.specs.Volume.{Volume}
 use Rattle.wal_core.specs.Opening.{History, next_number, opened}
-use Rattle.log_bases.specs.LifeBase.{AreBelowNext, IsLifeBase, LifeBase}
+use Rattle.tx_events.specs.LifeBase.{AreBelowNext, IsLifeBase, LifeBase}
 use Rattle.recoverable.specs.Fit.{KeptLog, MayBegin, XactFits, base_at, log_end, recs_below}
 use Rattle.recoverable.specs.Bytes.{slot_byte}
 use Rattle.recoverable.specs.FitMultis.{MembersFit, OffsetsFit, member_at, offset_at}

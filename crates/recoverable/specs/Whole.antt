@@ -21,7 +21,7 @@ use Rattle.tx_core.specs.MultiEntries.{multi_history}
 use Rattle.recoverable.specs.Bytes.{ImageHasZeroTails, StoredBytes}
 use Rattle.recoverable.specs.Fit.{KeptLog, MayBegin}
 use Rattle.recoverable.specs.Laws.{IsBeginningOf, LogFollows, LogOf, life_base}
-use Rattle.log_bases.specs.LifeBase.{AreBelowNext, IsLifeBase}
+use Rattle.tx_events.specs.LifeBase.{AreBelowNext, IsLifeBase}
 use Rattle.recoverable.specs.MemberImages.{CleanMembers, MembersFollow}
 use Rattle.recoverable.specs.OffsetImages.{CleanOffsets, OffsetsFollow}
 use Rattle.recoverable.specs.Volumes.{EndsSettled, ImageFits, Left, ListFits, VolumesFit}

@@ -4,7 +4,7 @@ use Rattle.tx_events.specs.Ids.{low_half}
 use Rattle.disk_core.specs.Pages.{Pages}
 use Rattle.tx_events.specs.declared.record.Rec.{Rec}
 use Rattle.tx_events.proofs.Membership.{contains_has, has_cases, has_contains, has_left, has_right}
-use Rattle.log_bases.specs.LifeBase.{LifeBase, committed_in}
+use Rattle.tx_events.specs.LifeBase.{LifeBase, committed_in}
 use Rattle.recoverable.specs.Fit.{IsCommitCode, KeptLog, XactFits, base_at, log_end}
 use Rattle.recoverable.specs.XactImages.{code_at}
 use Rattle.replay_multis.specs.declared.share.Share.{Share}

@@ -8,7 +8,7 @@ use Rattle.store_pages.specs.Layouts.{member_page_of, member_place_of, mode_plac
 use Rattle.tx_events.specs.declared.multi.Member.{Member}
 use Rattle.tx_events.specs.declared.record.Rec.{Rec}
 use Rattle.tx_events.specs.declared.record.Rec.TheVariants as records
-use Rattle.log_bases.specs.LifeBase.{LifeBase}
+use Rattle.tx_events.specs.LifeBase.{LifeBase}
 use Rattle.recoverable.specs.Bytes.{ImageHasZeroTails, slot_byte, slot_bytes, slot_place_of}
 use Rattle.recoverable.specs.Fit.{KeptLog, base_at, log_end}
 use Rattle.recoverable.specs.FitMultis.{MembersFit, member_at}

@@ -9,7 +9,7 @@ use Rattle.tx_events.specs.declared.multi.Member.{Member}
 use Rattle.tx_events.specs.declared.record.Rec.{Rec}
 use Rattle.tx_events.specs.declared.record.Rec.TheVariants as records
 use Rattle.tx_events.proofs.Membership.{contains_has, filter_has, has_cases, has_contains, has_filter, has_left, has_right}
-use Rattle.log_bases.specs.LifeBase.{LifeBase, is_multi}
+use Rattle.tx_events.specs.LifeBase.{LifeBase, is_multi}
 use Rattle.recoverable.specs.Bytes.{byte_of, offset_byte}
 use Rattle.recoverable.specs.Fit.{KeptLog, base_at}
 use Rattle.recoverable.specs.FitMultis.{OffsetsFit}

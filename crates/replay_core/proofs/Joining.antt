@@ -14,7 +14,7 @@ use Rattle.wal_core.specs.LogViews.{KeepsAll, log_disk, log_first, log_flushed, 
 use Rattle.wal_core.specs.declared.wal_log.WalLog.{WalLog}
 use Rattle.recoverable.specs.Fit.{IsCommitCode, KeptLog, MayBegin, XactFits, base_at, log_end, recs_below}
 use Rattle.recoverable.specs.FitMultis.{MembersFit, OffsetsFit}
-use Rattle.log_bases.specs.LifeBase.{LifeBase, committed_in}
+use Rattle.tx_events.specs.LifeBase.{LifeBase, committed_in}
 use Rattle.recoverable.specs.Volumes.{IsNextOf, Left, ListFits, Restored, VolumesFit}
 use Rattle.tx_events.specs.Pages.{member_page_in_full}
 use Rattle.replay_core.specs.Spans.{member_span, offset_span}

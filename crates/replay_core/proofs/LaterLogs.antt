@@ -18,10 +18,10 @@ use Rattle.wal_core.specs.Log.{history_in}
 use Rattle.wal_core.specs.LogContents.{ComesTo}
 use Rattle.wal_core.specs.Opening.{History, Opened, next_number, no_counters, opened}
 use Rattle.recoverable.specs.Fit.{KeptLog, MayBegin, base_at, log_end, recs_below}
-use Rattle.log_bases.specs.LifeBase.{AreBelowNext, IsLifeBase, LifeBase, base_after, committed_in, is_multi}
+use Rattle.tx_events.specs.LifeBase.{AreBelowNext, IsLifeBase, LifeBase, base_after, committed_in, is_multi}
 use Rattle.recoverable.specs.Volumes.{KeepsUpTo, ListFits, LogFits, checkpoint_of}
 use Rattle.recoverable.proofs.LogBases.{committed_below, multi_below, multi_grows, offset_grows}
-use Rattle.log_bases.proofs.Bases.{base_then}
+use Rattle.tx_events.proofs.BaseSteps.{base_then}
 use Rattle.recoverable.proofs.Opened.{first_is, first_stands, history_comes, log_opens}
 use Rattle.recoverable.proofs.Stretches.{get_inside}
 use Rattle.replay_core.specs.Redo.{AreNear}

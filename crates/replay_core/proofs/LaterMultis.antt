@@ -4,7 +4,7 @@ use Rattle.std.specs.List.{filter}
 use Rattle.tx_events.specs.declared.record.Rec.{Rec}
 use Rattle.tx_events.specs.declared.record.Rec.TheVariants as records
 use Rattle.tx_events.proofs.Membership.{contains_has, has_contains, has_left}
-use Rattle.log_bases.specs.LifeBase.{LifeBase, base_after, is_multi}
+use Rattle.tx_events.specs.LifeBase.{LifeBase, base_after, is_multi}
 use Rattle.recoverable.specs.Fit.{KeptLog, base_at, log_end}
 use Rattle.recoverable.proofs.LogBases.{multi_grows, offset_grows, oldest_multi_grows}
 use Rattle.replay_core.specs.Laws.{end_base, up_to, with_checkpoint}

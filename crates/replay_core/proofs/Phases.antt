@@ -4,12 +4,11 @@ use Rattle.std.proofs.Math.Seq.{take-add}
 use Rattle.std.proofs.lemmas.List.{length-take-le}
 use Rattle.tx_events.specs.declared.record.Rec.{Rec}
 use Rattle.tx_events.proofs.Membership.{contains_has, has_contains, has_left}
-use Rattle.log_bases.specs.LifeBase.{LifeBase, base_after, committed_in}
+use Rattle.tx_events.specs.LifeBase.{LifeBase, base_after, committed_in}
 use Rattle.recoverable.specs.Fit.{KeptLog, base_at, log_end}
 use Rattle.recoverable.specs.Volumes.{checkpoint_of}
 use Rattle.recoverable.proofs.LogBases.{next_grows, oldest_grows}
-use Rattle.log_bases.proofs.Bases.{base_then}
-use Rattle.log_bases.proofs.Settling.{checkpoint_settles}
+use Rattle.tx_events.proofs.BaseSteps.{base_then, checkpoint_settles}
 use Rattle.replay_core.specs.Laws.{CheckpointFits, CutFits, end_base, up_to, with_checkpoint}
 
 -- a later base goes on from an earlier one

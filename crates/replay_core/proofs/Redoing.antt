@@ -13,7 +13,7 @@ use Rattle.slru_bank.specs.Calls.{faults_of, pages_of, volume_of}
 use Rattle.slru_bank.specs.Crash.{no_call, runs_then, wider}
 use Rattle.slru_bank.specs.declared.bank.SlruBank.{SlruBank}
 use Rattle.slru_bank.specs.declared.refusal.BankRefusal.{BankRefusal}
-use Rattle.log_bases.specs.LifeBase.{committed_by, committed_in}
+use Rattle.tx_events.specs.LifeBase.{committed_by, committed_in}
 use Rattle.recoverable.specs.XactImages.{code_at}
 use Rattle.recoverable.proofs.Stretches.{flat_map_has}
 use Rattle.replay_multis.specs.declared.share.Share.{Share}

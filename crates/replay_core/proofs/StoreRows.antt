@@ -5,7 +5,7 @@ use Rattle.disk_core.specs.declared.page_disk.PageDisk as disks
 use Rattle.tx_events.specs.declared.record.Counters.{Counters}
 use Rattle.tx_events.specs.declared.record.Rec.{Rec}
 use Rattle.tx_events.specs.declared.refusal.Lock.TheVariants as locks
-use Rattle.log_bases.specs.LifeBase.{committed_in}
+use Rattle.tx_events.specs.LifeBase.{committed_in}
 use Rattle.replay_multis.specs.declared.offsets.OffsetSpan.{OffsetSpan}
 use Rattle.replay_multis.specs.declared.redo_members.MemberSpan.{MemberSpan}
 use Rattle.replay_core.specs.Banks.{EmptiesBanks, IsStoreRefusal, RestoresBanks, members_become, members_leave, offsets_become, offsets_leave, states_become, states_leave}

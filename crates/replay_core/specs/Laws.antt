@@ -4,7 +4,7 @@ use Rattle.tx_events.specs.Ids.{low_half}
 use Rattle.disk_core.specs.Pages.{Pages}
 use Rattle.store_pages.specs.Layouts.{xact_page_of}
 use Rattle.tx_events.specs.declared.record.Rec.{Rec}
-use Rattle.log_bases.specs.LifeBase.{LifeBase, committed_in}
+use Rattle.tx_events.specs.LifeBase.{LifeBase, committed_in}
 use Rattle.recoverable.specs.Fit.{IsCommitCode, KeptLog, XactFits, base_at, log_end, recs_below}
 use Rattle.recoverable.specs.Volumes.{checkpoint_of}
 use Rattle.recoverable.specs.XactImages.{code_at}

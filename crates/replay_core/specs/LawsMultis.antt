@@ -6,7 +6,7 @@ use Rattle.disk_core.specs.Pages.{Pages, page_bytes}
 use Rattle.store_pages.specs.Layouts.{member_page_of, word_page_of}
 use Rattle.tx_events.specs.Pages.{member_page_in_full}
 use Rattle.tx_events.specs.declared.record.Rec.{Rec}
-use Rattle.log_bases.specs.LifeBase.{AreBelowNext, IsLifeBase, LifeBase, is_multi}
+use Rattle.tx_events.specs.LifeBase.{AreBelowNext, IsLifeBase, LifeBase, is_multi}
 use Rattle.recoverable.specs.Bytes.{ImageHasZeroTails, slot_byte}
 use Rattle.recoverable.specs.Fit.{KeptLog, base_at, log_end}
 use Rattle.recoverable.specs.FitMultis.{MembersFit, OffsetsFit, ShowsMembers, ShowsNoGap, ShowsNoOffset, ShowsOffsets, member_at, offset_at}

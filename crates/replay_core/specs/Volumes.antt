@@ -7,7 +7,7 @@ use Rattle.wal_core.specs.LogViews.{KeepsAll, log_disk}
 use Rattle.wal_core.specs.declared.wal_log.WalLog.{WalLog}
 use Rattle.recoverable.specs.Clusters.{IsLeft}
 use Rattle.recoverable.specs.Fit.{KeptLog}
-use Rattle.log_bases.specs.LifeBase.{LifeBase}
+use Rattle.tx_events.specs.LifeBase.{LifeBase}
 use Rattle.recoverable.specs.Volumes.{NotRecovered, Recovered}
 
 module _ {L P : Type 0} (l : logs.Ghosts L) (p : disks.Ghosts P) where

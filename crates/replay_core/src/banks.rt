@@ -1,7 +1,7 @@
 // The volumes of the banks, one after another, each in its place.
 ghost use Rattle.std.specs.Prelude.{◌≡◌, ◌+◌, ◌<◌, ◌≤◌, ◌^◌, insert, length, vec_capacity};
 ghost use Rattle.tx_events.specs.declared.refusal.Lock.TheVariants as locks;
-ghost use Rattle.log_bases.specs.LifeBase.{committed_in};
+ghost use Rattle.tx_events.specs.LifeBase.{committed_in};
 ghost use Rattle.replay_multis.specs.Named.{AreMembersBelow, AreMultisNear};
 ghost use Rattle.replay_core.specs.Redo.{AreNear};
 ghost use Rattle.replay_core.specs.Restore.{IsWindow};

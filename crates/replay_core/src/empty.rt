@@ -3,7 +3,7 @@ ghost use Rattle.std.specs.Prelude.{◌≡◌, ◌≤◌, [], ◌∷◌, IfOk, I
 ghost use Rattle.disk_core.specs.Faults.{CountsFault};
 ghost use Rattle.disk_core.specs.Images.{Only};
 ghost use Rattle.slru_bank.specs.Crash.{CrashLeaves};
-ghost use Rattle.log_bases.specs.LifeBase.{committed_by, committed_in};
+ghost use Rattle.tx_events.specs.LifeBase.{committed_by, committed_in};
 ghost use Rattle.replay_multis.specs.Empty.{HasNoPages, IsSameImage};
 ghost use Rattle.replay_core.specs.Redo.{NamesNone};
 

@@ -1,6 +1,6 @@
 // The pages of all stores, as the log gives them.
 ghost use Rattle.std.specs.Prelude.{◌+◌, ◌<◌};
-ghost use Rattle.log_bases.specs.LifeBase.{committed_in};
+ghost use Rattle.tx_events.specs.LifeBase.{committed_in};
 ghost use Rattle.replay_core.specs.PageVolumes.{AreFew, RestoresPages};
 ghost use Rattle.replay_core.specs.Redo.{AreNear};
 ghost use Rattle.replay_core.specs.Restore.{IsWindow};

@@ -1,7 +1,7 @@
 //! The whole of a recovery.
 ghost use Rattle.std.specs.Prelude.{◌≡◌, ◌≤◌, IfErr, IfOk, IsTrue, length};
 ghost use Rattle.recoverable.specs.Fit.{KeptLog};
-ghost use Rattle.log_bases.specs.LifeBase.{committed_in};
+ghost use Rattle.tx_events.specs.LifeBase.{committed_in};
 ghost use Rattle.replay_core.specs.Redo.{AreNear};
 ghost use Rattle.replay_core.specs.Restore.{IsWindow};
 ghost use Rattle.wal_core.specs.LogViews.{log_disk, log_next};

@@ -2,7 +2,7 @@
 ghost use Rattle.std.specs.Prelude.{◌≡◌, ◌+◌, ◌<◌, ◌≤◌, [], ◌∷◌};
 ghost use Rattle.slru_bank.specs.Calls.{IsCut, cutoff_of};
 ghost use Rattle.store_pages.specs.Layouts.{xact_page_of};
-ghost use Rattle.log_bases.specs.LifeBase.{committed_by, committed_in};
+ghost use Rattle.tx_events.specs.LifeBase.{committed_by, committed_in};
 ghost use Rattle.replay_core.specs.Redo.{AreNear, IsNamed, IsOne, RedoesBank};
 
 use disk_core::PageDisk;

@@ -2,7 +2,7 @@
 ghost use Rattle.std.specs.Prelude.{◌≡◌, ◌≤◌, Err, IsTrue, OnOk};
 ghost use Rattle.disk_core.specs.Faults.{HasRisen};
 ghost use Rattle.slru_bank.specs.Crash.{CrashLeaves};
-ghost use Rattle.log_bases.specs.LifeBase.{committed_in};
+ghost use Rattle.tx_events.specs.LifeBase.{committed_in};
 ghost use Rattle.replay_core.specs.Redo.{AreNear, IsNamed};
 ghost use Rattle.replay_core.specs.Restore.{HasBytesOnDisk, IsWindow, MayRestore, RestoresAll, bytes_on};
 ghost use Rattle.replay_multis.specs.declared.refusal.RestoreRefusal.TheVariants.{DiskFault};

@@ -2,7 +2,7 @@
 ghost use Rattle.std.specs.Prelude.{◌≡◌, ◌≤◌};
 ghost use Rattle.slru_bank.specs.Calls.{cutoff_of};
 ghost use Rattle.store_pages.specs.Layouts.{xact_page_of};
-ghost use Rattle.log_bases.specs.LifeBase.{committed_in};
+ghost use Rattle.tx_events.specs.LifeBase.{committed_in};
 ghost use Rattle.replay_core.specs.Redo.{AreNear, IsNamed};
 ghost use Rattle.replay_core.specs.Restore.{IsWindow, RestoresBank};
 

@@ -1,9 +1,8 @@
 -- One life more.
 use Rattle.std.proofs.Common.{List, [], ap, arith, length, length-append, suc, sym, take, ℕ, ◌++◌, ◌+◌, ◌-◌, ◌<◌, ◌∙◌, ◌∷◌, ◌≡◌, ◌≤◌}
 use Rattle.std.proofs.Math.Seq.{take-append-add}
-use Rattle.log_bases.specs.LifeBase.{LifeBase, base_after}
-use Rattle.log_bases.proofs.Bases.{base_then}
-use Rattle.log_bases.proofs.Settling.{checkpoint_settles}
+use Rattle.tx_events.specs.LifeBase.{LifeBase, base_after}
+use Rattle.tx_events.proofs.BaseSteps.{base_then, checkpoint_settles}
 use Rattle.tx_events.specs.declared.record.Rec.{Rec}
 use Rattle.tx_events.specs.declared.record.Rec.TheVariants as records
 use Rattle.tx_model.specs.declared.report.Life.{Life}

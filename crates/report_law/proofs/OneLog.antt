@@ -3,8 +3,8 @@ use Rattle.std.proofs.Common.{List, Some, [], ap, append-nil, arith, length, ref
 use Rattle.std.proofs.Math.Seq.{take-append-add}
 use Rattle.std.proofs.lemmas.List.{length-take-le}
 use Rattle.std.proofs.lemmas.Option.{same_Some}
-use Rattle.log_bases.specs.LifeBase.{LifeBase, base_after}
-use Rattle.log_bases.proofs.Bases.{base_then}
+use Rattle.tx_events.specs.LifeBase.{LifeBase, base_after}
+use Rattle.tx_events.proofs.BaseSteps.{base_then}
 use Rattle.tx_events.specs.declared.record.Rec.{Rec}
 use Rattle.tx_model.specs.declared.report.LifeReport.{LifeReport}
 use Rattle.life_law.specs.Laws.{IsLawful}

@@ -2,7 +2,7 @@
 use Rattle.std.proofs.Common.{List, Some, [], ap, arith, refl, subst, suc, sym, take, zero, ℕ, ⊎_elim, ◌++◌, ◌+◌, ◌-◌, ◌∙◌, ◌∷◌, ◌≡◌, ◌≤◌, slice_get}
 use Rattle.std.proofs.lemmas.List.{take-take}
 use Rattle.std.proofs.lemmas.Option.{same_Some}
-use Rattle.log_bases.specs.LifeBase.{LifeBase, committed_by, committed_in}
+use Rattle.tx_events.specs.LifeBase.{LifeBase, committed_by, committed_in}
 use Rattle.tx_events.specs.declared.record.Rec.{Rec}
 use Rattle.tx_events.specs.declared.record.Rec.TheVariants as records
 use Rattle.tx_events.proofs.Membership.{Has, contains_has, has_contains, has_left, has_right, has_take}

@@ -1,7 +1,7 @@
 -- What the definitions say of a run's lives together.
 use Rattle.std.specs.Prelude.{◌≡◌, ℕ, ◌-◌, ◌<◌, List, ◌∷◌, Contains, Some, slice_get, take}
 use Rattle.tx_events.specs.declared.record.Rec.TheVariants as records
-use Rattle.log_bases.specs.LifeBase.{base_after}
+use Rattle.tx_events.specs.LifeBase.{base_after}
 use Rattle.tx_model.specs.declared.command.Command.TheVariants as commands
 use Rattle.tx_model.specs.declared.report.LifeReport.{LifeReport}
 use Rattle.tx_model.specs.declared.report.Line.{Line}

@@ -1,7 +1,7 @@
 -- The lives of a run: each later one begins from what a front of the log of the one before makes of its base.
 use Rattle.std.specs.Prelude.{◌≡◌, ℕ, ◌+◌, ◌-◌, ◌≤◌, List, [], ◌∷◌, ◌++◌, take, length}
 use Rattle.tx_events.specs.declared.record.Rec.{Rec}
-use Rattle.log_bases.specs.LifeBase.{LifeBase, base_after}
+use Rattle.tx_events.specs.LifeBase.{LifeBase, base_after}
 use Rattle.tx_model.specs.declared.report.Life.{Life}
 use Rattle.tx_model.specs.declared.report.LifeReport.{LifeReport}
 

@@ -8,7 +8,7 @@ use Rattle.tx_model.specs.declared.report.How.{How}
 use Rattle.tx_model.specs.declared.report.LifeReport.{LifeReport}
 use Rattle.tx_model.specs.declared.report.Life.{Life}
 use Rattle.life_law.specs.LawfulLife.{IsLawfulLife}
-use Rattle.log_bases.specs.LifeBase.{LifeBase}
+use Rattle.tx_events.specs.LifeBase.{LifeBase}
 use Rattle.report_law.specs.Lives.{GoOn, base_of}
 use Rattle.report_text.specs.ReportText.{end_text, front_text, life_line, lives_text, rest_text, step_text, title_text}
 use Rattle.session_lang.specs.declared.script.Item.{Item}

@@ -16,7 +16,7 @@ use Rattle.tx_model.specs.declared.report.How.{How}
 use Rattle.tx_model.specs.declared.report.Life.{Life}
 use Rattle.tx_model.specs.declared.report.LifeReport.{LifeReport}
 use Rattle.wal_core.specs.Opening.{opened}
-use Rattle.log_bases.specs.LifeBase.{base_after}
+use Rattle.tx_events.specs.LifeBase.{base_after}
 use Rattle.report_law.specs.Lives.{GoesOnFrom, base_of}
 use Rattle.report_law.proofs.GoingOn.{behind_push, goes_on_at}
 use Rattle.session_lang.specs.declared.script.Script.{Script}

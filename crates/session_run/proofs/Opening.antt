@@ -8,7 +8,7 @@ use Rattle.disk_core.specs.declared.media.Volumes.{Volumes}
 use Rattle.disk_core.specs.Media.{HasBanks}
 use Rattle.tx_events.specs.declared.record.Counters.{Counters}
 use Rattle.tx_events.proofs.Membership.{contains_has}
-use Rattle.log_bases.specs.LifeBase.{LifeBase}
+use Rattle.tx_events.specs.LifeBase.{LifeBase}
 use Rattle.recoverable.specs.Fit.{KeptLog, base_at, log_end}
 use Rattle.session_lang.specs.declared.script.Script.{Script}
 use Rattle.run_law.specs.Lives.{RunStart}

@@ -16,7 +16,7 @@ use Rattle.tx_core.specs.EngineInvariant.{EngineInvariant}
 use Rattle.tx_core.specs.Entries.{AreFewIds, flushed_to, recs_in}
 use Rattle.tx_core.specs.Locks.{log_lock, xact_lock}
 use Rattle.recoverable.specs.Fit.{KeptLog, base_at}
-use Rattle.log_bases.specs.LifeBase.{AreBelowNext, committed_by, committed_in}
+use Rattle.tx_events.specs.LifeBase.{AreBelowNext, committed_by, committed_in}
 use Rattle.recoverable.specs.LogSteps.{log_behind}
 use Rattle.recoverable.specs.Laws.{life_base}
 use Rattle.recoverable.specs.Whole.{BeganRight, StatesLeft, new_log}

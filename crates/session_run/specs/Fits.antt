@@ -6,7 +6,7 @@ use Rattle.disk_core.specs.declared.media.Volumes.{Volumes}
 use Rattle.tx_events.specs.declared.record.Rec.{Rec}
 use Rattle.tx_events.specs.declared.record.Rec.TheVariants as records
 use Rattle.tx_model.specs.declared.report.Life.{Life}
-use Rattle.log_bases.specs.LifeBase.{base_after}
+use Rattle.tx_events.specs.LifeBase.{base_after}
 use Rattle.report_law.specs.Lives.{base_of}
 use Rattle.recoverable.specs.Fit.{KeptLog}
 use Rattle.engine_life.specs.Lives.{FitsLog}

@@ -1,6 +1,6 @@
 -- What the pages of offsets and members show when a life begins. As in `CleanStart` it speaks of the start alone.
 use Rattle.std.specs.Prelude.{◌≡◌, ℕ, ◌+◌, ◌^◌, ◌<◌, ◌≤◌, Contains, IsTrue, List, length, slice_get, Option, Some, None}
-use Rattle.log_bases.specs.LifeBase.{AreInOrder}
+use Rattle.tx_events.specs.LifeBase.{AreInOrder}
 use Rattle.tx_events.specs.Ids.{IsFullMulti, low_half}
 use Rattle.tx_events.specs.declared.multi.Member.{Member}
 use Rattle.tx_events.specs.declared.record.Rec.TheVariants as records

@@ -31,3 +31,4 @@ pub mod Searching
 pub mod SaysLemmas
 pub mod Nearness
 pub mod MultiPlaces
+pub mod BaseSteps

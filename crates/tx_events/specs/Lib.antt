@@ -13,6 +13,7 @@ pub mod Visible
 pub mod Snapshots
 pub mod Horizon
 pub mod Base
+pub mod LifeBase
 pub mod After
 pub mod RecordNumber
 pub mod RecordSize

@@ -1,5 +1,6 @@
-//! Laws on pages and limits. The functions do nothing; their contracts are the laws.
+//! Laws on pages, limits and bases. The functions do nothing; their contracts are the laws.
 ghost use Rattle.std.specs.Prelude.{ℕ, ◌≤◌};
+ghost use Rattle.tx_events.specs.LifeBase.{BasesAdd};
 ghost use Rattle.tx_events.specs.Limits.{LimitsRise};
 ghost use Rattle.tx_events.specs.PageOrder.{Ids, Multis, Offsets, IsKeptFrom};
 
@@ -16,4 +17,9 @@ pub fn pages_are_kept()
 /// No limit falls where the oldest number rises.
 pub fn limits_rise()
     ensures { (a b : ℕ) → a ≤ b → LimitsRise a b }
+{}
+
+/// The base behind two stretches of records is the one that the second gives from the base behind the first.
+pub fn bases_add()
+    ensures { BasesAdd }
 {}

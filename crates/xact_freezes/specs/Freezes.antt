@@ -6,7 +6,7 @@ use Rattle.disk_core.specs.declared.page_disk.PageDisk as disks
 use Rattle.hall.specs.declared.hall.Hall.{Hall}
 use Rattle.hall.specs.Calls.{start_of, view}
 use Rattle.notes.specs.Lists.{Grows}
-use Rattle.log_bases.specs.LifeBase.{AreInOrder}
+use Rattle.tx_events.specs.LifeBase.{AreInOrder}
 use Rattle.tx_events.specs.Ids.{low_half}
 use Rattle.tx_events.specs.Multis.{multi_by, pin_limit}
 use Rattle.tx_events.specs.declared.event.By.{By}

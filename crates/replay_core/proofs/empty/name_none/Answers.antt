@@ -1,6 +1,6 @@
 use Rattle.std.proofs.Common.{List, ℕ, ◌∙◌, ap, arith, subst, sym, take}
 use Rattle.tx_events.specs.declared.record.Rec.{Rec}
-use Rattle.log_bases.specs.LifeBase.{committed_by, committed_in}
+use Rattle.tx_events.specs.LifeBase.{committed_by, committed_in}
 use Rattle.replay_core.specs.Redo.{NamesNone}
 use Rattle.replay_core.proofs.Emptying.{none_both}
 use Rattle.replay_core.proofs.Redoing.{committed_push, named_none, take_at, take_whole}

@@ -1,5 +1,5 @@
 use Rattle.std.proofs.Common.{length, ◌-◌, ◌≤◌, take}
-use Rattle.log_bases.specs.LifeBase.{committed_in}
+use Rattle.tx_events.specs.LifeBase.{committed_in}
 use Rattle.replay_core.specs.Redo.{NamesNone}
 use Rattle.replay_core.proofs.empty.name_none.Given as goal
 

@@ -1,7 +1,7 @@
 use Rattle.std.proofs.Common.{Err, List, Ok, Some, arith, length, subst, sym, ◌∙◌, ◌≡◌, ◌≤◌}
 use Rattle.std.specs.List.{slice_get}
 use Rattle.tx_events.specs.declared.record.Rec.{Rec}
-use Rattle.log_bases.specs.LifeBase.{committed_in}
+use Rattle.tx_events.specs.LifeBase.{committed_in}
 use Rattle.wal_core.specs.LogViews.{log_disk, log_first, log_next}
 use Rattle.replay_core.specs.Redo.{AreNear}
 use Rattle.replay_core.specs.Banks.{NoCountFell, members_become, offsets_become, states_become}

@@ -1,6 +1,6 @@
 use Rattle.std.proofs.Common.{List, ℕ, ◌++◌, ◌∷◌, ◌∙◌, ◌≡◌, [], ap, rules, subst, sym}
 use Rattle.tx_events.proofs.Membership.{Has, has_left, has_right}
-use Rattle.log_bases.specs.LifeBase.{committed_by}
+use Rattle.tx_events.specs.LifeBase.{committed_by}
 use Rattle.replay_core.specs.Redo.{IsNamed, RedoesBank}
 use Rattle.replay_core.proofs.Redoing.{both_redone, failed_wider, named_cases, named_in, near_in}
 use Rattle.replay_core.proofs.redo.redo_record.Goals as goal

@@ -1,7 +1,7 @@
 use Rattle.std.proofs.Common.{List, ℕ, ◌++◌, ◌∙◌, Ok, ap, arith, rules, subst, sym, take}
 use Rattle.tx_events.proofs.Membership.{has_left, has_right}
 use Rattle.tx_events.specs.declared.record.Rec.{Rec}
-use Rattle.log_bases.specs.LifeBase.{committed_by, committed_in}
+use Rattle.tx_events.specs.LifeBase.{committed_by, committed_in}
 use Rattle.replay_core.specs.Redo.{IsNamed, RedoesBank}
 use Rattle.replay_core.proofs.Redoing.{both_failed, both_redone, committed_item, committed_push, committed_taken, named_cases, named_in, near_in, take_at, take_whole}
 use Rattle.replay_core.proofs.redo.redo_records.Goals as goal

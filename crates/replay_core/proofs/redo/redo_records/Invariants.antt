@@ -1,5 +1,5 @@
 use Rattle.std.proofs.Common.{length, ◌-◌, ◌≤◌, Ok, take}
-use Rattle.log_bases.specs.LifeBase.{committed_in}
+use Rattle.tx_events.specs.LifeBase.{committed_in}
 use Rattle.replay_core.specs.Redo.{IsNamed, RedoesBank}
 use Rattle.replay_core.proofs.redo.redo_records.Given as goal
 

@@ -1,5 +1,5 @@
 use Rattle.std.proofs.Common.{ℕ, subst, sym}
-use Rattle.log_bases.specs.LifeBase.{committed_in}
+use Rattle.tx_events.specs.LifeBase.{committed_in}
 use Rattle.slru_bank.specs.Calls.{volume_of}
 use Rattle.slru_bank.specs.Crash.{CrashLeaves}
 use Rattle.replay_core.specs.Redo.{IsNamed}

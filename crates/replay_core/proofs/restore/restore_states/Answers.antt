@@ -1,6 +1,6 @@
 use Rattle.std.proofs.Common.{OnOk, ℕ, subst}
 use Rattle.disk_core.specs.Pages.{Pages, page_bytes}
-use Rattle.log_bases.specs.LifeBase.{committed_in}
+use Rattle.tx_events.specs.LifeBase.{committed_in}
 use Rattle.replay_core.specs.Redo.{IsNamed}
 use Rattle.replay_core.specs.Restore.{RestoresAll, bytes_on}
 use Rattle.replay_core.proofs.Emptying.{left_then, restored_empty}

@@ -1,7 +1,7 @@
 use Rattle.std.proofs.Common.{Err, ◌≡◌, ◌∙◌, ap, rules, subst, true}
 use Rattle.tx_events.specs.PageOrder.{Ids, is_cut}
 use Rattle.store_pages.specs.Layouts.{xact_page_of}
-use Rattle.log_bases.specs.LifeBase.{committed_in}
+use Rattle.tx_events.specs.LifeBase.{committed_in}
 use Rattle.slru_bank.specs.Calls.{cutoff_of}
 use Rattle.replay_core.specs.Redo.{IsNamed}
 use Rattle.replay_core.proofs.Restoring.{flushed, page_kept, redo_failed, trim_failed}

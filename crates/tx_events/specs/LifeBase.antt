@@ -63,3 +63,7 @@ pub record IsLifeBase (base : LifeBase) : Type 0 where
   pub committed : (x : ℕ) → Contains base.committed x → (3 ≤ x) × (x < base.counters.next)
   pub multis : AreBelowNext base
   pub in_order : AreInOrder base.counters base.recorded
+
+-- the base behind two stretches of records is the one that the second gives from the base behind the first
+abbrev pub BasesAdd : Type 0
+BasesAdd = (base : LifeBase) (xs ys : List Rec) → base_after base (xs ++ ys) ≡ base_after (base_after base xs) ys

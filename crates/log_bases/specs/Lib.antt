@@ -1,2 +1,0 @@
-pub mod LifeBase
-pub mod Laws

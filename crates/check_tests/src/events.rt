@@ -4,7 +4,7 @@ ghost use Rattle.tx_events.specs.Events.{by_of};
 
 use std::process::Abort;
 use tx_events::{
-    By, Counters, Event, FullMulti, FullXid, Member, MemberList, Mode, MultiEvent, Name,
+    By, Counters, Event, FullMulti, FullXid, Member, MemberList, Mode, MultiEvent, Name, Sequence,
 };
 
 pub fn id<R: Abort>(rt: &R, number: u64) -> FullXid {
@@ -84,12 +84,12 @@ pub enum MultiAct {
 }
 
 fn members<R: Abort + AllocGlobal>(rt: &R, mode: Mode, count: usize) -> MemberList {
-    let mut list = MemberList::new(rt.alloc());
+    let mut list = Sequence::new(rt.alloc());
     let id = id(rt, 3);
     for _n in 0..count {
         assert!(rt; list.push(Member { id, mode }).is_ok());
     }
-    list
+    MemberList::of(rt.alloc(), list).expect(rt, "memory")
 }
 
 /// The session's event, of its first command.

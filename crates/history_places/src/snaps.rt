@@ -3,7 +3,7 @@ ghost use Rattle.std.specs.Prelude.{◌≡◌, ◌↔◌, IsTrue, Some};
 ghost use Rattle.std.specs.Option.{option_copied};
 ghost use Rattle.history_places.specs.SnapMarks.{IsMarkOf};
 
-use tx_events::{FullXid, IdList, SnapData};
+use tx_events::{FullXid, SharedIds, SnapData};
 
 /// What is kept of a snapshot.
 #[derive(Clone, Copy, Debug, PartialEq, Eq)]
@@ -13,7 +13,7 @@ pub struct SnapMark {
     pub right: bool,
 }
 
-fn same_ids(one: &IdList, other: &IdList) -> bool
+fn same_ids(one: &SharedIds, other: &SharedIds) -> bool
     ensures { IsTrue result ↔ (one.now ≡ other.now) }
 {
     one.items() == other.items()

@@ -4,7 +4,7 @@ ghost use Rattle.multi_makes.specs.Full.{AreFullOf, AreNotFull, IsGivenNear, IsN
 
 use proc_sections::Horizons;
 use std::alloc::Global;
-use tx_events::{FullXid, Member, MemberList, Memory, Refusal, Xid, near};
+use tx_events::{FullXid, Member, MemberList, Memory, Refusal, Sequence, Xid, near};
 use tx_model::Pair;
 
 /// The full id that a stored half means near the next one. `NotGiven` where it is a special one or wasn't given,
@@ -46,7 +46,7 @@ pub(crate) fn full_members(
     requires to { found.now.next < 2 ^ 63 }
     ensures { MatchResult result (AreFullOf found.now.next pairs.now) (AreNotFull found.now.next found.now.oldest pairs.now) }
 {
-    let mut members = MemberList::new(alloc);
+    let mut members = Sequence::new(alloc);
     for pair in pairs {
         match full_id(found, pair.x) {
             Ok(id) => {
@@ -62,5 +62,5 @@ pub(crate) fn full_members(
             Err(refusal) => return Err(refusal),
         }
     }
-    Ok(members)
+    Ok(MemberList::of(alloc, members)?)
 }

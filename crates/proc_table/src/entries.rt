@@ -8,7 +8,7 @@ ghost use Rattle.proc_table.specs.Lists.{entries_below, tops_of, subs_of, some_o
 
 use crate::entry::Entry;
 use std::alloc::Global;
-use tx_events::{FullXid, IdList, Memory};
+use tx_events::{FullXid, IdList, Memory, SharedIds};
 
 /// The id that was given last to the transaction of this top.
 pub fn last_given(entries: &[Entry], top: FullXid) -> Option<FullXid>
@@ -100,7 +100,7 @@ pub fn least_top(from: FullXid, entries: &[Entry]) -> FullXid
 }
 
 /// The tops below the limit, in order.
-pub fn tops_below(alloc: Global, entries: &[Entry], limit: FullXid) -> Result<IdList, Memory>
+pub fn tops_below(alloc: Global, entries: &[Entry], limit: FullXid) -> Result<SharedIds, Memory>
     ensures { IfOk result (λ l. l ≡ tops_of (entries_below entries.now limit)) }
 {
     let mut tops = IdList::new(alloc);
@@ -109,7 +109,7 @@ pub fn tops_below(alloc: Global, entries: &[Entry], limit: FullXid) -> Result<Id
             tops.push(entry.top)?;
         }
     }
-    Ok(tops)
+    SharedIds::of(alloc, tops)
 }
 
 /// Whether one of the entries with a top below the limit has overflowed.
@@ -130,15 +130,15 @@ pub fn listed_subs(
     entries: &[Entry],
     limit: FullXid,
     overflowed: bool,
-) -> Result<IdList, Memory>
+) -> Result<SharedIds, Memory>
     ensures { IfOk result (λ l. AreListed entries.now limit overflowed l) }
 {
     if overflowed {
-        return Ok(IdList::new(alloc));
+        return SharedIds::of(alloc, IdList::new(alloc));
     }
     let mut subs = subs_below(alloc, entries, limit)?;
     subs.sort()?;
-    Ok(IdList::of(subs))
+    SharedIds::of(alloc, IdList::of(subs))
 }
 
 /// The subids of the entries with a top below the limit, entry by entry.

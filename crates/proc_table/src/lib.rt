@@ -4,7 +4,6 @@
 #![tactic(auto)]
 
 mod answers;
-mod contents;
 mod entries;
 mod entry;
 mod live;

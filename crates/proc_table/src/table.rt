@@ -16,7 +16,6 @@ ghost use Rattle.tx_events.specs.Ids.{IsFullId, next_id};
 ghost use Rattle.proc_table.specs.Table.{Table, InTurn, Gives, Adds, Takes, Raises, Asks, IsOpenTop, data_at, next_of, oldest_of, xmin_of, page_of};
 
 use crate::answers::{Asked, Given};
-use crate::contents::copy_of;
 use crate::entries::{
     add_id, drop_top, has_overflow_below, is_running, last_given, least_top, listed_subs,
     make_sub_room, take_ids, top_of, tops_below,
@@ -228,17 +227,17 @@ impl ProcTable {
         Ok(())
     }
 
-    /// What a snapshot holds that is taken now. It is computed once, and copied until an end, an undo or a sub event
+    /// What a snapshot holds that is taken now. It is computed once, and shared until an end, an undo or a sub event
     /// changes it (`GetSnapshotDataReuse`).
     pub fn snapshot_data(&mut self) -> Result<SnapData, Memory>
         ensures data { IfOk result (λ s. s ≡ data_at self.old) }
         ensures same { self.new ≡ self.old }
     {
         if let Some(contents) = &self.contents {
-            return copy_of(*self.events.allocator(), contents);
+            return Ok(contents.clone()?);
         }
         let contents = self.compute()?;
-        let copy = copy_of(*self.events.allocator(), &contents)?;
+        let copy = contents.clone()?;
         self.contents = Some(contents);
         self.computations = self.computations.wrapping_add(1);
         Ok(copy)

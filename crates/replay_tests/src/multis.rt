@@ -5,7 +5,7 @@ use disk_core::PageDisk;
 use std::alloc::AllocGlobal;
 use std::process::Abort;
 use store_pages::{MemberPages, OffsetPages};
-use tx_events::{FullMulti, Member, MemberList, Mode, MultiId, Rec};
+use tx_events::{FullMulti, Member, MemberList, Mode, MultiId, Rec, Sequence};
 
 /// A multixact of two members, which hold the row.
 pub fn multi(
@@ -15,7 +15,7 @@ pub fn multi(
     first: u64,
     second: u64,
 ) -> Rec {
-    let mut members = MemberList::new(rt.alloc());
+    let mut members = Sequence::new(rt.alloc());
     let first = Member {
         id: id(rt, first),
         mode: Mode::Sh,
@@ -29,7 +29,7 @@ pub fn multi(
     Rec::Multi {
         multi: FullMulti::new(number).expect(rt, "a multixact"),
         offset,
-        members,
+        members: MemberList::of(rt.alloc(), members).expect(rt, "memory"),
     }
 }
 

@@ -15,20 +15,20 @@ use report_words::{
 };
 use std::alloc::Global;
 use tx_events::FullMulti;
-use tx_model::{By, MemberList, Memory, MultiEvent, NameList};
+use tx_model::{By, MemberList, Memory, MultiEvent, NameList, Sequence};
 
 #[tactic(auto, unfolding(crate::specs::Events::gen_at))]
 fn gen_at(alloc: Global, by: By, multi: FullMulti, rest: &[u8]) -> Result<MultiEvent, Unread>
     ensures { Gives (λ x. x) result (gen_at by multi (behind rest.now)) }
 {
     let (offset, rest) = number_at(rest)?;
-    let mut members = MemberList::new(alloc);
+    let mut members = Sequence::new(alloc);
     let _rest = read_members(&mut members, rest)?;
     Ok(MultiEvent::Gen {
         by,
         multi,
         offset,
-        members,
+        members: MemberList::of(alloc, members)?,
     })
 }
 

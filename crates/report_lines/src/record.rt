@@ -13,7 +13,7 @@ use report_words::{
     multi_fits, number_at, read_ids, read_members, word_at,
 };
 use std::alloc::Global;
-use tx_model::{IdList, MemberList, Memory, Rec};
+use tx_model::{IdList, MemberList, Memory, Rec, Sequence};
 
 /// The record of a transaction's end, behind its number.
 #[tactic(auto, unfolding(crate::specs::Records::ended_at))]
@@ -41,12 +41,12 @@ fn multi_record_at(alloc: Global, rest: &[u8]) -> Result<Rec, Unread>
     let (multi, rest) = number_at(rest)?;
     let multi = full_multi(multi)?;
     let (offset, rest) = number_at(rest)?;
-    let mut members = MemberList::new(alloc);
+    let mut members = Sequence::new(alloc);
     let _rest = read_members(&mut members, rest)?;
     Ok(Rec::Multi {
         multi,
         offset,
-        members,
+        members: MemberList::of(alloc, members)?,
     })
 }
 
@@ -99,12 +99,12 @@ fn fits_record(number: u64, rec: &Rec) -> bool
     match rec {
         Rec::Commit { top, subs } => {
             id_fits(*top);
-            ids_fit(subs);
+            ids_fit(subs.items());
             true
         }
         Rec::Abort { top, subs } => {
             id_fits(*top);
-            ids_fit(subs);
+            ids_fit(subs.items());
             true
         }
         Rec::Multi {

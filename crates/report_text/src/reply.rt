@@ -8,7 +8,9 @@ ghost use Rattle.report_text.specs.ReplyText.{reply_words, warned, status_word, 
 use crate::member::put_verdicts;
 use crate::refusal::{put_refusal, refusal_word};
 use crate::text::{Text, name_of, put_numbers_or_dash, put_yes_or_no};
-use tx_model::{ByteList, IdList, Memory, NameList, Reply, SnapData, Status, VerdictList};
+use tx_model::{
+    ByteList, IdList, Memory, NameList, Reply, SharedIds, SnapData, Status, VerdictList,
+};
 
 /// An arrow behind a space.
 #[tactic(auto, unfolding(crate::specs::Words::more))]
@@ -43,7 +45,7 @@ fn put_wrote(out: &mut Text, ids: &IdList, warn: bool) -> Result<(), Memory>
 }
 
 #[tactic(auto, using(crate::proofs::MoreWords::then_more))]
-fn put_xip(out: &mut Text, ids: &IdList) -> Result<(), Memory>
+fn put_xip(out: &mut Text, ids: &SharedIds) -> Result<(), Memory>
     ensures ok { OnOk result (out.new ≡ out.old ++ more (codes "xip" ∷ numbers_or_dash ids.now)) }
 {
     out.word(b"xip")?;
@@ -51,7 +53,7 @@ fn put_xip(out: &mut Text, ids: &IdList) -> Result<(), Memory>
 }
 
 #[tactic(auto, using(crate::proofs::MoreWords::then_more))]
-fn put_subxip(out: &mut Text, ids: &IdList) -> Result<(), Memory>
+fn put_subxip(out: &mut Text, ids: &SharedIds) -> Result<(), Memory>
     ensures ok { OnOk result (out.new ≡ out.old ++ more (codes "sub" ∷ numbers_or_dash ids.now)) }
 {
     out.word(b"sub")?;

@@ -9,7 +9,7 @@ use crate::printed::Printed;
 use itoa::Buffer;
 use std::alloc::Global;
 use std::marker::Model;
-use tx_model::{IdList, Memory, NameList};
+use tx_model::{IdList, Memory, NameList, SharedIds};
 
 /// A text. After want of memory it may have grown by a part of what was to be added.
 #[derive(Drop)]
@@ -91,7 +91,7 @@ impl Text {
     }
 
     /// The top-level ids of a snapshot, each behind a space, or a dash. The words of those printed last are copied.
-    pub fn tops(&mut self, ids: &IdList) -> Result<(), Memory>
+    pub fn tops(&mut self, ids: &SharedIds) -> Result<(), Memory>
         ensures ok { OnOk result (self.new ≡ self.old ++ more (numbers_or_dash ids.now)) }
     {
         if ids.items().is_empty() {
@@ -101,7 +101,7 @@ impl Text {
     }
 
     /// The same for the ids of subtransactions.
-    pub fn subs(&mut self, ids: &IdList) -> Result<(), Memory>
+    pub fn subs(&mut self, ids: &SharedIds) -> Result<(), Memory>
         ensures ok { OnOk result (self.new ≡ self.old ++ more (numbers_or_dash ids.now)) }
     {
         if ids.items().is_empty() {

@@ -6,7 +6,7 @@ ghost use Rattle.report_words.specs.Fits.{FitsId, FitsMulti, FitsBy, FitsCounter
 use crate::reply::Kind;
 use tx_events::{FullMulti, FullXid, Xid};
 use tx_model::{
-    By, ByteList, Counters, IdList, Lock, MemberList, NameList, PairList, Refusal, Reply, SnapData,
+    By, ByteList, Counters, Lock, MemberList, NameList, PairList, Refusal, Reply, SnapData,
     VerdictList,
 };
 
@@ -35,10 +35,10 @@ pub fn multi_fits(multi: FullMulti)
 }
 
 /// The ids of a list are.
-pub fn ids_fit(ids: &IdList)
+pub fn ids_fit(ids: &[FullXid])
     ensures { AllByRecursion FitsId ids.now }
 {
-    for id in ids.items() {
+    for id in ids {
         id_fits(*id);
     }
 }
@@ -94,8 +94,8 @@ fn snapshot_fits(lists: &SnapData)
 {
     id_fits(lists.xmin);
     id_fits(lists.xmax);
-    ids_fit(&lists.xip);
-    ids_fit(&lists.subxip);
+    ids_fit(lists.xip.items());
+    ids_fit(lists.subxip.items());
 }
 
 /// Whether the session has a name.
@@ -136,7 +136,7 @@ pub fn fits_reply(kind: Kind, reply: &Reply) -> bool
     match reply {
         Reply::Done => kind == Kind::Plain,
         Reply::Wrote { ids, .. } => {
-            ids_fit(ids);
+            ids_fit(ids.items());
             kind == Kind::Ids
         }
         Reply::Snapped { lists } => {

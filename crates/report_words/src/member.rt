@@ -9,7 +9,7 @@ use crate::unread::Unread;
 use crate::word::{full_id, is_word, number_of, word_at};
 use std::alloc::Global;
 use tx_events::Xid;
-use tx_model::{Member, MemberList, MemberVerdict, Mode, Pair, PairList, Verdict, VerdictList};
+use tx_model::{Member, MemberVerdict, Mode, Pair, PairList, Sequence, Verdict, VerdictList};
 
 #[tactic(auto, unfolding(crate::specs::Members::mode_of))]
 fn mode_of(word: &[u8]) -> Result<Mode, Unread>
@@ -114,7 +114,7 @@ pub fn read_pairs<'a>(pairs: &mut PairList, rest: &'a [u8]) -> Result<&'a [u8], 
 
 /// The members up to an arrow, and the place behind them.
 #[tactic(auto, using(crate::proofs::Items::item_step, crate::proofs::Items::item_end, crate::proofs::Items::word_shorter))]
-pub fn read_members<'a>(members: &mut MemberList, rest: &'a [u8]) -> Result<&'a [u8], Unread>
+pub fn read_members<'a>(members: &mut Sequence<Member>, rest: &'a [u8]) -> Result<&'a [u8], Unread>
     ensures { Gives (λ r. (members.new, behind r.now)) result (until_arrow member_of members.old (behind rest.now)) }
 {
     let mut rest = rest;

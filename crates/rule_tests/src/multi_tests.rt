@@ -6,7 +6,7 @@ use Step::{Counts, Events, Hold, Holds, Next, Raise, Unhold};
 use multi_store::{Held, MultiGen, MultiGiven, check_members};
 use std::process::Abort;
 use tx_events::Mode::{ForNoKeyUpd, ForUpd, KeySh, NoKeyUpd, Sh, Upd};
-use tx_events::{By, Counters, Member, MemberList, Mode, MultiId, Refusal, is_base};
+use tx_events::{By, Counters, Member, MemberList, Mode, MultiId, Refusal, Sequence, is_base};
 
 /// What is done next, and what comes of it.
 #[derive(Clone, Copy)]
@@ -251,14 +251,14 @@ fn by(session: u32) -> By
 }
 
 fn members(rt: &(impl Abort + AllocGlobal), groups: &[(Mode, usize)]) -> MemberList {
-    let mut list = MemberList::new(rt.alloc());
+    let mut list = Sequence::new(rt.alloc());
     let id = id(rt, 3);
     for (mode, count) in groups {
         for _ in 0..*count {
             assert!(rt; list.push(Member { id, mode: *mode }).is_ok());
         }
     }
-    list
+    MemberList::of(rt.alloc(), list).expect(rt, "memory")
 }
 
 fn generator(rt: &(impl Abort + AllocGlobal), start: [u64; 4]) -> MultiGen {

@@ -8,7 +8,7 @@ use Wrote::{Id, NeedsPage, Warned};
 use proc_table::{Asked, Given};
 use std::process;
 use tx_events::XactEnd::{Abort, Commit};
-use tx_events::{IdList, Name, Refusal, XactEnd};
+use tx_events::{Name, Refusal, SharedIds, XactEnd};
 
 /// What is done next, and what comes of it.
 #[derive(Clone, Copy)]
@@ -221,7 +221,7 @@ fn written(rt: &impl process::Abort, wanted: Wrote) -> Result<Given, Refusal> {
     }
 }
 
-fn are(ids: &IdList, numbers: &[u64]) -> bool {
+fn are(ids: &SharedIds, numbers: &[u64]) -> bool {
     if ids.items().len() != numbers.len() {
         return false;
     }

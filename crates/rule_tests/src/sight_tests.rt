@@ -1,17 +1,17 @@
 // What snapshots say, from rows worked out by hand.
 use std::process::Abort;
-use tx_events::{FullXid, IdList, Sight, SnapData, sight_of, sight_of_top};
+use tx_events::{FullXid, IdList, SharedIds, Sight, SnapData, sight_of, sight_of_top};
 
 fn id<R: Abort>(rt: &R, number: u64) -> FullXid {
     FullXid::new(number).expect(rt, "an id")
 }
 
-fn ids<R: Abort + AllocGlobal>(rt: &R, from: u64, to: u64) -> IdList {
+fn ids<R: Abort + AllocGlobal>(rt: &R, from: u64, to: u64) -> SharedIds {
     let mut list = IdList::new(rt.alloc());
     for number in from..to {
         assert!(rt; list.push(id(rt, number)).is_ok());
     }
-    list
+    SharedIds::of(rt.alloc(), list).expect(rt, "memory")
 }
 
 /// The sights of committed ids, by number.
@@ -54,7 +54,7 @@ fn an_overflowed_snapshot_asks_parents(rt: HostRuntime) {
         xmin: id(&rt, 3),
         xmax: id(&rt, 71),
         xip: ids(&rt, 3, 4),
-        subxip: IdList::new(rt.alloc()),
+        subxip: ids(&rt, 4, 4),
         overflowed: true,
     };
     let wanted = [

@@ -4,8 +4,12 @@ use crate::reports::two_sessions;
 use report_text::{Text, put_command_line};
 use std::alloc::AllocGlobal;
 use std::process::Abort;
-use tx_events::{Lock, Mode, Refusal, Sequence, SnapData, Xid};
+use tx_events::{IdList, Lock, Mode, Refusal, Sequence, SharedIds, SnapData, Xid};
 use tx_model::{By, Command, MemberVerdict, Reply, Verdict};
+
+fn shared(rt: &(impl Abort + AllocGlobal), ids: IdList) -> SharedIds {
+    SharedIds::of(rt.alloc(), ids).expect(rt, "memory")
+}
 
 /// With this reply the line of a `begin` is this one.
 fn check_line(rt: &(impl Abort + AllocGlobal), reply: &Reply, wanted: &str) {
@@ -29,8 +33,8 @@ pub fn snapshots_have_a_dash_for_no_ids(rt: &(impl Abort + AllocGlobal)) {
         lists: SnapData {
             xmin: id(rt, 3),
             xmax: id(rt, 71),
-            xip: list(rt, [id(rt, 3)]),
-            subxip: Sequence::new(rt.alloc()),
+            xip: shared(rt, list(rt, [id(rt, 3)])),
+            subxip: shared(rt, Sequence::new(rt.alloc())),
             overflowed: true,
         },
     };

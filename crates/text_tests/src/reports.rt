@@ -53,7 +53,7 @@ fn members(rt: &(impl Abort + AllocGlobal)) -> MemberList {
         id: id(rt, 4),
         mode: Mode::Upd,
     };
-    list(rt, [first, second])
+    MemberList::of(rt.alloc(), list(rt, [first, second])).expect(rt, "memory")
 }
 
 fn line(session: u32, number: u64, command: Command, reply: Reply) -> Line {

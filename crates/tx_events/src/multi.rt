@@ -5,6 +5,7 @@ ghost use Rattle.tx_events.specs.Modes.{mode_number, mode_of};
 
 use crate::event::By;
 use crate::sequence::{Copied, Memory, Sequence};
+use crate::shared::Shared;
 use crate::{FullMulti, FullXid};
 
 /// The mode in which a member holds a row (`MultiXactStatus`), numbered 0 to 5 in this order.
@@ -65,8 +66,8 @@ impl Copied for Member {
     }
 }
 
-/// The members of a multixact, in order.
-pub type MemberList = Sequence<Member>;
+/// The members of a multixact, in order, which copies share.
+pub type MemberList = Shared<Member>;
 
 /// What happened under the lock of the multixacts (`src/backend/access/transam/multixact.c`).
 #[derive(Clone, Drop)]

@@ -1,6 +1,6 @@
 //! What a snapshot holds.
 use crate::FullXid;
-use crate::sequence::IdList;
+use crate::shared::SharedIds;
 
 /// What a snapshot holds (`SnapshotData`): no id below `xmin` runs, none at or past `xmax` counts as ended, and
 /// between them those of `xip` (top-level ids) and `subxip` run, ascending. Where `overflowed`, `subxip` is empty
@@ -9,7 +9,7 @@ use crate::sequence::IdList;
 pub struct SnapData {
     pub xmin: FullXid,
     pub xmax: FullXid,
-    pub xip: IdList,
-    pub subxip: IdList,
+    pub xip: SharedIds,
+    pub subxip: SharedIds,
     pub overflowed: bool,
 }

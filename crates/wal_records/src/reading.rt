@@ -10,7 +10,9 @@ ghost use Rattle.wal_records.specs.Reading.{Gives, GivesAt, number_at, id_at, mu
 use crate::stop::Stop;
 use byteorder::{ByteOrder, LittleEndian};
 use std::alloc::Global;
-use tx_events::{Counters, FullMulti, FullXid, IdList, Member, MemberList, Memory, Mode, Rec};
+use tx_events::{
+    Counters, FullMulti, FullXid, IdList, Member, MemberList, Memory, Mode, Rec, Sequence,
+};
 
 // Each reader takes what it reads off the front of `rest`.
 
@@ -124,11 +126,11 @@ fn ids_from(alloc: Global, count: u32, last: u64, rest: &mut &[u8]) -> Result<Id
 fn members_from(alloc: Global, count: u32, rest: &mut &[u8]) -> Result<MemberList, Stop>
     ensures { GivesAt result rest.new.now (members_at count rest.old.now) }
 {
-    let mut members = MemberList::new(alloc);
+    let mut members = Sequence::new(alloc);
     for _ in 0..count {
         members.push(one_member(rest)?)?;
     }
-    Ok(members)
+    Ok(MemberList::of(alloc, members)?)
 }
 
 #[tactic(auto, unfolding(crate::specs::Reading::tree_at))]

@@ -1,6 +1,6 @@
 //! Records as tables say them, and their bytes.
 use std::process::Abort;
-use tx_events::{Counters, FullMulti, FullXid, IdList, Member, MemberList, Mode, Rec};
+use tx_events::{Counters, FullMulti, FullXid, IdList, Member, MemberList, Mode, Rec, Sequence};
 use wal_records::{is_lawful, read_rec, rec_length, write_rec};
 
 #[derive(Clone, Copy)]
@@ -33,14 +33,14 @@ fn ids_of(rt: &(impl Abort + AllocGlobal), numbers: &[u64]) -> IdList {
 }
 
 fn members_of(rt: &(impl Abort + AllocGlobal), groups: &[(Mode, u64, usize)]) -> MemberList {
-    let mut list = MemberList::new(rt.alloc());
+    let mut list = Sequence::new(rt.alloc());
     for (mode, number, count) in groups {
         let id = id_of(rt, *number);
         for _ in 0..*count {
             assert!(rt; list.push(Member { id, mode: *mode }).is_ok());
         }
     }
-    list
+    MemberList::of(rt.alloc(), list).expect(rt, "memory")
 }
 
 pub fn rec_of(rt: &(impl Abort + AllocGlobal), record: Record<'_>) -> Rec {

@@ -1,5 +1,6 @@
 //! The text of a life, from its front to its end, and how it is written.
 ghost use Rattle.std.specs.Prelude.{◌≡◌, ◌++◌, ℕ, IfOk, OnErr, OnOk, take};
+ghost use Rattle.std.specs.List.{flat_map};
 ghost use Rattle.std.specs.Io.KnownBytes.{Appends};
 ghost use Rattle.tx_events.specs.Ids.{IsFullMulti};
 ghost use Rattle.tx_io.specs.Causes.{HasCause};
@@ -8,6 +9,7 @@ ghost use Rattle.run_law.specs.Lives.{IsFrontOf, last_text};
 use crate::Steps;
 use report_text::{Text, begin_report, put_life_line};
 use std::alloc::Global;
+use text_pieces::Pieces;
 use tx_io::{Failed, Sink, write_all};
 use tx_model::{Counters, How, Memory};
 
@@ -16,8 +18,8 @@ use tx_model::{Counters, How, Memory};
 pub struct LifeText {
     pub front: Text,
     pub steps: Steps,
-    pub histories: Text,
-    pub log: Text,
+    pub histories: Pieces,
+    pub log: Pieces,
 }
 
 /// The next multixact and the oldest one of counters are numbers of multixacts.
@@ -49,8 +51,8 @@ pub fn whole_text(
     from: u64,
     base: &Counters,
     steps: Steps,
-    histories: Text,
-    log: Text,
+    histories: Pieces,
+    log: Pieces,
     crash: Option<How>,
 ) -> Result<LifeText, Memory>
     ensures front { IfOk result (λ text. IsFrontOf number from base.now text.front) }
@@ -62,7 +64,7 @@ pub fn whole_text(
     have_full_multis(base);
     let mut log = log;
     if crash.is_none() {
-        log.short_line(b"end")?;
+        log.put_word(b"end")?;
     }
     let front = front_of(alloc, number, from, base)?;
     Ok(LifeText {
@@ -73,23 +75,47 @@ pub fn whole_text(
     })
 }
 
+// Texts, one behind another, or a front of that.
+fn put_texts<K: Sink>(sink: &mut K, texts: &[Text]) -> Result<(), Failed>
+    ensures ok { OnOk result (Appends (K.held sink.old) (K.held sink.new) (flat_map (λ text. text) texts.now)) }
+    ensures front { OnErr result ((n : ℕ)
+        × Appends (K.held sink.old) (K.held sink.new) (take n (flat_map (λ text. text) texts.now))) }
+    ensures cause { HasCause (K.faults sink.old) (K.faults sink.new) result }
+{
+    for text in texts {
+        write_all(sink, text.bytes())?;
+    }
+    Ok(())
+}
+
+// A text in pieces, or a front of it.
+fn put_pieces<K: Sink>(sink: &mut K, pieces: &Pieces) -> Result<(), Failed>
+    ensures ok { OnOk result (Appends (K.held sink.old) (K.held sink.new) pieces.now) }
+    ensures front { OnErr result ((n : ℕ) × Appends (K.held sink.old) (K.held sink.new) (take n pieces.now)) }
+    ensures cause { HasCause (K.faults sink.old) (K.faults sink.new) result }
+{
+    let (front, last) = pieces.parts();
+    put_texts(sink, front)?;
+    write_all(sink, last.bytes())
+}
+
 // One text behind the other, or a front of both.
-fn put_both<K: Sink>(sink: &mut K, first: &Text, second: &Text) -> Result<(), Failed>
+fn put_both<K: Sink>(sink: &mut K, first: &Pieces, second: &Pieces) -> Result<(), Failed>
     ensures ok { OnOk result (Appends (K.held sink.old) (K.held sink.new) (first.now ++ second.now)) }
     ensures front { OnErr result ((n : ℕ)
         × Appends (K.held sink.old) (K.held sink.new) (take n (first.now ++ second.now))) }
     ensures cause { HasCause (K.faults sink.old) (K.faults sink.new) result }
 {
-    write_all(sink, first.bytes())?;
-    write_all(sink, second.bytes())
+    put_pieces(sink, first)?;
+    put_pieces(sink, second)
 }
 
 // What stands behind the front of a life, or a front of that.
 fn put_behind<K: Sink>(
     sink: &mut K,
     steps: &Steps,
-    histories: &Text,
-    log: &Text,
+    histories: &Pieces,
+    log: &Pieces,
 ) -> Result<(), Failed>
     ensures ok { OnOk result (Appends (K.held sink.old) (K.held sink.new) (steps.now ++ (histories.now ++ log.now))) }
     ensures front { OnErr result ((n : ℕ)

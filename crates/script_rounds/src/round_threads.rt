@@ -36,4 +36,16 @@ impl RoundThreads {
         };
         count.max(1)
     }
+
+    /// On how many threads a list of what was done is printed: on one where each session has its own.
+    pub fn count_to_print(self) -> usize
+        ensures some { 0 < result }
+        ensures many { (most : ℕ) → self ≡ ways.AtMost most → 1 ≤ most → result ≡ most }
+        ensures each { self ≡ ways.OneEach → result ≡ 1 }
+    {
+        match self {
+            RoundThreads::AtMost(most) => most.max(1),
+            RoundThreads::OneEach => 1,
+        }
+    }
 }

@@ -128,12 +128,14 @@ fn run_part<L: LogDisk + Send + Sync + Drop, P: PageDisk + Send + Sync + Drop>(
 
 /// Writes the text of a part that was run in the life of this number, and the crash that ends it. Gives the volumes back,
 /// and a note of the log that they fit.
-fn tell_part<K: Sink, L: LogDisk + Drop, P: PageDisk + Drop>(
+fn tell_part<R: Threads + Sync, K: Sink, L: LogDisk + Drop, P: PageDisk + Drop>(
+    rt: &R,
     alloc: Global,
     names: &NameList,
     lived: Lived<L, P>,
     number: u64,
     crash: Option<How>,
+    threads: RoundThreads,
     sink: &mut K,
 ) -> (Volumes<L, P>, Result<Note<FittedLog>, Stopped>)
     requires lived { (its : List Item) × (c : Clustered) × (b : Beginning) × (faults : List ℕ) × (mounted : Mounted L P)
@@ -155,7 +157,8 @@ fn tell_part<K: Sink, L: LogDisk + Drop, P: PageDisk + Drop>(
     let left = log_left(&ended);
     let Ended { start: _, closed } = ended;
     let from = closed.number();
-    let (volumes, ended) = end_life(alloc, closed, names, crash);
+    let count = threads.count_to_print();
+    let (volumes, ended) = end_life(rt, alloc, closed, names, crash, count);
     let Ok(end) = ended else {
         return (volumes, Err(Stopped::NoLife(NoLife::Memory)));
     };
@@ -202,11 +205,13 @@ fn go_on<M: Media>(
 }
 
 /// Ends the last part of a script: writes its text.
-fn end_run<K: Sink, M: Media>(
+fn end_run<R: Threads + Sync, K: Sink, M: Media>(
+    rt: &R,
     alloc: Global,
     names: &NameList,
     lived: Lived<M::Log, M::Pages>,
     number: u64,
+    threads: RoundThreads,
     sink: &mut K,
     media: &mut M,
 ) -> Result<(), Stopped>
@@ -222,7 +227,7 @@ fn end_run<K: Sink, M: Media>(
     ensures count { M.faults media.old ≤ M.faults media.new }
     ensures sink { K.faults sink.old ≤ K.faults sink.new }
 {
-    let (volumes, told) = tell_part(alloc, names, lived, number, None, sink);
+    let (volumes, told) = tell_part(rt, alloc, names, lived, number, None, threads, sink);
     media.rest(volumes);
     match told {
         Ok(_) => Ok(()),
@@ -231,7 +236,8 @@ fn end_run<K: Sink, M: Media>(
 }
 
 /// Ends a part of a script that a crash ends: writes its text, makes the crash, and opens the next life.
-fn end_part<K: Sink, M: Media>(
+fn end_part<R: Threads + Sync, K: Sink, M: Media>(
+    rt: &R,
     alloc: Global,
     rooms: &mut LifeRooms<M::Pages>,
     names: &NameList,
@@ -239,6 +245,7 @@ fn end_part<K: Sink, M: Media>(
     lived: Lived<M::Log, M::Pages>,
     number: u64,
     how: How,
+    threads: RoundThreads,
     sink: &mut K,
     media: &mut M,
 ) -> Result<OpenLife<M::Log, M::Pages>, Stopped>
@@ -257,7 +264,7 @@ fn end_part<K: Sink, M: Media>(
     ensures count { M.faults media.old ≤ M.faults media.new }
     ensures sink { K.faults sink.old ≤ K.faults sink.new }
 {
-    let (volumes, told) = tell_part(alloc, names, lived, number, Some(how), sink);
+    let (volumes, told) = tell_part(rt, alloc, names, lived, number, Some(how), threads, sink);
     let log = match told {
         Ok(log) => log,
         Err(stop) => {
@@ -328,11 +335,11 @@ where
             None => {
                 // Before the text of what it left the last life needs no list of commands any more.
                 drop(list);
-                return end_run(alloc, &names, lived, number, sink, media);
+                return end_run(rt, alloc, &names, lived, number, threads, sink, media);
             }
         };
         life = end_part(
-            alloc, &mut rooms, &names, &cluster, lived, number, how, sink, media,
+            rt, alloc, &mut rooms, &names, &cluster, lived, number, how, threads, sink, media,
         )?;
         items = behind;
         number += 1;

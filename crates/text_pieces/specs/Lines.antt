@@ -3,7 +3,7 @@ use Rattle.std.specs.Prelude.{ℕ, ◌+◌, Err, List, Ok, Result, [], ◌∷◌
 use Rattle.std.specs.List.{flat_map}
 
 -- the line of each element, the first one of which has this place
-unfoldable pub lines_text : {X : Type 0} → (ℕ → X → List ℕ) → ℕ → List X → List ℕ
+abbrev pub lines_text : {X : Type 0} → (ℕ → X → List ℕ) → ℕ → List X → List ℕ
 lines_text line place [] = []
 lines_text line place (x ∷ xs) = line place x ++ lines_text line (place + 1) xs
 

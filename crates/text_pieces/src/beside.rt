@@ -1,5 +1,5 @@
 //! A long list is printed in pieces side by side.
-ghost use Rattle.std.specs.Prelude.{◌≡◌, ◌*◌, ◌/◌, ◌+◌, ◌%◌, ◌<◌, ℕ, IfOk, length, min, slice_index_or, vec_len};
+ghost use Rattle.std.specs.Prelude.{◌≡◌, ◌*◌, ◌/◌, ◌+◌, ◌%◌, ◌<◌, ℕ, IfOk, length, min, slice_index_or};
 ghost use Rattle.std.specs.Fork.{slice_chunk};
 ghost use Rattle.text_pieces.specs.Lines.{lines_text};
 
@@ -21,8 +21,8 @@ pub fn print_beside<R: Threads + Sync, X: Listed + Sync>(
 where
     X::By: Sync,
     requires size { 0 < size }
-    ensures count { IfOk result (λ pieces. vec_len pieces ≡ length items.now / size + min 1 (length items.now % size)) }
-    ensures pieces { IfOk result (λ pieces. (n : ℕ) (d : _) → n < vec_len pieces
+    ensures count { IfOk result (λ pieces. length pieces.items ≡ length items.now / size + min 1 (length items.now % size)) }
+    ensures pieces { IfOk result (λ pieces. (n : ℕ) (d : _) → n < length pieces.items
         → IfOk (slice_index_or pieces.items n d) (λ text. text ≡ lines_text (X.line by.now) (n * size) (slice_chunk items.now size n))) }
 {
     let pieces = thread::map_chunks(

@@ -140,6 +140,7 @@ impl Pieces {
     }
 
     /// Records, numbered from this one on.
+    #[tactic(auto, using(crate::proofs::Printed::lines_numbered))]
     pub fn put_records<R: Threads + Sync>(
         &mut self,
         rt: &R,

@@ -8,6 +8,8 @@ mod generated;
 #[cfg(test)]
 mod help;
 #[cfg(test)]
+mod piece_tests;
+#[cfg(test)]
 mod replies;
 #[cfg(test)]
 mod report_tests;

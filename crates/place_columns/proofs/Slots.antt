@@ -1,9 +1,9 @@
 -- In which slot each place stands.
-use Rattle.std.proofs.Common.{◌≡◌, ◌≢◌, ℕ, ◌+◌, ◌<◌, ◌≤◌, List, [], ◌∷◌, length, get_or, set, take, drop, refl, ap, sym, subst, ◌∙◌, arith, ⊎_elim, Bool, true, false, cond, ◌==◌, nat_lt, ◌-◌}
+use Rattle.std.proofs.Common.{◌≡◌, ◌≢◌, ℕ, ◌+◌, ◌<◌, ◌≤◌, List, [], ◌∷◌, length, get_or, set, take, ap, sym, subst, ◌∙◌, arith, ⊎_elim, cond, ◌==◌, nat_lt, ◌-◌}
 use Rattle.std.specs.List.{All, between, count_by}
 use Rattle.std.proofs.lemmas.Bool.{cases_lt}
 use Rattle.std.proofs.lemmas.Bool.Decides.{nat_tests}
-use Rattle.std.proofs.lemmas.List.{get_or-set_other, get_or-set_same, length-set, same_lists, take-take}
+use Rattle.std.proofs.lemmas.List.{get_or-set_other, get_or-set_same, same_lists, take-take}
 use Rattle.std.proofs.lemmas.Grind.{get_or_default_zero}
 use Rattle.std.proofs.lemmas.List.Edits.{get_or-between, length-between}
 use Rattle.std.proofs.lemmas.List.Sums.{count_by-le-length, count_by_more_yes, sum_by-cons, sum_by-take-le}

@@ -1,4 +1,4 @@
-use Rattle.std.proofs.Common.{◌≡◌, ◌+◌, ◌<◌, ◌≤◌, List, ℕ, ap, sym, subst, ◌∙◌, arith, length, map}
+use Rattle.std.proofs.Common.{◌≡◌, ◌+◌, ◌≤◌, List, ℕ, ap, sym, subst, ◌∙◌, arith, length, map}
 use Rattle.std.specs.List.{All}
 use Rattle.place_columns.specs.Columns.{IsColumn}
 use Rattle.place_columns.specs.declared.lines.LineAt.{LineAt}

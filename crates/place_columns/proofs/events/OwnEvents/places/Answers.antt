@@ -1,4 +1,4 @@
-use Rattle.std.proofs.Common.{◌≡◌, ℕ, List, ◌≤◌, ◌∙◌, ap, subst, sym, length}
+use Rattle.std.proofs.Common.{ℕ, List, ◌≤◌, ◌∙◌, ap, subst, sym, length}
 use Rattle.std.specs.List.{between}
 use Rattle.place_columns.specs.Lined.{Numbered, places_of}
 use Rattle.place_columns.proofs.Making.{part_is, part_rises, part_within}

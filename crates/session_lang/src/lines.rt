@@ -39,7 +39,7 @@ fn printable_run(bytes: &[u8], at: usize) -> usize
     ensures printable { ArePrintable bytes.now at (at + result) }
 {
     let v = u8x16::from_slice(&bytes[at..]);
-    let stops = v.simd_lt(u8x16::splat(b' ')) | v.simd_gt(u8x16::splat(b'~'));
+    let stops = v.simd_lt(u8x16::splat(b' ')) | v.simd_ge(u8x16::splat(0x7f));
     first_set(stops.to_bitmask())
 }
 

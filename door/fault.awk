@@ -4,13 +4,16 @@
 # all is well.
 
 BEGIN {
-    # what each command, behind its session's name, and each directive looks like; `later` are commands not run yet
-    split("begin,save,write,release,undo,commit,abort,snap NAME,drop NAME,see NAME ID,status ID,did ID,horizon,freeze ID", runs, ",")
-    split("trim,multi ID:MODE ..,seemulti NAME MULTIXACT,multifreeze MULTIXACT", later, ",")
+    # what each command, behind its session's name, and each directive looks like
+    split("begin,save,write,release,undo,commit,abort,snap NAME,drop NAME,see NAME ID,seemulti NAME MULTIXACT,status ID,did ID," \
+          "horizon,freeze ID,multi ID:MODE ..,multifreeze MULTIXACT,trim", runs, ",")
     split(".start ID,.oldest ID,.multi MULTIXACT,.offset OFFSET,.oldest-multi MULTIXACT,.oldest-offset OFFSET,.banks COUNT", heads, ",")
     split(".round,.checkpoint,.crash HOW,.dump STORE PAGE AT LENGTH", steps, ",")
-    commands = "begin, save, write, release, undo, commit, abort, snap, drop, see, status, did, horizon and freeze"
-    learn(runs, form); learn(later, form)
+    commands = "begin, save, write, release, undo, commit, abort, snap, drop, see, seemulti, status, did, horizon, freeze, " \
+               "multi, multifreeze and trim"
+    directives = ".start, .oldest, .multi, .offset, .oldest-multi, .oldest-offset and .banks, before all commands, " \
+                 ".round, .checkpoint, .crash and .dump"
+    learn(runs, form)
     learn(heads, head); learn(steps, step)
     form_of_log = ".dump log AT LENGTH"
 
@@ -142,7 +145,7 @@ function of_byte(line,    at, bare) {
 
 function of_directive() {
     if (!(first in head)) say(quoted(first) " is no directive" nearest(first, head, step), 1, \
-        "directives are .start and .oldest, before all commands, .round, .checkpoint, .crash and .dump")
+        "directives are " directives)
     else if (first in line_of) say(quoted(first) " stands in line " line_of[first] " already", 1, "")
     else say(quoted(first) " comes too late: the first command or .round is in line " body, 1, \
         "what a script begins with stands before all commands")
@@ -157,11 +160,7 @@ function of_session(    small) {
 function is_name(text) { return text ~ /^[a-z][a-z0-9]*$/ && length(text) <= 16 }
 
 function of_command() {
-    if (verb == ".dump")
-        say(quoted(second) " is not shown yet", 2, "stores that are shown are xact, subtrans and log")
-    else if (verb in form)
-        say(quoted(verb) " is not run yet", 2, "commands are " commands)
-    else if (words == 1 && tolower(first) in form)
+    if (words == 1 && tolower(first) in form)
         say("a line begins with the name of a session: did you mean \"a " tolower(first) "\"?", 1, "commands are " commands)
     else if (words == 1)
         say("session " quoted(first) " is given no command", 0, "commands are " commands)

@@ -1,6 +1,5 @@
 -- How many numbers are below one, and the greatest of them.
 use Rattle.std.proofs.Common.{◌≡◌, ℕ, ◌+◌, ◌<◌, ◌≤◌, List, [], ◌∷◌, ◌++◌, length, get_or, max, refl, ap, ◌∙◌, arith, Bool, false, cond, ◌==◌, nat_lt, length-append, ⊎_elim}
-use Rattle.std.specs.Global.{Vec}
 use Rattle.std.specs.List.{AllByRecursion, count_by}
 use Rattle.std.proofs.lemmas.Bool.{cases_lt}
 use Rattle.std.proofs.lemmas.Bool.Decides.{nat_tests}
@@ -8,8 +7,7 @@ use Rattle.std.proofs.lemmas.List.Sums.{count_by-le-length, sum_by-cons}
 use Rattle.std.proofs.Math.ListN.{get_or-append}
 use Rattle.std.proofs.Math.Seq.{get_or-append_seam}
 use Rattle.place_columns.specs.Lined.{most_of}
-use Rattle.place_columns.specs.Tables.{AreCounts, AreListed}
-use Rattle.place_columns.proofs.Placing.{length_places}
+use Rattle.place_columns.specs.Tables.{AreCounts, AreTotals}
 
 abbrev one_or_none : Bool → ℕ
 one_or_none t = cond t 1 0
@@ -39,9 +37,9 @@ count_none (k ∷ ks) =
     let rest = count_none ks in
     omega arith
 
-pub next_below : (ks : List ℕ) (n below : ℕ) (lists : List (Vec ℕ)) (w : Vec ℕ) → AreListed ks lists → n < length lists → w ≡ get_or lists n w → below ≡ count_by (λ k. nat_lt k n) ks → below + length w.items ≡ count_by (λ k. nat_lt k (n + 1)) ks
-next_below ks n below lists w a l w_is is =
-    let theirs : length w.items ≡ count_by (λ k. k == n) ks = ap (λ (u : Vec ℕ). length u.items) w_is ∙ ap (λ (t : List ℕ). length t) (a n l w) ∙ length_places n 0 ks in
+pub next_below : (ks : List ℕ) (n below : ℕ) (totals : List ℕ) → AreTotals ks totals → n < length totals → below ≡ count_by (λ k. nat_lt k n) ks → below + get_or totals n 0 ≡ count_by (λ k. nat_lt k (n + 1)) ks
+next_below ks n below totals a l is =
+    let theirs = a n l in
     let next = count_next n ks in
     omega arith
 

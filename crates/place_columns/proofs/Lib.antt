@@ -11,4 +11,5 @@ pub mod LineSteps
 pub mod Making
 pub mod Numbering
 pub mod Placing
+pub mod Slots
 pub mod Counting

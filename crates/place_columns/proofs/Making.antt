@@ -1,19 +1,20 @@
 -- The tables, made.
-use Rattle.std.proofs.Common.{◌≡◌, ℕ, suc, zero, ◌+◌, ◌<◌, ◌≤◌, List, [], ◌∷◌, length, map, ap, sym, subst, ◌∙◌, arith}
+use Rattle.std.proofs.Common.{◌≡◌, ℕ, suc, zero, ◌+◌, ◌<◌, ◌≤◌, List, [], ◌∷◌, length, get_or, map, ap, sym, subst, ◌∙◌, arith}
 use Rattle.std.specs.Global.{Vec}
-use Rattle.std.specs.List.{All, flat_map}
+use Rattle.std.specs.List.{All, between, flat_map}
+use Rattle.std.proofs.lemmas.Grind.{get_or_default_zero}
 use Rattle.std.proofs.lemmas.List.{length-map}
 use Rattle.tx_events.specs.declared.event.By.{By}
 use Rattle.tx_model.specs.declared.report.Step.{Step}
 use Rattle.tx_model.specs.Rounds.{lines_in}
-use Rattle.place_columns.specs.Columns.{IsColumn}
 use Rattle.place_columns.specs.declared.own.Own.{Own}
 use Rattle.place_columns.specs.Owned.{AreAllOwn}
 use Rattle.place_columns.specs.declared.lines.LineAt.{LineAt}
-use Rattle.place_columns.specs.Lined.{AreInOrder, bys_of, line_by, lines_from, most_of, number_of, step_at}
-use Rattle.place_columns.specs.Tables.{AreCounts, AreListed, AreOwnEvents, AreRanks, IsLineTable}
+use Rattle.place_columns.specs.Lined.{AreInOrder, bys_of, line_by, lines_from, number_of, places_of}
+use Rattle.place_columns.specs.Tables.{AreCounts, AreOwnEvents, IsLineTable}
 use Rattle.place_columns.proofs.LineSteps.{bys_are}
 use Rattle.place_columns.proofs.Numbering.{number_within}
+use Rattle.place_columns.proofs.Slots.{slots_are, slots_from, slots_upto}
 
 -- ---- lines
 
@@ -48,17 +49,42 @@ numbers_upto lines bys steps numbers steps_is is =
 pub below_next : (steps numbers : List ℕ) (n : ℕ) → n ≡ length steps → All (λ k. k ≤ length steps) numbers → All (λ k. k < n + 1) numbers
 below_next steps numbers n is a = λ k d l. let f = a k d l in omega arith
 
-pub own_is : (lines : List LineAt) (bys : List By) (steps numbers ranks at : List ℕ) (lists : List (Vec ℕ)) (counts reach latest : List ℕ)
-    → steps ≡ map (λ (l : LineAt). l.step) lines → numbers ≡ map (number_of lines) bys
-    → length lists ≡ length steps + 1 → AreListed numbers lists → AreRanks numbers ranks → AreCounts numbers (length lists) counts
-    → IsColumn most_of numbers reach → at ≡ map (step_at steps) numbers → IsColumn most_of at latest
-    → AreOwnEvents steps numbers ranks lists counts reach latest
-own_is lines bys steps numbers ranks at lists counts reach latest steps_is is size listed ranked counted reached at_is late = record {
-  within = numbers_upto lines bys steps numbers steps_is is;
-  size = size;
-  listed = listed;
-  ranked = ranked;
-  counted = subst (λ n. AreCounts numbers n counts) size counted;
-  reached = reached;
-  late = subst (λ (t : List ℕ). IsColumn most_of t latest) at_is late;
-}
+pub two_more : (steps numbers : List ℕ) (n : ℕ) → n ≡ length steps + 2 → All (λ k. k ≤ length steps) numbers → All (λ k. k + 1 < n) numbers
+two_more steps numbers n is a = λ k d l. let f = a k d l in omega arith
+
+-- ---- the places of a line
+
+module _ (steps numbers ranks counts places reach latest : List ℕ) (own : AreOwnEvents steps numbers ranks counts places reach latest) (line : ℕ) (within : line ≤ length steps) where
+  counted : AreCounts numbers (length counts) counts
+  counted = subst (λ n. AreCounts numbers n counts) (sym own.counted.size) own.counted
+
+  fewer : All (λ k. k + 1 < length counts) numbers
+  fewer = two_more steps numbers (length counts) own.counted.size own.within
+
+  inside : line + 1 < length counts
+  inside = let s = own.counted.size in omega arith
+
+  from_is : (from : ℕ) → from ≡ get_or counts line from → get_or counts line 0 ≡ from
+  from_is from is = sym (is ∙ get_or_default_zero counts line from (let l = inside in omega arith))
+
+  end_is : (end : ℕ) → end ≡ get_or counts (line + 1) end → get_or counts (line + 1) 0 ≡ end
+  end_is end is = sym (is ∙ get_or_default_zero counts (line + 1) end inside)
+
+  pub part_rises : (from end : ℕ) → from ≡ get_or counts line from → end ≡ get_or counts (line + 1) end → from ≤ end
+  part_rises from end f e =
+      let a = from_is from f in
+      let b = end_is end e in
+      let s = slots_from numbers counts ranks counted own.ranked fewer line inside in
+      omega arith
+
+  pub part_within : (end : ℕ) → end ≡ get_or counts (line + 1) end → end ≤ length places
+  part_within end e =
+      let b = end_is end e in
+      let s = slots_upto numbers counts ranks counted own.ranked fewer line inside in
+      let z = own.placed.size in
+      omega arith
+
+  pub part_is : (from end : ℕ) → from ≡ get_or counts line from → end ≡ get_or counts (line + 1) end → between from end places ≡ places_of line numbers
+  part_is from end f e =
+      ap (λ n. between n end places) (sym (from_is from f)) ∙ ap (λ n. between (get_or counts line 0) n places) (sym (end_is end e))
+      ∙ slots_are numbers counts ranks counted own.ranked fewer places line own.placed inside

@@ -1,10 +1,9 @@
 -- Where a column that never falls is parted.
-use Rattle.std.proofs.Common.{◌≡◌, ℕ, ◌+◌, ◌<◌, ◌≤◌, ◌↔◌, List, [], ◌∷◌, length, get_or, refl, sym, ◌∙◌, arith, ⊎_elim, Bool, true, false, nat_lt, nat_le}
+use Rattle.std.proofs.Common.{◌≡◌, ℕ, ◌<◌, ◌≤◌, List, length, get_or, arith, ⊎_elim, true, false, nat_lt, nat_le}
 use Rattle.std.specs.List.{slice_index_or}
 use Rattle.std.proofs.lemmas.Bool.{cases_lt}
 use Rattle.std.proofs.lemmas.Bool.Decides.{nat_tests}
 use Rattle.std.proofs.lemmas.Grind.{get_or_default_zero}
-use Rattle.place_columns.specs.declared.span.Span.{Span}
 use Rattle.place_columns.specs.Columns.{IsSpanOf, NeverFalls}
 
 rises_at : (xs : List ℕ) (i j d : ℕ) → NeverFalls xs → i ≤ j → j < length xs → slice_index_or xs i d ≤ slice_index_or xs j d

@@ -1,40 +1,44 @@
--- The places of each number, while numbers are added.
-use Rattle.std.proofs.Common.{◌≡◌, ◌≢◌, ℕ, suc, zero, ◌+◌, ◌<◌, ◌≤◌, List, [], ◌∷◌, ◌++◌, length, get_or, set, take, refl, ap, sym, subst, ◌∙◌, arith, ⊎_elim, Bool, true, false, cond, ◌==◌, eqb-true, length-append}
-use Rattle.std.specs.Global.{Vec}
-use Rattle.std.specs.List.{AllByRecursion, count_by}
+-- How often each number stands, while numbers are added, and at which places.
+use Rattle.std.proofs.Common.{◌≡◌, ◌≢◌, ℕ, suc, zero, ◌+◌, ◌<◌, ◌≤◌, List, [], ◌∷◌, ◌++◌, length, get_or, replicate, set, take, refl, ap, sym, subst, ◌∙◌, arith, ⊎_elim, Bool, true, false, cond, ◌==◌, eqb-true, length-append}
+use Rattle.std.specs.List.{count_by}
 use Rattle.std.proofs.lemmas.Bool.{cases_Bool, cases_lt, false≢true}
-use Rattle.std.proofs.lemmas.List.{append-nil, get_or-set_other, get_or-set_same, length-set, take-append-le}
-use Rattle.std.proofs.lemmas.List.Sums.{sum_by-cons}
+use Rattle.std.proofs.lemmas.List.{get_or-replicate, get_or-set_other, get_or-set_same, length-replicate, length-set, take-append-le}
+use Rattle.std.proofs.lemmas.List.Sums.{sum_by-cons, sum_by_push}
 use Rattle.std.proofs.Math.ListN.{get_or-append}
 use Rattle.std.proofs.Math.Seq.{get_or-append_seam, take-length}
 use Rattle.tx_events.proofs.ListSteps.{eqb-refl}
-use Rattle.place_columns.specs.Lined.{places_from, places_of}
-use Rattle.place_columns.specs.Tables.{AreListed, AreRanks}
+use Rattle.place_columns.specs.Lined.{places_from}
+use Rattle.place_columns.specs.Tables.{AreRanks, AreTotals}
+
+-- ---- totals
+
+pub totals_none : (n : ℕ) (totals : List ℕ) → totals ≡ replicate n 0 → AreTotals [] totals
+totals_none n totals is = λ i l.
+    let size : length totals ≡ n = ap (λ (t : List ℕ). length t) is ∙ length-replicate n 0 in
+    ap (λ (t : List ℕ). get_or t i 0) is ∙ get_or-replicate n i 0 0 (omega arith)
+
+count_push : (i k : ℕ) (ks : List ℕ) (t : Bool) → (k == i) ≡ t → count_by (λ j. j == i) (ks ++ k ∷ []) ≡ count_by (λ j. j == i) ks + cond t 1 0
+count_push i k ks t e = sum_by_push (λ j. cond (j == i) 1 0) ks k ∙ ap (λ b. count_by (λ j. j == i) ks + cond b 1 0) e
+
+pub totals_after : (ks : List ℕ) (k : ℕ) (totals : List ℕ) (r : ℕ) → AreTotals ks totals → k < length totals → r ≡ count_by (λ j. j == k) ks → AreTotals (ks ++ k ∷ []) (set totals k (r + 1))
+totals_after ks k totals r a l is = λ i m.
+    let n : i < length totals = omega (arith, length-set totals k (r + 1)) in
+    ⊎_elim
+    (λ (own : (k == i) ≡ true).
+    let same : k ≡ i = eqb-true k i own in
+    let now : get_or (set totals k (r + 1)) i 0 ≡ r + 1 = ap (λ j. get_or (set totals k (r + 1)) j 0) (sym same) ∙ get_or-set_same totals k (r + 1) 0 l in
+    let of_i : r ≡ count_by (λ j. j == i) ks = is ∙ ap (λ x. count_by (λ j. j == x) ks) same in
+    let more = count_push i k ks true own in
+    omega arith)
+    (λ (other : (k == i) ≡ false).
+    let apart : i ≢ k = λ q. false≢true (sym other ∙ ap (λ y. y == i) (sym q) ∙ eqb-refl i) in
+    let now : get_or (set totals k (r + 1)) i 0 ≡ get_or totals i 0 = get_or-set_other totals k i (r + 1) 0 apart in
+    let before = a i n in
+    let more = count_push i k ks false other in
+    omega arith)
+    (cases_Bool (k == i))
 
 -- ---- places
-
-abbrev more : ℕ → ℕ → ℕ → List ℕ
-more i n k = cond (k == i) (n ∷ []) []
-
-places_push : (i n : ℕ) (ks : List ℕ) (k : ℕ) → places_from i n (ks ++ k ∷ []) ≡ places_from i n ks ++ more i (n + length ks) k
-places_push i n [] k = let z : n ≡ n + 0 = omega arith in ap (λ m. cond (k == i) (m ∷ []) []) z
-places_push i n (c ∷ ks) k =
-    let z : (n + 1) + length ks ≡ n + suc (length ks) = omega arith in
-    let rest : places_from i (n + 1) (ks ++ k ∷ []) ≡ places_from i (n + 1) ks ++ more i (n + suc (length ks)) k = places_push i (n + 1) ks k ∙ ap (λ m. places_from i (n + 1) ks ++ more i m k) z in
-    step (c == i) rest
-  where
-    step : (t : Bool) → places_from i (n + 1) (ks ++ k ∷ []) ≡ places_from i (n + 1) ks ++ more i (n + suc (length ks)) k
-        → cond t (n ∷ places_from i (n + 1) (ks ++ k ∷ [])) (places_from i (n + 1) (ks ++ k ∷ [])) ≡ cond t (n ∷ places_from i (n + 1) ks) (places_from i (n + 1) ks) ++ more i (n + suc (length ks)) k
-    step true e = ap (λ (t : List ℕ). n ∷ t) e
-    step false e = e
-
-own_more : (ks : List ℕ) (k : ℕ) → places_of k (ks ++ k ∷ []) ≡ places_of k ks ++ length ks ∷ []
-own_more ks k =
-    let z : 0 + length ks ≡ length ks = omega arith in
-    places_push k 0 ks k ∙ ap (λ t. places_of k ks ++ cond t ((0 + length ks) ∷ []) []) (eqb-refl k) ∙ ap (λ m. places_of k ks ++ m ∷ []) z
-
-other_same : (i : ℕ) (ks : List ℕ) (k : ℕ) → (k == i) ≡ false → places_of i (ks ++ k ∷ []) ≡ places_of i ks
-other_same i ks k e = places_push i 0 ks k ∙ ap (λ t. places_of i ks ++ cond t ((0 + length ks) ∷ []) []) e ∙ append-nil (places_of i ks)
 
 -- there are as many as the number stands
 pub length_places : (i n : ℕ) (ks : List ℕ) → length (places_from i n ks) ≡ count_by (λ k. k == i) ks
@@ -45,36 +49,34 @@ length_places i n (k ∷ ks) = step (k == i) (length_places i (n + 1) ks) ∙ sy
     step true e = omega arith
     step false e = omega arith
 
--- ---- the lists
+-- the place of this rank
+pub record IsRanked (i n : ℕ) (ks : List ℕ) (r place : ℕ) : Type 0 where
+  pub at : ℕ
+  pub is : place ≡ n + at
+  pub within : at < length ks
+  pub number : get_or ks at 0 ≡ i
+  pub rank : count_by (λ k. k == i) (take at ks) ≡ r
 
-empty_at : (lists : List (Vec ℕ)) (i : ℕ) (d : Vec ℕ) → AllByRecursion (λ (l : Vec ℕ). l.items ≡ []) lists → i < length lists → (get_or lists i d).items ≡ []
-empty_at [] i d a l = absurd (omega arith)
-empty_at (v ∷ lists) zero d a l = a.0
-empty_at (v ∷ lists) (suc i) d a l = empty_at lists i d a.1 (omega arith)
+first_ranked : (i n k : ℕ) (ks : List ℕ) → (k == i) ≡ true → IsRanked i n (k ∷ ks) 0 n
+first_ranked i n k ks e = record { at = 0; is = omega arith; within = omega arith; number = eqb-true k i e; rank = refl }
 
-pub listed_none : (lists : List (Vec ℕ)) → AllByRecursion (λ (l : Vec ℕ). l.items ≡ []) lists → AreListed [] lists
-listed_none lists a = λ i l d. empty_at lists i d a l
+later_ranked : (i n k : ℕ) (ks : List ℕ) (r place : ℕ) (t : Bool) → (k == i) ≡ t → IsRanked i (n + 1) ks r place → IsRanked i n (k ∷ ks) (cond t 1 0 + r) place
+later_ranked i n k ks r place t e z = record {
+  at = suc z.at;
+  is = let a = z.is in omega arith;
+  within = let a = z.within in omega arith;
+  number = z.number;
+  rank = sum_by-cons (λ j. cond (j == i) 1 0) k (take z.at ks) ∙ ap (λ b. cond b 1 0 + count_by (λ j. j == i) (take z.at ks)) e ∙ ap (λ m. cond t 1 0 + m) z.rank;
+}
 
-pub listed_after : (ks : List ℕ) (k : ℕ) (lists : List (Vec ℕ)) (v w : Vec ℕ) → AreListed ks lists → k < length lists → w ≡ get_or lists k w → v.items ≡ w.items ++ length ks ∷ [] → AreListed (ks ++ k ∷ []) (set lists k v)
-listed_after ks k lists v w a l w_is v_is = λ i m d.
-    let n : i < length lists = omega (arith, length-set lists k v) in
-    ⊎_elim
-    (λ (own : (k == i) ≡ true).
-    let same : k ≡ i = eqb-true k i own in
-    let now : get_or (set lists k v) i d ≡ v = ap (λ j. get_or (set lists k v) j d) (sym same) ∙ get_or-set_same lists k v d l in
-    let theirs : w.items ≡ places_of k ks = subst (λ (u : Vec ℕ). u.items ≡ places_of k ks) (sym w_is) (a k l w) in
-    ap (λ (u : Vec ℕ). u.items) now ∙ v_is ∙ ap (λ (t : List ℕ). t ++ length ks ∷ []) theirs ∙ sym (own_more ks k) ∙ ap (λ j. places_of j (ks ++ k ∷ [])) same)
-    (λ (other : (k == i) ≡ false).
-    let apart : i ≢ k = λ q. false≢true (sym other ∙ ap (λ y. y == i) (sym q) ∙ eqb-refl i) in
-    let now : get_or (set lists k v) i d ≡ get_or lists i d = get_or-set_other lists k i v d apart in
-    ap (λ (u : Vec ℕ). u.items) now ∙ a i n d ∙ sym (other_same i ks k other))
-    (cases_Bool (k == i))
-
--- how many the list of this number has
-pub rank_is : (ks : List ℕ) (k : ℕ) (lists : List (Vec ℕ)) (w : Vec ℕ) → AreListed ks lists → k < length lists → w ≡ get_or lists k w → length w.items ≡ count_by (λ j. j == k) ks
-rank_is ks k lists w a l w_is =
-    let theirs : w.items ≡ places_of k ks = subst (λ (u : Vec ℕ). u.items ≡ places_of k ks) (sym w_is) (a k l w) in
-    ap (λ (t : List ℕ). length t) theirs ∙ length_places k 0 ks
+pub place_tells : (i n : ℕ) (ks : List ℕ) (r d : ℕ) → r < length (places_from i n ks) → IsRanked i n ks r (get_or (places_from i n ks) r d)
+place_tells i n [] r d l = absurd (omega arith)
+place_tells i n (k ∷ ks) r d l = step (λ r l. place_tells i (n + 1) ks r d l) (k == i) refl r l
+  where
+    step : ((r : ℕ) → r < length (places_from i (n + 1) ks) → IsRanked i (n + 1) ks r (get_or (places_from i (n + 1) ks) r d)) → (t : Bool) → (k == i) ≡ t → (r : ℕ) → r < length (cond t (n ∷ places_from i (n + 1) ks) (places_from i (n + 1) ks)) → IsRanked i n (k ∷ ks) r (get_or (cond t (n ∷ places_from i (n + 1) ks) (places_from i (n + 1) ks)) r d)
+    step f true e zero l = first_ranked i n k ks e
+    step f true e (suc r) l = subst (λ m. IsRanked i n (k ∷ ks) m (get_or (places_from i (n + 1) ks) r d)) (omega arith) (later_ranked i n k ks r (get_or (places_from i (n + 1) ks) r d) true e (f r (omega arith)))
+    step f false e r l = subst (λ m. IsRanked i n (k ∷ ks) m (get_or (places_from i (n + 1) ks) r d)) (omega arith) (later_ranked i n k ks r (get_or (places_from i (n + 1) ks) r d) false e (f r l))
 
 -- ---- ranks
 

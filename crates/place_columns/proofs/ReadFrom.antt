@@ -1,12 +1,12 @@
 -- From which place on a command may read.
-use Rattle.std.proofs.Common.{◌≡◌, ℕ, suc, zero, ◌+◌, ◌-◌, ◌<◌, ◌≤◌, ◌↔◌, List, [], ◌∷◌, ◌++◌, length, get_or, take, drop, refl, ap, sym, subst, ◌∙◌, arith, ⊎_elim, Bool, true, false, ◌&&◌, nat_lt, nat_le, Some, None}
+use Rattle.std.proofs.Common.{◌≡◌, ℕ, suc, zero, ◌+◌, ◌-◌, ◌<◌, ◌≤◌, List, [], ◌∷◌, length, get_or, take, drop, refl, ap, sym, subst, ◌∙◌, arith, ⊎_elim, true, false, Some}
 use Rattle.std.specs.List.{AllByRecursion, slice_get, slice_index_or}
-use Rattle.std.proofs.lemmas.Bool.{cases_lt, cases_Bool, and_parts, false≢true}
+use Rattle.std.proofs.lemmas.Bool.{cases_lt, false≢true}
 use Rattle.std.proofs.lemmas.Bool.Decides.{nat_tests}
 use Rattle.tx_events.specs.declared.event.By.{By}
 use Rattle.place_columns.specs.declared.own.Own.{Own}
-use Rattle.place_columns.specs.Owned.{AreInTurn, AreLater, IsReadFrom, is_upto, own_from, own_of}
-use Rattle.place_columns.proofs.Entries.{IsOwn, ascends, commands_rise, of_each, places_rise, sound}
+use Rattle.place_columns.specs.Owned.{AreInTurn, IsReadFrom, is_upto, own_of}
+use Rattle.place_columns.proofs.Entries.{commands_rise, of_each, places_rise, sound}
 
 -- ---- tests
 

@@ -1,9 +1,11 @@
 //! The events of each line.
 ghost use Rattle.std.specs.Prelude.{◌≡◌, ◌<◌, ◌≤◌, ◌==◌, nat_lt, IfOk, length, map, take, slice_index};
-ghost use Rattle.std.specs.List.{count_by};
+ghost use Rattle.std.specs.List.{between, count_by};
 ghost use Rattle.place_columns.specs.Lined.{most_of, numbered, places_of, step_at};
 
-use crate::columns::{Places, counts_of, listed, numbers_of, running_most, steps_at, steps_of};
+use crate::columns::{
+    Tally, counts_of, numbers_of, placed, running_most, steps_at, steps_of, tally_of,
+};
 use crate::lines::LineTable;
 use std::alloc::Global;
 use std::marker::Model;
@@ -13,12 +15,14 @@ use tx_events::{By, Memory};
 /// the lines.
 #[derive(Drop)]
 pub struct OwnEvents {
-    steps: Vec<u64>,
-    numbers: Vec<u64>,
-    listed: Places,
-    counts: Vec<u64>,
-    reach: Vec<u64>,
-    latest: Vec<u64>,
+    steps: Vec<u32>,
+    numbers: Vec<u32>,
+    ranks: Vec<u32>,
+    counts: Vec<u32>,
+    // The places line by line; a line's begin at its count.
+    places: Vec<u64>,
+    reach: Vec<u32>,
+    latest: Vec<u32>,
 }
 
 impl Model for OwnEvents {
@@ -29,7 +33,16 @@ impl Model for OwnEvents {
 
     ghost view = { λ o. record { steps = o.steps.items; numbers = o.numbers.items } };
 
-    ghost invariant = { λ o. AreOwnEvents o.steps.items o.numbers.items o.listed.ranks.items o.listed.lists.items o.counts.items o.reach.items o.latest.items };
+    ghost invariant = { λ o. AreOwnEvents o.steps.items o.numbers.items o.ranks.items o.counts.items o.places.items o.reach.items o.latest.items };
+}
+
+/// The places of these slots.
+fn part(places: &[u64], from: u32, end: u32) -> &[u64]
+    requires from { from ≤ end }
+    requires end { end ≤ length places.now }
+    ensures { result.now ≡ between from end places.now }
+{
+    &places[from as usize..end as usize]
 }
 
 impl OwnEvents {
@@ -39,16 +52,27 @@ impl OwnEvents {
     {
         let steps = steps_of(alloc, table.lines())?;
         let numbers = numbers_of(alloc, table, bys)?;
-        let listed = listed(alloc, steps.len() + 1, numbers.as_slice())?;
-        let counts = counts_of(alloc, listed.lists.as_slice(), numbers.as_slice())?;
+        if numbers.len() > u32::MAX as usize {
+            return Err(Memory);
+        }
+        let Tally { totals, ranks } = tally_of(alloc, steps.len() + 1, numbers.as_slice())?;
+        let counts = counts_of(alloc, totals.as_slice(), numbers.as_slice())?;
+        drop(totals);
+        let places = placed(
+            alloc,
+            numbers.as_slice(),
+            counts.as_slice(),
+            ranks.as_slice(),
+        )?;
         let reach = running_most(alloc, numbers.as_slice())?;
         let at = steps_at(alloc, steps.as_slice(), numbers.as_slice())?;
         let latest = running_most(alloc, at.as_slice())?;
         Ok(OwnEvents {
             steps,
             numbers,
-            listed,
+            ranks,
             counts,
+            places,
             reach,
             latest,
         })
@@ -60,7 +84,7 @@ impl OwnEvents {
         ensures number { result ≡ slice_index self.now.numbers place }
         ensures within { result ≤ length self.now.steps }
     {
-        self.numbers[place as usize]
+        u64::from(self.numbers[place as usize])
     }
 
     /// How many events before it are of its line.
@@ -68,7 +92,7 @@ impl OwnEvents {
         requires { place < length self.now.numbers }
         ensures { result ≡ count_by (λ k. k == slice_index self.now.numbers place) (take place self.now.numbers) }
     {
-        self.listed.ranks[place as usize]
+        u64::from(self.ranks[place as usize])
     }
 
     /// Where the events of this line stand.
@@ -76,7 +100,9 @@ impl OwnEvents {
         requires { line ≤ length self.now.steps }
         ensures { result.now ≡ places_of line self.now.numbers }
     {
-        self.listed.lists[line as usize].as_slice()
+        let from = self.counts[line as usize];
+        let end = self.counts[line as usize + 1];
+        part(self.places.as_slice(), from, end)
     }
 
     /// How many events are of the lines before this one.
@@ -84,7 +110,7 @@ impl OwnEvents {
         requires { line ≤ length self.now.steps }
         ensures { result ≡ count_by (λ k. nat_lt k line) self.now.numbers }
     {
-        self.counts[line as usize]
+        u64::from(self.counts[line as usize])
     }
 
     /// The greatest number of a line of the events before this place, 0 where none stands there.
@@ -92,7 +118,7 @@ impl OwnEvents {
         requires { place ≤ length self.now.numbers }
         ensures { result ≡ most_of (take place self.now.numbers) }
     {
-        self.reach[place as usize]
+        u64::from(self.reach[place as usize])
     }
 
     /// The latest step of the events before this place, 0 where no line has one.
@@ -100,6 +126,6 @@ impl OwnEvents {
         requires { place ≤ length self.now.numbers }
         ensures { result ≡ most_of (take place (map (step_at self.now.steps) self.now.numbers)) }
     {
-        self.latest[place as usize]
+        u64::from(self.latest[place as usize])
     }
 }

@@ -4,6 +4,13 @@ ghost use Rattle.std.specs.List.{prefix_len, list_all};
 ghost use Rattle.std.specs.Str.{bytes_eq};
 ghost use Rattle.script_lines.specs.LineWords.{is_blank, is_word, words_in, next, number_from, number_of, is_line_byte, is_plain};
 
+/// Whether a byte is a blank. Most bytes of a line are past both.
+fn is_blank(b: u8) -> bool
+    ensures { result ≡ is_blank b }
+{
+    b <= b' ' && (b == b' ' || b == b'\t')
+}
+
 /// How many blanks stand at the front.
 #[tactic(auto, using(std::proofs::lemmas::List::Sums::prefix_len_is))]
 fn blanks(bytes: &[u8]) -> usize
@@ -11,7 +18,7 @@ fn blanks(bytes: &[u8]) -> usize
     ensures value { result ≡ prefix_len is_blank bytes.now }
 {
     for (i, b) in bytes.iter().enumerate() {
-        if !(*b == b' ' || *b == b'\t') {
+        if !is_blank(*b) {
             return i;
         }
     }
@@ -25,7 +32,7 @@ fn word_len(bytes: &[u8]) -> usize
     ensures value { result ≡ prefix_len (λ b. not (is_blank b)) bytes.now }
 {
     for (i, b) in bytes.iter().enumerate() {
-        if *b == b' ' || *b == b'\t' {
+        if is_blank(*b) {
             return i;
         }
     }

@@ -17,3 +17,5 @@ pub mod PlainHeader
 pub mod PlainScript
 pub mod PlainText
 pub mod Asking
+pub mod LaneLemmas
+pub mod FrontLemmas

@@ -3,16 +3,61 @@
 ghost use Rattle.std.specs.Prelude.{◌≡◌, ℕ, ◌+◌, ◌<◌, ◌≤◌, List, [], ◌∷◌, ◌&&◌, nat_le, true, not, cond, get_or, length, take};
 ghost use Rattle.std.specs.List.{prefix_len};
 ghost use Rattle.script_lines.specs.LineWords.{is_plain, words_in};
-ghost use Rattle.session_lang.specs.Lines.{is_line_end, lines_of, without_cr};
+ghost use Rattle.session_lang.specs.Lines.{ArePrintable, first_set, is_line_end, is_printable, lines_of, without_cr};
 ghost use Rattle.session_lang.specs.Places.{is_item_line, item_lines};
 
 use script_lines::{is_header_word, is_plain, next_word};
+use std::simd::prelude::*;
+
+/// The bytes of one load.
+const LANES: usize = 16;
 
 /// Whether a byte is printable ASCII.
 fn is_printable(b: u8) -> bool
-    ensures { result ≡ (nat_le 32 b && nat_le b 126) }
+    ensures { result ≡ is_printable b }
 {
     b' ' <= b && b <= b'~'
+}
+
+/// The place of the lowest bit that is set, or the number of lanes.
+#[inline(always)]
+fn first_set(mask: u64) -> usize
+    ensures { result ≡ first_set mask 16 }
+{
+    if mask == 0 {
+        LANES
+    } else {
+        mask.trailing_zeros() as usize
+    }
+}
+
+/// How many bytes from this place on are printable, of those of one load.
+#[inline(always)]
+fn printable_run(bytes: &[u8], at: usize) -> usize
+    requires { at + 16 ≤ length bytes.now }
+    ensures few { result ≤ 16 }
+    ensures printable { ArePrintable bytes.now at (at + result) }
+{
+    let v = u8x16::from_slice(&bytes[at..]);
+    let stops = v.simd_lt(u8x16::splat(b' ')) | v.simd_ge(u8x16::splat(0x7f));
+    first_set(stops.to_bitmask())
+}
+
+/// How many bytes at the front are printable, load by load; fewer than a load are left behind them, or one comes next that
+/// isn't.
+fn printable_front(bytes: &[u8]) -> usize
+    ensures within { result ≤ length bytes.now }
+    ensures printable { ArePrintable bytes.now 0 result }
+{
+    let mut end = 0;
+    'loads: while bytes.len() - end >= LANES {
+        let run = printable_run(bytes, end);
+        end += run;
+        if run < LANES {
+            return end;
+        }
+    }
+    end
 }
 
 /// How many bytes stand before the first LF, or in all, and whether all of them may stand in a line.
@@ -22,16 +67,19 @@ fn line_len(bytes: &[u8]) -> (usize, bool)
     ensures value { result.0 ≡ prefix_len (λ b. not (is_line_end b)) bytes.now }
     ensures plain { result.1 ≡ is_plain (take result.0 bytes.now) }
 {
+    let mut end = printable_front(bytes);
     let mut plain = true;
-    for (i, b) in bytes.iter().enumerate() {
-        if !is_printable(*b) {
-            if *b == b'\n' {
-                return (i, plain);
+    while end < bytes.len() {
+        let b = bytes[end];
+        if !is_printable(b) {
+            if b == b'\n' {
+                return (end, plain);
             }
-            plain = plain && *b == b'\t';
+            plain = plain && b == b'\t';
         }
+        end += 1;
     }
-    (bytes.len(), plain)
+    (end, plain)
 }
 
 /// A line without the CR that may stand before its end, and whether its bytes may stand in a line.

@@ -9,6 +9,6 @@ loop-by-preserved c =
     let bys = c.args.bys.now in
     let f = number_of c.args.table.now in
     c.in_ok-push.ensures.items
-    ∙ ap (λ (t : List ℕ). t ++ c.number.result ∷ []) c.loop-by.invariant
-    ∙ ap (λ (k : ℕ). map f (take n bys) ++ k ∷ []) c.number.ensures
+    ∙ ap (λ (t : List ℕ). t ++ c.in_ok-small.field-0 ∷ []) c.loop-by.invariant
+    ∙ ap (λ (k : ℕ). map f (take n bys) ++ k ∷ []) (c.in_ok-small.ensures ∙ c.number.ensures)
     ∙ sym (map_more f bys n (record { session = 0; command = 0 }) c.loop-by-test.true)

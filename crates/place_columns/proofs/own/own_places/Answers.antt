@@ -1,8 +1,6 @@
 use Rattle.std.proofs.Common.{◌≡◌, ◌<◌, ◌+◌, ◌++◌, ◌∷◌, [], ap, sym, subst, ◌∙◌, arith, length, take, get_or, set, List, ℕ}
-use Rattle.std.specs.Global.{Vec}
 use Rattle.std.proofs.lemmas.List.{length-take-le, take_more}
 use Rattle.tx_events.specs.declared.event.By.{By}
-use Rattle.place_columns.specs.declared.own.Own.{Own}
 use Rattle.place_columns.specs.Owned.{AreAllOwn}
 use Rattle.place_columns.proofs.Filling.{own_after}
 use Rattle.place_columns.proofs.own.own_places.Goals as goal

@@ -1,4 +1,4 @@
-use Rattle.std.proofs.Common.{rules, of_calls, ◌<◌, arith}
+use Rattle.std.proofs.Common.{rules, of_calls, arith}
 use Rattle.std.proofs.lemmas.Fn.{always_returns_same}
 use Rattle.place_columns.specs.Owned.{is_upto}
 use Rattle.place_columns.proofs.ReadFrom.{none_is, parted_in, place_below, some_is}

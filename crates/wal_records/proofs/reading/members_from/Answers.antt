@@ -15,4 +15,6 @@ loop-preserved c =
     rw e (members_go_on c.loop.members c.args.count c.loop.counter c.loop.rest.now c.in_ok-one_member.field-0 c.one_member.new.rest.now (members_at c.args.count c.args.rest.now.now) c.loop-test.true c.in_ok-one_member.ensures c.loop.invariant)
 
 pub returns : goal.returns
-returns c = members_done c.loop.members c.args.count c.loop.counter c.loop.rest.now (members_at c.args.count c.args.rest.now.now) c.loop-test.false c.loop.invariant
+returns c =
+    rw c.in_ok-of.ensures
+    (members_done c.loop.members c.args.count c.loop.counter c.loop.rest.now (members_at c.args.count c.args.rest.now.now) c.loop-test.false c.loop.invariant)

@@ -1,4 +1,4 @@
-use Rattle.std.proofs.Common.{◌≡◌, Err, Option, sym, ap, subst, ◌∙◌}
+use Rattle.std.proofs.Common.{◌≡◌, Err, None, Option, sym, ap, subst, ◌∙◌}
 use Rattle.hall.specs.Calls.{view, start_of}
 use Rattle.engine_parts.specs.declared.session.Making.{Making}
 use Rattle.engine_parts.specs.declared.session.Session.{Session}
@@ -8,7 +8,7 @@ use Rattle.engine_parts.proofs.Adding.{plain_wider}
 use Rattle.multi_makes.specs.Pending.{IsPending, IsRecDone}
 use Rattle.multi_makes.proofs.Announcing.{fault_wider, told_wider}
 use Rattle.multi_makes.proofs.Going.{visited_then, visited_wider}
-use Rattle.multi_makes.proofs.Making.{call_over, pending_logged, recorded_of, same_logged}
+use Rattle.multi_makes.proofs.Making.{call_over, done_of, pending_logged, recorded_of, same_logged}
 use Rattle.multi_makes.proofs.finishing.finish_record.Goals as goal
 
 pub set_pending-requires-clause-recorded : goal.set_pending-requires-clause-recorded
@@ -53,3 +53,12 @@ pub returns-in-Err-clause-visited : goal.returns-in-Err-clause-visited
 returns-in-Err-clause-visited g c =
     let r = c.in-Err.refusal in
     visited_wider c.args.hall.now c.args.banks (MayAdd IsOfMulti ⊥ (λ q. ⊥)) (MayAdd IsOfMulti ⊥ (λ q. r ≡ q)) c.args.caller.now c.log_pending.new.caller (told_wider {T = Unit {0}} (Err r)) c.log_pending.ensures.visited
+
+pub returns-in-Ok-set_pending-clause-finishes : goal.returns-in-Ok-set_pending-clause-finishes
+returns-in-Ok-set_pending-clause-finishes g c =
+    let start = start_of c.args.hall.now in
+    let old = c.args.caller.now in
+    let x = c.set_pending.new.caller in
+    let rec = c.args.rec.now in
+    let done : IsRecDone start (view x.pass).seen old.number rec = subst (λ z. IsRecDone start (view x.pass).seen z rec) c.log_pending.ensures.visited.number c.in-Ok-set_pending.ensures.done in
+    (ap (λ (s : Session). record s { making = None }) (c.set_pending.ensures.session ∙ c.in-Ok.ensures.logs), done_of start (view x.pass).seen old.number old.session.making rec c.requires.record done)

@@ -49,11 +49,6 @@ pub pending_logged : (o : Option Making) (rec : Rec) → IsPending o rec → IsP
 pending_logged None rec p = absurd p
 pending_logged (Some m) rec p = p
 
--- what its record names is done once the record is
-pub done_of : (start : Start) (lists : List (List Entry)) (n : ℕ) (o : Option Making) (rec : Rec) → IsPending o rec → IsRecDone start lists n rec → IfSome o (λ m. IsMultiDone start lists n m.multi m.offset m.members)
-done_of start lists n None rec p d = absurd p
-done_of start lists n (Some m) rec p d = subst (IsRecDone start lists n) p d
-
 -- behind it the record stands
 pub recorded_of : (start : Start) (lists : List (List Entry)) (n : ℕ) (o : Option Making) (rec : Rec) → Makes start lists n (making_logged o) → IsPending o rec → IsRecordedRec lists n rec
 recorded_of start lists n None rec m p = absurd p

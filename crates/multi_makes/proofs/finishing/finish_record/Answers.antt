@@ -8,7 +8,7 @@ use Rattle.engine_parts.proofs.Adding.{plain_wider}
 use Rattle.multi_makes.specs.Pending.{IsPending, IsRecDone}
 use Rattle.multi_makes.proofs.Announcing.{fault_wider, told_wider}
 use Rattle.multi_makes.proofs.Going.{visited_then, visited_wider}
-use Rattle.multi_makes.proofs.Making.{call_over, done_of, pending_logged, recorded_of, same_logged}
+use Rattle.multi_makes.proofs.Making.{call_over, done_pending, pending_logged, recorded_of, same_logged}
 use Rattle.multi_makes.proofs.finishing.finish_record.Goals as goal
 
 pub set_pending-requires-clause-recorded : goal.set_pending-requires-clause-recorded
@@ -61,4 +61,4 @@ returns-in-Ok-set_pending-clause-finishes g c =
     let x = c.set_pending.new.caller in
     let rec = c.args.rec.now in
     let done : IsRecDone start (view x.pass).seen old.number rec = subst (λ z. IsRecDone start (view x.pass).seen z rec) c.log_pending.ensures.visited.number c.in-Ok-set_pending.ensures.done in
-    (ap (λ (s : Session). record s { making = None }) (c.set_pending.ensures.session ∙ c.in-Ok.ensures.logs), done_of start (view x.pass).seen old.number old.session.making rec c.requires.record done)
+    (ap (λ (s : Session). record s { making = None }) (c.set_pending.ensures.session ∙ c.in-Ok.ensures.logs), done_pending start (view x.pass).seen old.number old.session.making rec c.requires.record done)

@@ -14,11 +14,11 @@ use Rattle.session_run.proofs.GoingOn.{life_over_is, running_on, same_banks}
 use Rattle.session_run.proofs.Running.{not_written, report_told, told_so}
 use Rattle.session_run.proofs.run.end_part.Goals as goal
 
-pub tell_part-volumes-requires : goal.tell_part-volumes-requires
-tell_part-volumes-requires g c =
+pub tell_part-volumes-requires-clause-lived : goal.tell_part-volumes-requires-clause-lived
+tell_part-volumes-requires-clause-lived g c κs within =
     let ran = c.requires.ran in
     let run = ran.running in
-    record { lived = (ran.its, run.cluster, run.begins, run.faults, run.mounted, ran.is) }
+    (ran.its, run.cluster, run.begins, run.faults, run.mounted, ran.is)
 
 pub returns-in-Err-clause-stopped : goal.returns-in-Err-clause-stopped
 returns-in-Err-clause-stopped g c = λ ran cluster.

@@ -3,11 +3,11 @@ use Rattle.disk_core.specs.Images.{Only}
 use Rattle.session_run.proofs.Running.{not_written, report_told, told_so}
 use Rattle.session_run.proofs.run.end_run.Goals as goal
 
-pub tell_part-volumes-requires : goal.tell_part-volumes-requires
-tell_part-volumes-requires g c =
+pub tell_part-volumes-requires-clause-lived : goal.tell_part-volumes-requires-clause-lived
+tell_part-volumes-requires-clause-lived g c κs within =
     let ran = c.requires.ran in
     let run = ran.running in
-    record { lived = (ran.its, run.cluster, run.begins, run.faults, run.mounted, ran.is) }
+    (ran.its, run.cluster, run.begins, run.faults, run.mounted, ran.is)
 
 pub returns-in-Ok-clause-last : goal.returns-in-Ok-clause-last
 returns-in-Ok-clause-last g c = λ ran.

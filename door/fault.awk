@@ -147,7 +147,7 @@ function of_directive() {
     if (!(first in head)) say(quoted(first) " is no directive" nearest(first, head, step), 1, \
         "directives are " directives)
     else if (first in line_of) say(quoted(first) " stands in line " line_of[first] " already", 1, "")
-    else say(quoted(first) " comes too late: the first command or .round is in line " body, 1, \
+    else say(quoted(first) " comes too late: the header ends before line " body, 1, \
         "what a script begins with stands before all commands")
 }
 

@@ -71,6 +71,13 @@ fn printed<R: Threads + Abort + AllocGlobal + Sync>(rt: &R, threads: usize) -> S
     pieces.put_word(b"end").expect(rt, "memory");
     let mut text = Vec::new(rt.alloc());
     let (front, last) = pieces.parts();
+    // Each of the three lists has what stood before it as a piece, and one for each thread.
+    let wanted = if threads < 2 {
+        0
+    } else {
+        threads.saturating_add(1).saturating_mul(3)
+    };
+    check_row(rt, front.len() == wanted, "pieces of a text");
     for piece in front {
         text.extend_from_slice(piece.bytes()).expect(rt, "memory");
     }

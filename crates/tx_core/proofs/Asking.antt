@@ -21,7 +21,7 @@ use Rattle.tx_core.specs.EventsLegal.{MayBeLegal, NeedsOwn}
 use Rattle.notes.specs.Lists.{at}
 use Rattle.tx_core.specs.Lists.{Upheld}
 use Rattle.tx_core.specs.Locks.{log_lock, proc_lock}
-use Rattle.tx_core.specs.LogBeforeStatus.{NeedsRecords, RecordOf}
+use Rattle.tx_core.specs.LogBeforeStatus.{NeedsRecords, NeedsTree, RecordOf, TreeOf}
 use Rattle.tx_core.specs.ParentsFollow.{IsGivenBelow, NeedsSubs}
 use Rattle.tx_core.specs.StatusBeforeCommit.{NeedsStates, StatesOf}
 use Rattle.tx_events.specs.declared.event.Event.TheVariants as events
@@ -56,13 +56,16 @@ sub_of lists lock before e link n k = all_at (λ link. IsGivenBelow lists link.c
 pub logged_of : (start : Start) (lists : List (List Entry)) (lock : ℕ) (before : List Entry) (e : Entry) (mark : Mark) → NeedsRecords start lists lock before e → Has (marks_in e) mark → RecordOf start lists mark.caller.session mark.id mark.state
 logged_of start lists lock before e mark n k = all_at (λ mark. RecordOf start lists mark.caller.session mark.id mark.state) (marks_in e) mark n k
 
+pub tree_of : (start : Start) (lists : List (List Entry)) (lock : ℕ) (before : List Entry) (e : Entry) (mark : Mark) → NeedsTree start lists lock before e → Has (marks_in e) mark → TreeOf start lists mark.caller.session mark.id mark.state
+tree_of start lists lock before e mark n k = all_at (λ mark. TreeOf start lists mark.caller.session mark.id mark.state) (marks_in e) mark n k
+
 pub asked_of : (lists : List (List Entry)) (lock : ℕ) (before : List Entry) (e : Entry) (mark : Mark) → NeedsAsked lists lock before e → Has (marks_in e) mark → AskedOf lists e.by.session mark
 asked_of lists lock before e mark n k = all_at (λ mark. AskedOf lists e.by.session mark) (marks_in e) mark n k
 
 pub given_of : (lists : List (List Entry)) (lock : ℕ) (before : List Entry) (e : Entry) (mark : Mark) → NeedsGiven lists lock before e → Has (asks_in e) mark → GivenOf lists mark
 given_of lists lock before e mark n k = all_at (λ mark. GivenOf lists mark) (asks_in e) mark n k
 
-event_kind : (kind : Kind) (event : Event) → event_in kind ≡ Some event → kind ≡ kinds.Event event
+pub event_kind : (kind : Kind) (event : Event) → event_in kind ≡ Some event → kind ≡ kinds.Event event
 event_kind (kinds.Event other) event g = ap kinds.Event (same_Some other event g)
 event_kind _ event g = absurd cc
 

@@ -29,7 +29,7 @@ use Rattle.tx_core.proofs.Reading.{record_entry}
 use Rattle.tx_core.proofs.Taking.{get_in_take}
 use Rattle.notes.specs.Lists.{at}
 
-abbrev commit_by : By → ℕ → List ℕ → Entry
+abbrev pub commit_by : By → ℕ → List ℕ → Entry
 commit_by by top subs = record { by = by; kind = kinds.Append (records.Commit top subs) }
 
 module _ (lists : List (List Entry)) (once : RecordsOnce lists) (id : ℕ) (a b : By) (s t : ℕ) (xs ys : List ℕ) (in_a : Contains (s ∷ xs) id) (in_b : Contains (t ∷ ys) id) where
@@ -47,7 +47,7 @@ module _ (lists : List (List Entry)) (once : RecordsOnce lists) (id : ℕ) (a b 
       })
 
 -- two commit records of an id are one
-one_commit : (lists : List (List Entry)) (id : ℕ) (a b : By) (s t : ℕ) (xs ys : List ℕ) → RecordsOnce lists → Has (at lists log_lock) (commit_by a s xs) → Has (at lists log_lock) (commit_by b t ys) → Contains (s ∷ xs) id → Contains (t ∷ ys) id → commit_by a s xs ≡ commit_by b t ys
+pub one_commit : (lists : List (List Entry)) (id : ℕ) (a b : By) (s t : ℕ) (xs ys : List ℕ) → RecordsOnce lists → Has (at lists log_lock) (commit_by a s xs) → Has (at lists log_lock) (commit_by b t ys) → Contains (s ∷ xs) id → Contains (t ∷ ys) id → commit_by a s xs ≡ commit_by b t ys
 one_commit lists id a b s t xs ys once has_a has_b in_a in_b =
     let es : List Entry = at lists log_lock in
     let p = has_place es (commit_by a s xs) has_a in

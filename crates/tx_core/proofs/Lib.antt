@@ -37,6 +37,7 @@ pub mod LogBehind
 pub mod OneFault
 pub mod Once
 pub mod Flushed
+pub mod Closed
 pub mod StopLimits
 pub mod OwnMultis
 pub mod PageRing

@@ -11,7 +11,7 @@ use Rattle.tx_events.specs.Running.{open_ids}
 use Rattle.tx_core.specs.declared.entry.Entry.{Entry}
 use Rattle.tx_core.specs.declared.entry.Start.{Start}
 use Rattle.tx_core.specs.declared.entry.State.{State}
-use Rattle.tx_core.specs.AbortRule.{Asks}
+use Rattle.tx_core.specs.AbortRule.{AbortsOf, Asks}
 use Rattle.tx_core.specs.CommitRecordsExact.{HasNoRecord}
 use Rattle.tx_core.specs.EngineInvariant.{EngineInvariant}
 use Rattle.tx_core.specs.Entries.{IsAppended, IsMarked, history, Stands, cut_in, flushed_to, records_of}
@@ -186,3 +186,14 @@ abbrev pub RecordsShown : Type 0
 RecordsShown = (start : Start) (lists : List (List Entry)) (session top : ℕ) (subs : List ℕ) (id : ℕ) →
     EngineInvariant start lists → HasNoRecord lists session → IsAppended lists session (records.Commit top subs) → Contains (top ∷ subs) id
     → IsMarked start lists id states.Committed
+
+-- What an undo or an abort of the history closes was set aborted before.
+abbrev pub ClosedAborted : Type 0
+ClosedAborted = (start : Start) (lists : List (List Entry)) (event : Event) (p : ℕ) →
+    EngineInvariant start lists → slice_get (history lists) p ≡ Some event → AbortsOf start lists (take p (history lists)) (kinds.Event event)
+
+-- Where a subtransaction on another page than its top was set committed, the top was.
+abbrev pub TopsFirst : Type 0
+TopsFirst = (start : Start) (lists : List (List Entry)) (session top : ℕ) (subs : List ℕ) (id : ℕ) →
+    EngineInvariant start lists → IsAppended lists session (records.Commit top subs) → Contains subs id
+    → IsMarked start lists id states.Committed → (xact_page id ≡ xact_page top → ⊥) → IsMarked start lists top states.Committed

@@ -1,8 +1,9 @@
 //! Transaction ids and multixact ids in full and as the 32 bits that are stored: their order around the ring, their
 //! successors, the full id that 32 bits mean, their limits, and whether the next one may still be given; above them the
 //! types of events, records and what a snapshot holds, what it shows of an id (`XidInMVCCSnapshot`), and the definitions
-//! and laws of histories. After PostgreSQL's `src/include/access/transam.h`, `src/backend/access/transam/transam.c`,
-//! `varsup.c`, `multixact.c` and `src/backend/utils/time/snapmgr.c`. See docs/IDS-AND-LIMITS.md and docs/HISTORY.md.
+//! and laws of histories and of what a life starts from. After PostgreSQL's `src/include/access/transam.h`,
+//! `src/backend/access/transam/transam.c`, `varsup.c`, `multixact.c` and `src/backend/utils/time/snapmgr.c`.
+//! See docs/IDS-AND-LIMITS.md, docs/HISTORY.md and docs/FIT.md.
 #![tactic(auto)]
 
 mod base;

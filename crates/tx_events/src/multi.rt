@@ -60,12 +60,6 @@ pub struct Member {
     pub mode: Mode,
 }
 
-impl Copied for Member {
-    fn copy(&self) -> Result<Self, Memory> {
-        Ok(*self)
-    }
-}
-
 /// The members of a multixact, in order, which copies share.
 pub type MemberList = Shared<Member>;
 

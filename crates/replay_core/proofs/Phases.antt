@@ -5,7 +5,8 @@ use Rattle.std.proofs.lemmas.List.{length-take-le}
 use Rattle.tx_events.specs.declared.record.Rec.{Rec}
 use Rattle.tx_events.proofs.Membership.{contains_has, has_contains, has_left}
 use Rattle.tx_events.specs.LifeBase.{LifeBase, base_after, committed_in}
-use Rattle.recoverable.specs.Fit.{KeptLog, base_at, log_end}
+use Rattle.disk_core.specs.Pages.{Pages}
+use Rattle.recoverable.specs.Fit.{KeptLog, XactFits, base_at, log_end}
 use Rattle.recoverable.specs.Volumes.{checkpoint_of}
 use Rattle.recoverable.proofs.LogBases.{next_grows, oldest_grows}
 use Rattle.tx_events.proofs.BaseSteps.{base_then, checkpoint_settles}

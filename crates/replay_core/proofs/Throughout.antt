@@ -117,9 +117,9 @@ module _ {L P : Type 0} (l : logs.Ghosts L) (p : disks.Ghosts P) (v : L) (old ne
     settling_at : (c : Volume) → WasLeft l.moment l.left_at (log_disk found.log) (log_disk log') c → MayHaveSettled first found.recs first past found.base c
     settling_at c was =
         let settles : SettlesThroughout l found.base found.log log' = ⊎_elim
-            (λ (same : log' ≡ found.log). settles_unmoved found.base found.log log' (ap (λ (z : WalLog L l). log_disk z) same) is.is_open.flushed (only_now (log_disk found.log)))
-            (λ (h : ArePagesRestored p found.recs found.base old new × SettlesThroughout l found.base found.log log'). h.1)
-            (r.moments told told').1 in
+        (λ (same : log' ≡ found.log). settles_unmoved found.base found.log log' (ap (λ (z : WalLog L l). log_disk z) same) is.is_open.flushed (only_now (log_disk found.log)))
+        (λ (h : ArePagesRestored p found.recs found.base old new × SettlesThroughout l found.base found.log log'). h.1)
+        (r.moments told told').1 in
         let leaves = settles first found.recs (is.keeps told) in
         subst (λ n. MayHaveSettled first found.recs first n found.base c) is.next (leaves.each was.at c was.from was.upto was.left)
 
@@ -129,7 +129,7 @@ module _ {L P : Type 0} (l : logs.Ghosts L) (p : disks.Ghosts P) (v : L) (old ne
     as_before left were begins =
         let f = found_there in
         let pages = cut_pages l p old new log first found.recs found.base f stands each r.count offsets_count members_count left
-            (steps_at l p old new log first found.recs found.base f stands each r.count offsets_count members_count (r.moments told told').0 left were.states were.offsets were.members) in
+        (steps_at l p old new log first found.recs found.base f stands each r.count offsets_count members_count (r.moments told told').0 left were.states were.offsets were.members) in
         ⊎_elim
         (λ a. cut_still log banks first found.recs found.base f left (cut_begins l p old new log first found.recs found.base f stands each r.count offsets_count members_count first left.log (omega arith) a) pages)
         (λ h. ⊎_elim

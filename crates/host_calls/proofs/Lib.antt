@@ -1,4 +1,5 @@
 pub mod Adding
+pub mod Stages
 pub mod Counting
 pub mod Wrote
 pub mod Hosts

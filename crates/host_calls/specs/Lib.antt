@@ -1,4 +1,5 @@
 pub mod Added
+pub mod Moments
 pub mod Synced
 pub mod Made
 pub mod Shown

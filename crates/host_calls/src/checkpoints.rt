@@ -3,11 +3,13 @@ ghost use Rattle.std.specs.Prelude.{◌≡◌, ℕ, Some, length, slice_get};
 ghost use Rattle.hall.specs.Calls.{start_of, view};
 ghost use Rattle.tx_events.specs.declared.refusal.Lock.{Lock};
 ghost use Rattle.tx_model.specs.declared.reply.Reply.TheVariants as replies;
+ghost use Rattle.recoverable.specs.Whole.{BeganRight, IsShort};
 ghost use Rattle.engine_parts.specs.declared.session.Session.{Session};
 ghost use Rattle.engine_host.specs.Homes.{IsHome};
 ghost use Rattle.engine_host.specs.Hosts.{IsParked};
 ghost use Rattle.session_promise.specs.Causes.{failed_volume};
 ghost use Rattle.session_promise.specs.Checkpoints.{WentCheckpoint};
+ghost use Rattle.host_calls.specs.Moments.{FitThroughout};
 ghost use Rattle.host_calls.specs.Made.{HasFailed, IsOfUpLog, IsUntouched, IsWholeCheckpoint};
 
 use crate::committing::{first_committing, first_making};
@@ -45,6 +47,10 @@ pub fn checkpoint<R: Wait, L: LogDisk, P: PageDisk>(
     ensures fault { (lock : Lock) → failed_volume result ≡ Some lock
         → HasFailed (start_of hall.now) (view host.old.pass).seen (view host.new.pass).seen lock }
     ensures up { IsOfUpLog (view host.old.pass).seen result }
+    // Whatever is answered, and over every disk: at every moment what a crash leaves fits, so that a recovery may begin from
+    // it, in a short life that began with a base from which one may start.
+    ensures fit { BeganRight (start_of hall.now) → IsShort (view host.old.pass).seen
+        → FitThroughout (start_of hall.now) (view host.old.pass).seen (view host.new.pass).seen }
     ensures untouched { IsUntouched (view host.old.pass).seen (view host.new.pass).seen result }
 {
     match first_committing(sessions) {

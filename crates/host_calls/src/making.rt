@@ -8,6 +8,7 @@ ghost use Rattle.tx_core.specs.EngineInvariant.{EngineInvariant};
 ghost use Rattle.tx_core.specs.ProgramOrder.{IsHostsTurn};
 ghost use Rattle.engine_parts.specs.Alone.{IsAlone};
 ghost use Rattle.session_promise.specs.Causes.{failed_volume};
+ghost use Rattle.host_calls.specs.Moments.{KeptThroughout};
 ghost use Rattle.host_calls.specs.Made.{HasFailed, IsOfUpLog, IsTried, IsUntouched, IsWholeCheckpoint, Went};
 ghost use Rattle.host_calls.specs.Synced.{AreAllMade, IsNoneWaiting};
 
@@ -41,6 +42,8 @@ pub(crate) fn make_checkpoint<R: Wait, L: LogDisk, P: PageDisk>(
     ensures alone { IsAlone hall.now pass.new }
     ensures holds { (view pass.new).holds ≡ (view pass.old).holds }
     ensures kept { EngineInvariant (start_of hall.now) (view pass.new).seen }
+    ensures was_kept { EngineInvariant (start_of hall.now) (view pass.old).seen }
+    ensures stages { KeptThroughout (start_of hall.now) (view pass.old).seen (view pass.new).seen }
     ensures tried { IsTried result }
     ensures went { Went (start_of hall.now) (view pass.old).seen (view pass.new).seen result }
     ensures whole { result ≡ replies.Done

@@ -5,6 +5,7 @@ ghost use Rattle.tx_core.specs.EngineInvariant.{EngineInvariant};
 ghost use Rattle.tx_core.specs.ProgramOrder.{IsHostsTurn};
 ghost use Rattle.engine_parts.specs.Alone.{IsAlone};
 ghost use Rattle.host_calls.specs.Added.{SyncsBanks};
+ghost use Rattle.host_calls.specs.Moments.{KeptThroughout};
 
 use disk_core::{LogDisk, PageDisk};
 use engine_parts::EngineLaw;
@@ -27,6 +28,7 @@ fn sync_states<R: Wait, L: LogDisk, P: PageDisk>(
     ensures alone { IsAlone hall.now pass.new }
     ensures holds { (view pass.new).holds ≡ (view pass.old).holds }
     ensures kept { EngineInvariant (start_of hall.now) (view pass.new).seen }
+    ensures stages { KeptThroughout (start_of hall.now) (view pass.old).seen (view pass.new).seen }
     ensures adds { SyncsBanks (start_of hall.now) by (3 + 4 * bank) (4 + 4 * bank) (view pass.old).seen
         (view pass.new).seen result }
 {
@@ -50,6 +52,7 @@ fn sync_parents<R: Wait, L: LogDisk, P: PageDisk>(
     ensures alone { IsAlone hall.now pass.new }
     ensures holds { (view pass.new).holds ≡ (view pass.old).holds }
     ensures kept { EngineInvariant (start_of hall.now) (view pass.new).seen }
+    ensures stages { KeptThroughout (start_of hall.now) (view pass.old).seen (view pass.new).seen }
     ensures adds { SyncsBanks (start_of hall.now) by (4 + 4 * bank) (5 + 4 * bank) (view pass.old).seen
         (view pass.new).seen result }
 {
@@ -73,6 +76,7 @@ fn sync_starts<R: Wait, L: LogDisk, P: PageDisk>(
     ensures alone { IsAlone hall.now pass.new }
     ensures holds { (view pass.new).holds ≡ (view pass.old).holds }
     ensures kept { EngineInvariant (start_of hall.now) (view pass.new).seen }
+    ensures stages { KeptThroughout (start_of hall.now) (view pass.old).seen (view pass.new).seen }
     ensures adds { SyncsBanks (start_of hall.now) by (5 + 4 * bank) (6 + 4 * bank) (view pass.old).seen
         (view pass.new).seen result }
 {
@@ -96,6 +100,7 @@ fn sync_slots<R: Wait, L: LogDisk, P: PageDisk>(
     ensures alone { IsAlone hall.now pass.new }
     ensures holds { (view pass.new).holds ≡ (view pass.old).holds }
     ensures kept { EngineInvariant (start_of hall.now) (view pass.new).seen }
+    ensures stages { KeptThroughout (start_of hall.now) (view pass.old).seen (view pass.new).seen }
     ensures adds { SyncsBanks (start_of hall.now) by (6 + 4 * bank) (7 + 4 * bank) (view pass.old).seen
         (view pass.new).seen result }
 {
@@ -119,6 +124,7 @@ fn sync_bank<R: Wait, L: LogDisk, P: PageDisk>(
     ensures alone { IsAlone hall.now pass.new }
     ensures holds { (view pass.new).holds ≡ (view pass.old).holds }
     ensures kept { EngineInvariant (start_of hall.now) (view pass.new).seen }
+    ensures stages { KeptThroughout (start_of hall.now) (view pass.old).seen (view pass.new).seen }
     ensures adds { SyncsBanks (start_of hall.now) by (3 + 4 * bank) (7 + 4 * bank) (view pass.old).seen
         (view pass.new).seen result }
 {
@@ -144,6 +150,7 @@ pub(crate) fn sync_all<R: Wait, L: LogDisk, P: PageDisk>(
     ensures alone { IsAlone hall.now pass.new }
     ensures holds { (view pass.new).holds ≡ (view pass.old).holds }
     ensures kept { EngineInvariant (start_of hall.now) (view pass.new).seen }
+    ensures stages { KeptThroughout (start_of hall.now) (view pass.old).seen (view pass.new).seen }
     ensures adds { SyncsBanks (start_of hall.now) by 3 (3 + 4 * banks) (view pass.old).seen (view pass.new).seen
         result }
 {

@@ -11,6 +11,7 @@ ghost use Rattle.tx_core.specs.StaysDown.{IsUp};
 ghost use Rattle.engine_parts.specs.Alone.{IsAlone};
 ghost use Rattle.host_sections.specs.HostEntries.{next_number};
 ghost use Rattle.host_calls.specs.Added.{WritesCheckpoint};
+ghost use Rattle.host_calls.specs.Moments.{KeptThroughout};
 ghost use Rattle.host_calls.specs.Synced.{AreAllMade, AreAllSynced};
 
 use disk_core::{LogDisk, PageDisk};
@@ -40,6 +41,7 @@ pub(crate) fn write_checkpoint<R: Wait, L: LogDisk, P: PageDisk>(
     ensures alone { IsAlone hall.now pass.new }
     ensures holds { (view pass.new).holds ≡ (view pass.old).holds }
     ensures kept { EngineInvariant (start_of hall.now) (view pass.new).seen }
+    ensures stages { KeptThroughout (start_of hall.now) (view pass.old).seen (view pass.new).seen }
     ensures adds { WritesCheckpoint (start_of hall.now) by (view pass.old).seen (view pass.new).seen result }
 {
     let counters = read_counters(rt, hall, pass);

@@ -1,6 +1,8 @@
 use Rattle.std.proofs.Common.{◌∙◌, arith, refl, sym}
+use Rattle.hall.specs.Calls.{start_of, view}
 use Rattle.engine_host.proofs.Homing.{stays_parked}
 use Rattle.host_calls.proofs.Parked.{all_are_made, none_waiting, went_making, went_pending}
+use Rattle.host_calls.proofs.Stages.{all_fit, stays}
 use Rattle.host_calls.proofs.checkpoints.checkpoint.Goals as goal
 
 pub returns-in-Some-clause-went : goal.returns-in-Some-clause-went
@@ -21,3 +23,23 @@ returns-in-None-first_making-clause-parked g c n s q =
     let m = c.make_checkpoint.ensures in
     let long = m.alone.own.wide ∙ sym h.own.wide in
     stays_parked c.args.hall.now c.args.host.now _ c.requires.home m.alone.own m.alone.free (m.alone.name ∙ (h.sessions ∙ sym h.name)) m.holds refl refl m.kept long n s (m.went.idle n (omega (arith, q.below, h.sessions))) q
+
+-- nothing is done, and what follows the lists fits
+pub returns-in-Some-clause-fit : goal.returns-in-Some-clause-fit
+returns-in-Some-clause-fit g c right short =
+    let start = start_of c.args.hall.now in
+    let seen = (view c.args.host.now.pass).seen in
+    let first = c.in-Some.ensures.0 in
+    all_fit start seen seen (c.requires.parked c.in-Some.session first.0 first.1).may.ready.at.kept (stays start seen seen refl) right short
+
+pub returns-in-Some-first_making-clause-fit : goal.returns-in-Some-first_making-clause-fit
+returns-in-Some-first_making-clause-fit g c right short =
+    let start = start_of c.args.hall.now in
+    let seen = (view c.args.host.now.pass).seen in
+    let first = c.in-Some-first_making.ensures.0 in
+    all_fit start seen seen (c.requires.parked c.in-Some-first_making.session first.0 first.1).may.ready.at.kept (stays start seen seen refl) right short
+
+pub returns-in-None-first_making-clause-fit : goal.returns-in-None-first_making-clause-fit
+returns-in-None-first_making-clause-fit g c right short =
+    let m = c.make_checkpoint.ensures in
+    all_fit (start_of c.args.hall.now) (view c.args.host.now.pass).seen (view c.make_checkpoint.new.pass).seen m.was_kept m.stages right short

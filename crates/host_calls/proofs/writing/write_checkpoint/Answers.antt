@@ -16,7 +16,9 @@ use Rattle.wal_records.specs.Spelling.{AreCounters}
 use Rattle.engine_parts.specs.Stand.{EndsInCheckpoint}
 use Rattle.host_sections.specs.HostEntries.{AddsCheckpoint, HaveForms, next_number}
 use Rattle.host_calls.proofs.Counting.{now_follows, now_lawful, now_stays}
+use Rattle.host_calls.specs.Moments.{KeptThroughout}
 use Rattle.host_calls.proofs.Forgetting.{may_forget}
+use Rattle.host_calls.proofs.Stages.{appended, flushed, followed, forgotten, stays}
 use Rattle.host_calls.proofs.Wrote.{append_refused, ends, flush_refused, forgot, marked, put_down}
 use Rattle.host_calls.proofs.writing.write_checkpoint.Goals as goal
 
@@ -122,3 +124,43 @@ returns-in-Err-clause-adds g c =
     let mid = (view c.append_checkpoint.new.pass).seen in
     append_refused start by old inside (Unit {0}) counters mid c.in-Err.refusal c.requires.up
     (subst (λ (z : List (List Entry)). AddsCheckpoint start by counters z mid (Err c.in-Err.refusal)) r.stays.seen c.in-Err.ensures.adds)
+
+-- each step is a stage
+pub returns-in-Ok-flush_records-clause-stages : goal.returns-in-Ok-flush_records-clause-stages
+returns-in-Ok-flush_records-clause-stages g c =
+    let start = start_of c.args.hall.now in
+    let by = c.args.by in
+    let old = (view c.args.pass.now).seen in
+    let read = (view c.read_counters-counters.new.pass).seen in
+    let mid = (view c.append_checkpoint.new.pass).seen in
+    let a = c.append_checkpoint.ensures in
+    let marked : KeptThroughout start old mid = followed start old read mid (stays start old read c.read_counters-counters.ensures.stays.seen) (appended start by c.read_counters-counters.result read mid c.append_checkpoint.result a.adds a.kept) in
+    let late = (view c.flush_records.new.pass).seen in
+    let last = (view c.forget_log.new.pass).seen in
+    let f = c.flush_records.ensures in
+    followed start old mid last marked
+    (followed start mid late last (flushed start by mid late c.flush_records.result f.adds f.kept) (forgotten start by c.in-Ok.number late last c.forget_log.result c.forget_log.ensures.adds c.forget_log.ensures.kept))
+
+pub returns-in-Err-flush_records-clause-stages : goal.returns-in-Err-flush_records-clause-stages
+returns-in-Err-flush_records-clause-stages g c =
+    let start = start_of c.args.hall.now in
+    let by = c.args.by in
+    let old = (view c.args.pass.now).seen in
+    let read = (view c.read_counters-counters.new.pass).seen in
+    let mid = (view c.append_checkpoint.new.pass).seen in
+    let a = c.append_checkpoint.ensures in
+    let marked : KeptThroughout start old mid = followed start old read mid (stays start old read c.read_counters-counters.ensures.stays.seen) (appended start by c.read_counters-counters.result read mid c.append_checkpoint.result a.adds a.kept) in
+    let late = (view c.flush_records.new.pass).seen in
+    let f = c.flush_records.ensures in
+    followed start old mid late marked (flushed start by mid late c.flush_records.result f.adds f.kept)
+
+pub returns-in-Err-clause-stages : goal.returns-in-Err-clause-stages
+returns-in-Err-clause-stages g c =
+    let start = start_of c.args.hall.now in
+    let by = c.args.by in
+    let old = (view c.args.pass.now).seen in
+    let read = (view c.read_counters-counters.new.pass).seen in
+    let mid = (view c.append_checkpoint.new.pass).seen in
+    let a = c.append_checkpoint.ensures in
+    let marked : KeptThroughout start old mid = followed start old read mid (stays start old read c.read_counters-counters.ensures.stays.seen) (appended start by c.read_counters-counters.result read mid c.append_checkpoint.result a.adds a.kept) in
+    marked

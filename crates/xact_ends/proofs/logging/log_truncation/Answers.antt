@@ -1,7 +1,6 @@
-use Rattle.std.proofs.Common.{Ok, ◌≡◌, ◌≤◌, arith, length, sym, subst}
+use Rattle.std.proofs.Common.{Ok, ◌≡◌, arith, sym, subst}
 use Rattle.hall.specs.Calls.{view, start_of}
 use Rattle.tx_events.specs.declared.record.Rec.{Rec}
-use Rattle.engine_parts.specs.declared.session.Session.{Session}
 use Rattle.engine_parts.specs.Adding.{IsPlain, IsTruncation, MayAdd}
 use Rattle.engine_parts.specs.Sessions.{by_at}
 use Rattle.engine_parts.proofs.Adding.{may_wider, plain_wider}
@@ -80,8 +79,7 @@ unreachable-requires g c =
     let w = c.append_truncation.new.caller in
     let e = c.read_truncation-rec.ensures in
     let rec : Rec = c.read_truncation-rec.result in
-    let some : 1 ≤ length t.session.levels.open_ids.items = subst (λ (z : Session). 1 ≤ length z.levels.open_ids.items) (sym e.same.0) c.requires.some in
-    truncation_lands start (view t.pass) (view w.pass).seen t.number t.session rec e.ready.at some c.append_truncation.ensures.may.ready.at.kept e.record e.forms
+    truncation_lands start (view t.pass) (view w.pass).seen rec e.ready.at.base c.append_truncation.ensures.may.ready.at.kept c.append_truncation.ensures.went.on.grows e.record e.forms
     (subst (λ (z : Appended). TakesTruncation start (view w.pass).seen rec (Ok z)) c.in-NoBase.is c.in-Ok.ensures.takes)
 
 pub returns-in-At-clause-told : goal.returns-in-At-clause-told

@@ -18,7 +18,7 @@ pub struct Tally {
     pub ranks: Vec<u32>,
 }
 
-/// The number in 32 bits. No list of that many items has room.
+/// The number in 32 bits. No report that is read has so many items.
 fn small(number: u64) -> Result<u32, Memory>
     ensures { IfOk result (λ n. n ≡ number) }
 {

@@ -1,5 +1,5 @@
 -- The worked life fits, and the wrong volumes don't.
-use Rattle.std.proofs.Common.{◌-◌, Contains, List, Ok, Err, Some, [], ap, arith, inl, length, refl, replicate, subst, suc, sym, zero, ℕ, ⊎_elim, ◌++◌, ◌+◌, ◌/◌, ◌%◌, ◌<◌, ◌∙◌, ◌∷◌, ◌≡◌, ◌≤◌, ◌⊎◌}
+use Rattle.std.proofs.Common.{◌-◌, Contains, List, Ok, Err, Result, Some, [], ap, arith, inl, length, refl, replicate, subst, suc, sym, zero, ℕ, ⊎_elim, ◌++◌, ◌+◌, ◌/◌, ◌%◌, ◌<◌, ◌∙◌, ◌∷◌, ◌≡◌, ◌≤◌, ◌⊎◌}
 use Rattle.std.specs.List.{slice_get, slice_index}
 use Rattle.tx_events.specs.Ids.{low_half, next_multi}
 use Rattle.disk_core.specs.Pages.{page_bytes, zero_page}
@@ -12,7 +12,7 @@ use Rattle.tx_events.specs.declared.multi.Member.{Member}
 use Rattle.tx_events.specs.declared.multi.Mode.TheVariants.{ForUpd, Sh}
 use Rattle.tx_events.specs.declared.record.Rec.TheVariants as records
 use Rattle.wal_core.specs.BaseTest.{is_base_of}
-use Rattle.wal_core.specs.Opening.{batch_at, judged, opened, recs_in, walk}
+use Rattle.wal_core.specs.Opening.{Opened, batch_at, judged, opened, recs_in, walk}
 use Rattle.wal_records.specs.Numbers.{le_number}
 use Rattle.wal_records.specs.Reading.{checkpoint_at, counters_at, id_at, multi_at, rec_at}
 use Rattle.recoverable.specs.Bytes.{ImageHasZeroTails, byte_of, offset_byte, slot_byte, slot_bytes}
@@ -21,12 +21,15 @@ use Rattle.recoverable.specs.FitMultis.{MembersFit, OffsetsFit}
 use Rattle.tx_events.specs.LifeBase.{AreInOrder, IsLifeBase}
 use Rattle.recoverable.specs.Volumes.{ImageFits, IsWholeAt, ListFits, LogFits}
 use Rattle.recoverable.proofs.Stretches.{get_inside}
-use Rattle.recoverable.specs.WorkedLife.{recs, AreRefused, IsWorked, counters_at_3, left, log, log_volume, members, offsets, slots, states}
+use Rattle.recoverable.specs.WorkedLife.{recs, AreRefused, IsWorked, counters_at_3, cut_volume, left, log, log_volume, members, offsets, slots, states}
 use Rattle.recoverable.specs.XactImages.{code_at}
 
 -- ---- the log
 
-opens : opened (log_volume 0) ≡ Ok (record { history = Some (record { first = 3; recs = records.Checkpoint 3 counters_at_3 ∷ []; counters = counters_at_3 }); gate = 222 })
+abbrev from_3 : Opened
+from_3 = record { history = Some (record { first = 3; recs = records.Checkpoint 3 counters_at_3 ∷ []; counters = counters_at_3 }); gate = 222 }
+
+opens : opened (log_volume 0) ≡ Ok from_3
 unfolding opened batch_at walk recs_in judged rec_at checkpoint_at counters_at le_number id_at multi_at is_base_of
 opens = refl
 
@@ -34,6 +37,22 @@ opens = refl
 stays_open : opened (log_volume 1) ≡ Err 222
 unfolding opened batch_at walk recs_in judged rec_at checkpoint_at counters_at le_number id_at multi_at is_base_of
 stays_open = refl
+
+-- cut there it opens as before, but its end is no byte of the volume
+opens_cut : opened cut_volume ≡ Ok from_3
+unfolding opened batch_at walk recs_in judged rec_at checkpoint_at counters_at le_number id_at multi_at is_base_of
+opens_cut = refl
+
+abbrev gate_in : Result Opened ℕ → ℕ
+gate_in (Ok o) = o.gate
+gate_in (Err at) = at
+
+cut : LogFits log 3 cut_volume → ⊥
+cut fits =
+    let q : Ok from_3 ≡ Ok (record { history = Some fits.history; gate = fits.gate }) = sym opens_cut ∙ fits.opens in
+    let g : 222 ≡ fits.gate = ap gate_in q in
+    let w : fits.gate < 222 = fits.within in
+    omega arith
 
 -- ---- its base
 
@@ -254,4 +273,5 @@ are_refused = record {
   lost_offset = λ fits. let q : 0 ≡ 1 = fits.recorded 1 1 members among_recorded (omega arith) refl 0 (omega arith) in omega arith;
   torn_mode = λ fits. let q : 2 ≡ 3 = fits.recorded 1 1 0 members (record { id = 3; mode = ForUpd }) among_recorded (omega arith) refl refl 4 (omega arith) in omega arith;
   open_gate = λ fits. let q : Err 222 ≡ Ok (record { history = Some fits.history; gate = fits.gate }) = sym stays_open ∙ fits.opens in absurd cc;
+  cut = cut;
 }

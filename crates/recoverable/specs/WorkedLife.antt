@@ -47,11 +47,15 @@ checkpoint_bytes =
     ∷ 2 ∷ 0 ∷ 0 ∷ 0 ∷ 0 ∷ 0 ∷ 0 ∷ 0 ∷ 3 ∷ 0 ∷ 0 ∷ 0 ∷ 0 ∷ 0 ∷ 0 ∷ 0
     ∷ 1 ∷ 0 ∷ 0 ∷ 0 ∷ 0 ∷ 0 ∷ 0 ∷ 0 ∷ 1 ∷ 0 ∷ 0 ∷ 0 ∷ 0 ∷ 0 ∷ 0 ∷ 0 ∷ []
 
+abbrev pub log_bytes : List ℕ
+log_bytes = replicate 160 0 ++ 1 ∷ 57 ∷ 0 ∷ 0 ∷ 0 ∷ checkpoint_bytes
+
 abbrev pub log_volume : ℕ → Volume
-log_volume gate = record {
-  start = 160;
-  bytes = replicate 160 0 ++ (1 ∷ 57 ∷ 0 ∷ 0 ∷ 0 ∷ checkpoint_bytes) ++ gate ∷ [];
-}
+log_volume gate = record { start = 160; bytes = log_bytes ++ gate ∷ [] }
+
+-- the same cut at its closed gate
+abbrev pub cut_volume : Volume
+cut_volume = record { start = 160; bytes = log_bytes }
 
 -- a volume with one page, which begins with these bytes
 abbrev pub page_with : List ℕ → Pages
@@ -80,13 +84,14 @@ pub record IsWorked : Type 0 where
   pub fits : ImageFits 1 log left
 
 -- What doesn't fit: the state of 3 was lost though the log was forgotten behind its commit; 4 shows committed though its
--- commit isn't on disk; the offset was lost; a mode is torn; the log's volume was cut at its gate.
+-- commit isn't on disk; the offset was lost; a mode is torn; the log's last gate is open; its volume was cut there.
 pub record AreRefused : Type 0 where
   pub lost_state : XactFits 1 0 log 3 (page_with []) → ⊥
   pub early_state : XactFits 1 0 log 3 (page_with (64 ∷ 1 ∷ [])) → ⊥
   pub lost_offset : OffsetsFit 1 0 log 3 (page_with []) → ⊥
   pub torn_mode : MembersFit 1 0 log 3 (slots 2) → ⊥
   pub open_gate : LogFits log 3 (log_volume 1) → ⊥
+  pub cut : LogFits log 3 cut_volume → ⊥
 
 -- ---- what a recovery leaves
 

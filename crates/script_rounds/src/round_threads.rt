@@ -1,5 +1,5 @@
-//! On how many threads the sessions of a round run.
-ghost use Rattle.std.specs.Prelude.{◌≡◌, ℕ, ◌<◌, ◌≤◌, length};
+//! On how many threads the sessions of a round run, and what they did is printed.
+ghost use Rattle.std.specs.Prelude.{◌≡◌, ℕ, ◌<◌, ◌≤◌, length, max};
 ghost use Rattle.script_rounds.specs.declared.round_threads.RoundThreads.TheVariants as ways;
 
 use crate::plan::Plan;
@@ -9,10 +9,10 @@ use session_lang::Items;
 // wait for one another at the same few locks.
 const FEW_COMMANDS: usize = 4_096;
 
-/// On how many threads the sessions of a round run.
+/// On how many threads the sessions of a round run, and what they did is printed.
 #[derive(Clone, Copy)]
 pub enum RoundThreads {
-    /// On at most so many, and on one where the round has fewer than 4,096 commands.
+    /// On at most so many, none being one; and on one where the round has fewer than 4,096 commands.
     AtMost(usize),
     /// On one for each session, as is needed where a gate holds a session until another one comes to it.
     OneEach,
@@ -22,8 +22,8 @@ impl RoundThreads {
     /// How many threads this round takes.
     pub fn count(self, plan: &Plan, round: &Items) -> usize
         ensures some { 0 < result }
-        ensures many { (most : ℕ) → self ≡ ways.AtMost most → 1 ≤ most → 2 ≤ length plan.now.sessions.items
-            → 4096 ≤ length round.now → result ≡ most }
+        ensures many { (most : ℕ) → self ≡ ways.AtMost most → 2 ≤ length plan.now.sessions.items
+            → 4096 ≤ length round.now → result ≡ max 1 most }
         ensures few { (most : ℕ) → self ≡ ways.AtMost most → length round.now < 4096 → result ≡ 1 }
         ensures each { self ≡ ways.OneEach → 1 ≤ length plan.now.sessions.items
             → result ≡ length plan.now.sessions.items }
@@ -40,7 +40,7 @@ impl RoundThreads {
     /// On how many threads a list of what was done is printed: on one where each session has its own.
     pub fn count_to_print(self) -> usize
         ensures some { 0 < result }
-        ensures many { (most : ℕ) → self ≡ ways.AtMost most → 1 ≤ most → result ≡ most }
+        ensures many { (most : ℕ) → self ≡ ways.AtMost most → result ≡ max 1 most }
         ensures each { self ≡ ways.OneEach → result ≡ 1 }
     {
         match self {

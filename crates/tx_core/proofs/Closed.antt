@@ -12,7 +12,7 @@ use Rattle.tx_core.specs.declared.entry.Kind.TheVariants as kinds
 use Rattle.tx_core.specs.declared.entry.Start.{Start}
 use Rattle.tx_core.specs.declared.entry.State.TheVariants as states
 use Rattle.tx_core.specs.AbortRule.{AbortsOf}
-use Rattle.tx_core.specs.Consequences.{ClosedAborted, TopsFirst}
+use Rattle.tx_core.specs.Consequences.{ClosedAborted, SubsBefore, TopsFirst}
 use Rattle.tx_core.specs.EngineInvariant.{EngineInvariant}
 use Rattle.tx_core.specs.Entries.{IsAppended, IsMarked, Mark, event_of, history, marks, marks_in}
 use Rattle.tx_core.specs.Locks.{log_lock, proc_lock, xact_lock_of, xact_page}
@@ -46,18 +46,47 @@ closed_aborted start lists event p k stands =
     let need : AbortsOf start lists (filter_map event_of (take r.0 (at lists proc_lock))) r.1.kind = k.aborts.closed.each proc_lock r.0 r.1 r.2 in
     subst (λ before. AbortsOf start lists before (kinds.Event event)) r.4 (subst (AbortsOf start lists (filter_map event_of (take r.0 (at lists proc_lock)))) (event_kind r.1.kind event r.3) need)
 
--- the top that a commit record names
+-- the top and the subtransactions that a commit record names
 abbrev top_of : Kind → ℕ → ℕ
 top_of (kinds.Append (records.Commit top subs)) other = top
 top_of kind other = other
 
+abbrev subs_of : Kind → List ℕ
+subs_of (kinds.Append (records.Commit top subs)) = subs
+subs_of kind = []
+
+-- Two ids of one commit record: the rule of the one's state speaks of this very record.
+module _ (start : Start) (lists : List (List Entry)) (session top : ℕ) (subs : List ℕ) (id : ℕ) (k : EngineInvariant start lists)
+    (logged : IsAppended lists session (records.Commit top subs)) (named : Contains (top ∷ subs) id) (marked : IsMarked start lists id states.Committed) where
+  abbrev mark : Mark
+  mark = record { caller = marked.0; id = id; state = states.Committed }
+
+  rule : InTree start lists marked.0.session id
+  rule =
+      let es : List Entry = at lists (xact_lock_of start id) in
+      let found = has_flat_map marks_in es mark (contains_has (marks es) mark marked.1) in
+      tree_of start lists (xact_lock_of start id) [] found.0 mark (upheld_has (NeedsTree start) lists (xact_lock_of start id) found.0 k.status.tree found.1).1 found.2
+
+  same : commit_by rule.appended.0 rule.top rule.subs ≡ commit_by logged.0 top subs
+  same = one_commit lists id rule.appended.0 logged.0 rule.top top rule.subs subs k.once (contains_has (at lists log_lock) (commit_by rule.appended.0 rule.top rule.subs) rule.appended.2) (contains_has (at lists log_lock) (commit_by logged.0 top subs) logged.2) rule.among named
+
+  is_top : rule.top ≡ top
+  is_top = ap (λ (e : Entry). top_of e.kind 0) same
+
+  are_subs : rule.subs ≡ subs
+  are_subs = ap (λ (e : Entry). subs_of e.kind) same
+
+pub subs_before : SubsBefore
+subs_before start lists session top subs id k logged named marked apart =
+    let first : Contains (top ∷ subs) top = (0, omega arith, refl) in
+    let r = rule start lists session top subs top k logged first marked in
+    let t : r.top ≡ top = is_top start lists session top subs top k logged first marked in
+    let s : r.subs ≡ subs = are_subs start lists session top subs top k logged first marked in
+    r.before_top (sym t) id (subst (λ xs. Contains xs id) (sym s) named) (λ same_page. apart (same_page ∙ ap xact_page t))
+
 pub tops_first : TopsFirst
 tops_first start lists session top subs id k logged named marked apart =
-    let es : List Entry = at lists (xact_lock_of start id) in
-    let mark : Mark = record { caller = marked.0; id = id; state = states.Committed } in
-    let found = has_flat_map marks_in es mark (contains_has (marks es) mark marked.1) in
-    let tree : InTree start lists marked.0.session id = tree_of start lists (xact_lock_of start id) [] found.0 mark (upheld_has (NeedsTree start) lists (xact_lock_of start id) found.0 k.status.tree found.1).1 found.2 in
-    let same : commit_by tree.appended.0 tree.top tree.subs ≡ commit_by logged.0 top subs
-    = one_commit lists id tree.appended.0 logged.0 tree.top top tree.subs subs k.once (contains_has (at lists log_lock) (commit_by tree.appended.0 tree.top tree.subs) tree.appended.2) (contains_has (at lists log_lock) (commit_by logged.0 top subs) logged.2) tree.among (suc named.0, omega arith, named.2) in
-    let is_top : tree.top ≡ top = ap (λ (e : Entry). top_of e.kind 0) same in
-    subst (λ t. IsMarked start lists t states.Committed) is_top (tree.after_top (λ same_page. apart (same_page ∙ ap xact_page is_top)))
+    let among : Contains (top ∷ subs) id = (suc named.0, omega arith, named.2) in
+    let r = rule start lists session top subs id k logged among marked in
+    let t : r.top ≡ top = is_top start lists session top subs id k logged among marked in
+    subst (λ t. IsMarked start lists t states.Committed) t (r.after_top (λ same_page. apart (same_page ∙ ap xact_page t)))

@@ -192,6 +192,12 @@ abbrev pub ClosedAborted : Type 0
 ClosedAborted = (start : Start) (lists : List (List Entry)) (event : Event) (p : ℕ) →
     EngineInvariant start lists → slice_get (history lists) p ≡ Some event → AbortsOf start lists (take p (history lists)) (kinds.Event event)
 
+-- Where a top was set committed, each of its subtransactions on another page was set sub-committed.
+abbrev pub SubsBefore : Type 0
+SubsBefore = (start : Start) (lists : List (List Entry)) (session top : ℕ) (subs : List ℕ) (id : ℕ) →
+    EngineInvariant start lists → IsAppended lists session (records.Commit top subs) → Contains subs id
+    → IsMarked start lists top states.Committed → (xact_page id ≡ xact_page top → ⊥) → IsMarked start lists id states.SubCommitted
+
 -- Where a subtransaction on another page than its top was set committed, the top was.
 abbrev pub TopsFirst : Type 0
 TopsFirst = (start : Start) (lists : List (List Entry)) (session top : ℕ) (subs : List ℕ) (id : ℕ) →

@@ -1,5 +1,5 @@
 ghost use Rattle.tx_core.specs.Laws.{Keeps, Opens, CommitRecordKeeps, AbortRecordKeeps, MultiRecordKeeps, CheckpointRecordKeeps, TruncateRecordKeeps, FlushKeeps, ForgetKeeps, LogFaultKeeps, IdEventKeeps, SubEventKeeps, UndoEventKeeps, CommitEventKeeps, AbortEventKeeps, SnapEventKeeps, SnapDropKeeps, OldestKeeps, AskKeeps, MadeKeeps, MultiEventKeeps, ChangesKeep, CommittedKeeps, SubCommittedKeeps, AbortedKeeps, ParentKeeps, ZeroKeeps, CutKeeps, SyncKeeps, FaultKeeps, RequestKeeps, LookKeeps, OldestPostKeeps, XminPostKeeps, HostsKeep};
-ghost use Rattle.tx_core.specs.Consequences.{SessionsKnown, NeverAborted, CommittedAsked, AskedGiven, OldestRises, PostsGoOn, MultisAreLegal, NextGiven, ParentsKept, StatesKept, HorizonRises, SnapshotsHold, OpenKept, RaisesTold, FaultsCounted, FlushesRise, ClosedAborted, CommitsAreFlushed, DownStays, LogIsBehind, CheckpointsTell, RecordsGiven, RecordsShown, TopsFirst};
+ghost use Rattle.tx_core.specs.Consequences.{SessionsKnown, NeverAborted, CommittedAsked, AskedGiven, OldestRises, PostsGoOn, MultisAreLegal, NextGiven, ParentsKept, StatesKept, HorizonRises, SnapshotsHold, OpenKept, RaisesTold, FaultsCounted, FlushesRise, ClosedAborted, CommitsAreFlushed, DownStays, LogIsBehind, CheckpointsTell, RecordsGiven, RecordsShown, SubsBefore, TopsFirst};
 ghost use Rattle.tx_core.specs.Held.{OpenRuns, PagesHeld};
 ghost use Rattle.tx_core.specs.Nearness.{MadeNear};
 ghost use Rattle.tx_core.specs.Pages.{PagesShow, ParentsShow, OffsetsShow, MembersShow};
@@ -304,6 +304,12 @@ pub fn commits_are_flushed()
 /// What an undo or an abort closes was set aborted before its event (`RecordTransactionAbort` in `xact.c`).
 pub fn closed_aborted()
     ensures { ClosedAborted }
+{}
+
+/// A top is committed only behind what makes its subtransactions on other pages sub-committed
+/// (`TransactionIdSetTreeStatus` in `clog.c`).
+pub fn subs_before()
+    ensures { SubsBefore }
 {}
 
 /// A subtransaction on another page than its top is committed only behind the top (`TransactionIdSetTreeStatus` in

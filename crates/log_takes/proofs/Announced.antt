@@ -3,7 +3,6 @@ use Rattle.std.proofs.Common.{Contains, List, [], append-nil, append_assoc, ap, 
 use Rattle.std.proofs.lemmas.List.Sums.{fold_push}
 use Rattle.notes.specs.Lists.{Grows}
 use Rattle.tx_events.specs.declared.event.By.{By}
-use Rattle.tx_events.specs.declared.event.Event.TheVariants as events
 use Rattle.tx_events.specs.declared.multi.Member.{Member}
 use Rattle.tx_events.specs.declared.multi.MultiEvent.{MultiEvent}
 use Rattle.tx_events.specs.declared.multi.MultiEvent.TheVariants as multis
@@ -17,11 +16,8 @@ use Rattle.multi_store.proofs.LegalSound.{legal_base, legal_rises}
 use Rattle.tx_core.specs.declared.entry.Entry.{Entry}
 use Rattle.tx_core.specs.declared.entry.Start.{Start}
 use Rattle.tx_core.specs.EngineInvariant.{EngineInvariant}
-use Rattle.tx_core.specs.Entries.{history}
 use Rattle.tx_core.specs.MultiEntries.{multi_history}
-use Rattle.tx_core.specs.RecordsFollow.{IsMultiAnnounced, IsOldestAnnounced}
-use Rattle.tx_core.proofs.Growing.{contains_begins}
-use Rattle.tx_core.proofs.Lasting.{history_grows}
+use Rattle.tx_core.specs.RecordsFollow.{IsMultiAnnounced}
 use Rattle.tx_core.proofs.MultiGiven.{gen_below, raised_from}
 use Rattle.tx_core.proofs.MultiOrder.{made_at_has, ordered}
 use Rattle.tx_core.proofs.MultiRaised.{last_raised, raise_within}
@@ -57,6 +53,12 @@ multis_rest base h es is legal =
     let y = a.1 in
     subst (IsNoLower base h) (sym split) (omega (arith, x, first), omega (arith, y, begin)))
     es legal
+
+-- so they never fall
+pub multis_rise : (start : Start) (lists more : List (List Entry)) → IsBase start.base → EngineInvariant start more → Grows lists more → IsNoLower start.base (multi_history lists) (multi_history more)
+multis_rise start lists more is k g =
+    let b = multis_grow lists more g in
+    subst (IsNoLower start.base (multi_history lists)) b.1 (multis_rest start.base (multi_history lists) b.0 is (subst (AreLegalMultis start.base (InBase start.base)) (sym b.1) (multis_are_legal start more k)))
 
 -- what is given behind some events is not before the next one by then
 gen_from : (base : Counters) (h rest : List MultiEvent) (by : By) (n y : ℕ) (ns : List Member) → AreLegalMultis base (InBase base) (h ++ rest) → Has rest (multis.Gen by n y ns) → next_made base.multi h ≤ n
@@ -99,15 +101,6 @@ free_is base = by_end (IsEnd base) (inl refl) (λ h e before. step h e before)
     step h (multis.Raise by n y) before = kept h (multis.Raise by n y) (fold_push free_after base.offset h (multis.Raise by n y)) before
 
 -- ---- an announced one
-
--- it stays one
-pub id_later : (start : Start) (lists more : List (List Entry)) (oldest : ℕ) → Grows lists more → IsOldestAnnounced start lists oldest → IsOldestAnnounced start more oldest
-id_later start lists more oldest grows a = ⊎_elim inl (λ (z : (by : By) × Contains (history lists) (events.Oldest by oldest)). inr (z.0, contains_begins (history lists) (history more) _ (history_grows lists more grows) z.1)) a
-
-pub multi_later : (start : Start) (lists more : List (List Entry)) (multi offset : ℕ) → Grows lists more → IsMultiAnnounced start lists multi offset → IsMultiAnnounced start more multi offset
-multi_later start lists more multi offset grows a = ⊎_elim inl (λ (z : (by : By) × Contains (multi_history lists) (multis.Raise by multi offset)). inr (z.0, contains_begins (multi_history lists) (multi_history more) _ (multis_grow lists more grows) z.1)) a
-
--- ---- what comes before one
 
 module _ (start : Start) (lists : List (List Entry)) (k : EngineInvariant start lists) (is : IsBase start.base) where
   abbrev base_now : Counters

@@ -1,5 +1,5 @@
--- The log takes a truncation's record, and behind it that of an end.
-use Rattle.std.proofs.Common.{List, Ok, Err, Result, ap, arith, inl, length, max, refl, subst, sym, ℕ, ◌∙◌, ◌∷◌, ◌<◌, ◌≡◌, ◌≤◌}
+-- Behind a truncation's record the log takes that of an end.
+use Rattle.std.proofs.Common.{List, Ok, Err, Result, ap, arith, length, max, subst, sym, ℕ, ◌∙◌, ◌∷◌, ◌<◌, ◌≡◌, ◌≤◌}
 use Rattle.notes.specs.Lists.{Grows, at}
 use Rattle.tx_events.specs.declared.event.By.{By}
 use Rattle.tx_events.specs.declared.record.Counters.{Counters}
@@ -7,7 +7,6 @@ use Rattle.tx_events.specs.declared.record.Rec.{Rec}
 use Rattle.tx_events.specs.declared.record.Rec.TheVariants as records
 use Rattle.tx_events.specs.declared.refusal.Refusal.{Refusal}
 use Rattle.tx_events.specs.After.{after_record}
-use Rattle.tx_events.specs.Base.{IsBase}
 use Rattle.tx_events.specs.Horizon.{oldest_id}
 use Rattle.tx_events.specs.IdLists.{Ascending}
 use Rattle.tx_core.specs.declared.entry.Entry.{Entry}
@@ -17,12 +16,9 @@ use Rattle.tx_core.specs.Entries.{history}
 use Rattle.tx_core.specs.Locks.{log_lock}
 use Rattle.tx_core.specs.RecordsFollow.{counters_after}
 use Rattle.tx_core.proofs.Posting.{oldest_rises}
-use Rattle.tx_core.proofs.StopLimits.{found_announced}
 use Rattle.log_takes.specs.Takes.{IsOldestTold, IsTaken}
-use Rattle.log_takes.proofs.Announced.{id_later}
 use Rattle.log_takes.proofs.Counting.{counters_push, counters_rise}
 use Rattle.log_takes.proofs.Ending.{ends_taken}
-use Rattle.log_takes.proofs.Taking.{truncations_taken}
 use Rattle.engine_parts.specs.declared.session.Session.{Session}
 use Rattle.engine_parts.specs.Adding.{IsAbortOf, IsCommitOf}
 use Rattle.engine_parts.specs.Holds.{Knowledge}
@@ -30,22 +26,11 @@ use Rattle.engine_parts.specs.Sessions.{IsAt}
 use Rattle.engine_parts.proofs.Sectioning.{section_list}
 use Rattle.log_sections.specs.declared.appending.Appended.{Appended}
 use Rattle.log_sections.specs.declared.appending.Appended.TheVariants as came
-use Rattle.log_sections.specs.LogSections.{AppendSection, Appends, TakesAbort, TakesTruncation}
-use Rattle.proc_sections.specs.Horizons.{HasForms, truncation_behind}
+use Rattle.log_sections.specs.LogSections.{AppendSection, Appends, TakesAbort}
+use Rattle.proc_sections.specs.Horizons.{truncation_behind}
 use Rattle.xact_ends.specs.Logged.{IsNumbered}
 
--- ---- a truncation
-
--- the log can take it
-pub truncation_lands : (start : Start) (v : Knowledge) (lists : List (List Entry)) (rec : Rec) → IsBase start.base → EngineInvariant start lists → Grows v.seen lists → rec ≡ truncation_behind start.base (history v.seen) → HasForms rec → TakesTruncation start lists rec (Ok came.NoBase) → ⊥
-truncation_lands start v lists rec base k grows is forms takes =
-    let oldest : ℕ = oldest_id start.base.oldest (history v.seen) in
-    let named : HasForms (truncation_behind start.base (history v.seen)) = subst HasForms is forms in
-    let taken : IsTaken start lists rec = subst (IsTaken start lists) (sym is)
-    (truncations_taken start lists oldest start.base.oldest_multi start.base.oldest_offset k base (id_later start v.seen lists oldest grows (found_announced start.base.oldest (history v.seen))) (inl (refl, refl)) named.0 named.1) in
-    takes taken.lawful taken.base
-
--- and it tells what was announced by then
+-- what a truncation tells was announced by then
 pub truncation_tells : (start : Start) (old : List (List Entry)) (v w : Knowledge) (by : By) (number : ℕ) (rec : Rec) → EngineInvariant start v.seen → Grows old v.seen → log_lock < length v.seen → rec ≡ truncation_behind start.base (history v.seen) → AppendSection start by rec v w (Ok (came.At number)) → IsOldestTold start old w.seen
 truncation_tells start old v w by number rec k grows inside is section =
     let es : List Entry = at section.within.seen log_lock in
@@ -55,8 +40,6 @@ truncation_tells start old v w by number rec k grows inside is section =
     let up : oldest_id start.base.oldest (history old) ≤ oldest = oldest_rises start old v.seen k grows in
     let top : oldest ≤ max (counters_after start es).oldest oldest = omega arith in
     subst (λ (z : Counters). oldest_id start.base.oldest (history old) ≤ z.oldest) (sym now) (omega arith)
-
--- ---- an end
 
 module _ (start : Start) (v : Knowledge) (mid lists : List (List Entry)) (n top : ℕ) (subs : List ℕ) (s : Session) (a : IsAt start v n s) (opened : s.levels.open_ids.items ≡ top ∷ subs)
     (k : EngineInvariant start lists) (told : IsOldestTold start v.seen mid) (grows : Grows mid lists) where

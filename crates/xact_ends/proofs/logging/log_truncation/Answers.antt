@@ -9,7 +9,7 @@ use Rattle.engine_parts.proofs.Unmoved.{call_read, look_adds}
 use Rattle.log_sections.specs.declared.appending.Appended.{Appended}
 use Rattle.log_sections.specs.LogSections.{AppendSection, TakesTruncation}
 use Rattle.xact_ends.proofs.Added.{append_adds, both_add}
-use Rattle.xact_ends.proofs.Landing.{truncation_lands, truncation_tells}
+use Rattle.xact_ends.proofs.Landing.{truncation_tells}
 use Rattle.xact_ends.proofs.Truncating.{is_truncation, truncation_found, went_on}
 use Rattle.xact_ends.proofs.logging.log_truncation.Goals as goal
 
@@ -74,13 +74,8 @@ returns-clause-adds g c =
 
 pub unreachable-requires : goal.unreachable-requires
 unreachable-requires g c =
-    let start = start_of c.args.hall.now in
-    let t = c.read_truncation-rec.new.caller in
     let w = c.append_truncation.new.caller in
-    let e = c.read_truncation-rec.ensures in
-    let rec : Rec = c.read_truncation-rec.result in
-    truncation_lands start (view t.pass) (view w.pass).seen rec e.ready.at.base c.append_truncation.ensures.may.ready.at.kept c.append_truncation.ensures.went.on.grows e.record e.forms
-    (subst (λ (z : Appended). TakesTruncation start (view w.pass).seen rec (Ok z)) c.in-NoBase.is c.in-Ok.ensures.takes)
+    subst (λ (z : Appended). TakesTruncation (start_of c.args.hall.now) (view w.pass).seen c.read_truncation-rec.result (Ok z)) c.in-NoBase.is c.in-Ok.ensures.takes
 
 pub returns-in-At-clause-told : goal.returns-in-At-clause-told
 returns-in-At-clause-told g c =

@@ -40,16 +40,17 @@ pub truncation_lands : (start : Start) (lists : List (List Entry)) (rec : Rec) (
 truncation_lands start lists rec appended is takes = subst (λ (z : Appended). TakesTruncation start lists rec (Ok z)) is takes
 
 -- it tells what was announced by then: the oldest id was read first, and then the oldest multixact
-pub truncation_tells : (start : Start) (old first : List (List Entry)) (v w : Knowledge) (by : By) (appended : Appended) (number oldest : ℕ) (found : Counters) → IsBase start.base → EngineInvariant start first → EngineInvariant start v.seen
-    → Grows old first → Grows old v.seen → log_lock < length v.seen → oldest ≡ oldest_id start.base.oldest (history first) → found ≡ multi_counters start.base (multi_history v.seen) → appended ≡ came.At number
+pub truncation_tells : (start : Start) (old first : List (List Entry)) (v w : Knowledge) (by : By) (appended : Appended) (oldest : ℕ) (found : Counters) → IsBase start.base → EngineInvariant start first → EngineInvariant start v.seen
+    → Grows old first → Grows old v.seen → log_lock < length v.seen → oldest ≡ oldest_id start.base.oldest (history first) → found ≡ multi_counters start.base (multi_history v.seen)
+    → TakesTruncation start w.seen (records.Truncate oldest found.oldest_multi found.oldest_offset) (Ok appended)
     → AppendSection start by (records.Truncate oldest found.oldest_multi found.oldest_offset) v w (Ok appended) → AreOldestTold start old w.seen
-truncation_tells start old first v w by appended number oldest found is k later near far inside read same told section =
+truncation_tells start old first v w by came.NoBase oldest found is k later near far inside read same takes section = absurd takes
+truncation_tells start old first v w by (came.At number) oldest found is k later near far inside read same takes section =
     let rec : Rec = records.Truncate oldest found.oldest_multi found.oldest_offset in
-    let s = subst (λ (z : Appended). AppendSection start by rec v w (Ok z)) told section in
-    let es : List Entry = at s.within.seen log_lock in
+    let es : List Entry = at section.within.seen log_lock in
     let c : Counters = counters_after start es in
     let now : counters_after start (at w.seen log_lock) ≡ after_record c rec =
-    ap (λ (t : List Entry). counters_after start t) (section_list start v w log_lock _ s inside) ∙ counters_push start es by rec in
+    ap (λ (t : List Entry). counters_after start t) (section_list start v w log_lock _ section inside) ∙ counters_push start es by rec in
     let up = oldest_rises start old first k near in
     let rise = multis_rise start old v.seen is later far in
     let a = rise.0 in
@@ -70,8 +71,8 @@ pub multi_lands : (start : Start) (v : Knowledge) (mid lists : List (List Entry)
     → ((multi offset : ℕ) (members : List Member) → rec ≡ records.Multi multi offset members → IsFullMulti multi) → EngineInvariant start lists
     → AreOldestTold start v.seen mid → Grows v.seen mid → Grows mid lists → appended ≡ came.NoBase → TakesMulti start lists rec t t' (Ok appended) → ⊥
 multi_lands start v mid lists n s t t' rec appended a p form k told near far is takes =
-    let t = taken s.making a.makes p in
-    (subst (λ (z : Appended). TakesMulti start lists rec t t' (Ok z)) is takes).1 t.lawful t.base
+    let can = taken s.making a.makes p in
+    (subst (λ (z : Appended). TakesMulti start lists rec t t' (Ok z)) is takes).1 can.lawful can.base
   where
     now : AreOldestTold start v.seen lists
     now =

@@ -110,5 +110,5 @@ returns-in-Ok-At-clause-told g c =
     let e = c.read_oldest-oldest.ensures in
     let f = c.read_multis-multis.ensures in
     let wide = f.ready.at.wide in
-    truncation_tells start (view old.pass).seen (view u.pass).seen (view t.pass) (view w.pass) (by_at t.number t.session.levels.commands) c.in-Ok-At.field-0 c.in-Ok-At.number c.read_oldest-oldest.result c.read_multis-multis.result e.ready.at.base e.ready.at.kept f.ready.at.kept
-    e.went.on.grows (grows_then (view old.pass).seen (view u.pass).seen (view t.pass).seen e.went.on.grows f.went.grows) (omega arith) e.oldest f.counters c.in-Ok-At.field-0-is c.in-Ok-At.ensures.section
+    truncation_tells start (view old.pass).seen (view u.pass).seen (view t.pass) (view w.pass) (by_at t.number t.session.levels.commands) c.in-Ok-At.field-0 c.read_oldest-oldest.result c.read_multis-multis.result e.ready.at.base e.ready.at.kept f.ready.at.kept
+    e.went.on.grows (grows_then (view old.pass).seen (view u.pass).seen (view t.pass).seen e.went.on.grows f.went.grows) (omega arith) e.oldest f.counters c.in-Ok-At.ensures.takes c.in-Ok-At.ensures.section

@@ -66,6 +66,7 @@ pub fn flush_records<R: Wait, L: LogDisk, P: PageDisk>(
     ensures alone { IsAlone hall.now pass.new }
     ensures holds { (view pass.new).holds ≡ (view pass.old).holds }
     ensures kept { EngineInvariant (start_of hall.now) (view pass.new).seen }
+    ensures was_kept { EngineInvariant (start_of hall.now) (view pass.old).seen }
     ensures adds { AddsFlush (start_of hall.now) by (view pass.old).seen (view pass.new).seen result }
 {
     let mut held = take_log(rt, hall, pass);

@@ -5,6 +5,7 @@ use Rattle.disk_core.specs.Pages.{Pages, page_bytes}
 use Rattle.disk_core.specs.Volume.{Volume}
 use Rattle.disk_core.specs.declared.log_disk.LogDisk as logs
 use Rattle.disk_core.specs.declared.page_disk.PageDisk as disks
+use Rattle.slru_bank.specs.Crash.{IsStepOf}
 use Rattle.store_pages.specs.Layouts.{member_page_of, state_in, word_page_of, xact_page_of, xact_place_of}
 use Rattle.tx_events.specs.declared.record.Counters.{Counters}
 use Rattle.tx_events.specs.declared.record.Rec.{Rec}
@@ -15,7 +16,7 @@ use Rattle.wal_core.specs.declared.wal_log.WalLog.{WalLog}
 use Rattle.recoverable.specs.Fit.{IsCommitCode, KeptLog, MayBegin, XactFits, base_at, log_end, recs_below}
 use Rattle.recoverable.specs.FitMultis.{MembersFit, OffsetsFit}
 use Rattle.tx_events.specs.LifeBase.{LifeBase, committed_in}
-use Rattle.recoverable.specs.Volumes.{IsNextOf, Left, ListFits, Restored, VolumesFit}
+use Rattle.recoverable.specs.Volumes.{ImageFits, IsNextOf, Left, ListFits, Restored, VolumesFit}
 use Rattle.tx_events.specs.Pages.{member_page_in_full}
 use Rattle.replay_core.specs.Spans.{member_span, offset_span}
 use Rattle.recoverable.specs.XactImages.{code_at}
@@ -28,7 +29,7 @@ use Rattle.replay_core.specs.Restore.{MayRestore, RestoresAll, bytes_on}
 use Rattle.replay_core.specs.Laws.{MapFits, ShowBase, end_base, up_to, with_checkpoint}
 use Rattle.replay_core.proofs.Fitting.{fits_within, shows_base}
 use Rattle.replay_core.proofs.Phases.{checkpoint_fits, checkpoint_same, cut_fits}
-use Rattle.replay_core.specs.Banks.{AreMembersRestored, AreMembersRestoring, AreOffsetsRestored, AreOffsetsRestoring, AreRestored, AreRestoring, members_become, members_leave, offsets_become, offsets_leave}
+use Rattle.replay_core.specs.Banks.{AreMembersRestored, AreOffsetsRestored, AreRestored, members_become, members_leave, offsets_become, offsets_leave, states_leave}
 use Rattle.replay_core.specs.PageVolumes.{ArePagesLeft, ArePagesRestored, SameCounts}
 use Rattle.replay_core.specs.declared.volumes.PageVolumes.{PageVolumes}
 use Rattle.replay_core.specs.LawsMultis.{ShowMembers, ShowOffsets}
@@ -37,8 +38,9 @@ use Rattle.replay_core.proofs.FittingOffsets.{fits_within_offsets, shows_offset_
 use Rattle.replay_core.proofs.LaterMultis.{checkpoint_fits_members, checkpoint_fits_offsets, cut_fits_members, cut_fits_offsets}
 use Rattle.replay_multis.specs.declared.offsets.OffsetSpan.{OffsetSpan}
 use Rattle.replay_multis.specs.declared.redo_members.MemberSpan.{MemberSpan}
+use Rattle.replay_core.specs.Moments.{WereLeft}
 use Rattle.replay_core.specs.Opened.{EachHas}
-use Rattle.recoverable.specs.Clusters.{IsLeft}
+use Rattle.recoverable.specs.Clusters.{AreLeft, IsLeft}
 use Rattle.replay_core.specs.Volumes.{LeavesFit, RecoversLog}
 use Rattle.replay_core.proofs.Prefixed.{keeps_before}
 use Rattle.replay_core.proofs.LaterLogs.{BeginsIn, FoundIn, begins_in, checkpoint_keeps, counters_are, cut_base_is, cut_end_is, cut_keeps, cut_list_fits, cut_split, front, front_place, low, member_span_is, offset_span_is, pending_fits, settled_fits, whole_from, whole_multis}
@@ -58,6 +60,22 @@ show_same share base code code' same s = record {
   only = λ x on from to is. s.only x on from to (subst IsCommitCode (same x) is);
   place = λ x on is. s.place x on (subst IsCommitCode (same x) is);
   clean = λ x from to. same x ∙ s.clean x from to;
+}
+
+-- each bank of a combination of images fits a log, wherever it begins between two numbers
+pub record PagesFit (banks first kept : ℕ) (later : KeptLog) (left : Left) : Type 0 where
+  pub states : (n bank : ℕ) → first ≤ n → n ≤ kept → bank < banks → XactFits banks bank later n (left.xact bank)
+  pub offsets : (n bank : ℕ) → first ≤ n → n ≤ kept → bank < banks → OffsetsFit banks bank later n (left.offsets bank)
+  pub members : (n bank : ℕ) → first ≤ n → n ≤ kept → bank < banks → MembersFit banks bank later n (left.members bank)
+
+pub image_fits : (banks first kept : ℕ) (later : KeptLog) (left : Left) → BeginsIn later first kept left.log → PagesFit banks first kept later left → ImageFits banks later left
+image_fits banks first kept later left b pages = record {
+  begins = b.number;
+  may_begin = b.may_begin;
+  opens = b.fits;
+  xact = λ bank inside. pages.states b.number bank b.from b.upto inside;
+  offsets = λ bank inside. pages.offsets b.number bank b.from b.upto inside;
+  members = λ bank inside. pages.members b.number bank b.from b.upto inside;
 }
 
 get_some : {P : Type 0} (xs : List P) (n : ℕ) → n < length xs → (x : P) × (slice_get xs n ≡ Some x)
@@ -88,30 +106,24 @@ module _ {L P : Type 0} (l : logs.Ghosts L) (p : disks.Ghosts P) where
     members_map : (bank : ℕ) (disk : P) → slice_get old.members.items bank ≡ Some disk → MembersFit (length old.xact.items) bank (up_to log (first + length recs)) first (λ q. Some (bytes_on p disk q))
     members_map bank disk was = let m = cut_members bank disk (p.pages disk) was (each disk) in record { recorded = m.recorded; no_gap = m.no_gap; tails = m.tails }
 
-    -- while the pages are restored each image fits the log as far as it was found
-    states_on_the_way : AreRestoring p recs base old.xact.items vols.xact.items → (bank : ℕ) (now : P) (c : Pages) → slice_get vols.xact.items bank ≡ Some now → p.images now c → XactFits (length old.xact.items) bank (up_to log (first + length recs)) first c
-    states_on_the_way restoring bank now c is image =
-        let was = had old.xact.items vols.xact.items count.xact bank now is in
+    -- while the pages are restored, what becomes of an image fits the log as far as it was found
+    states_from : (bank : ℕ) (was : P) (c : Pages) → slice_get old.xact.items bank ≡ Some was → IsStepOf (states_leave (length old.xact.items) recs base bank (bytes_on p was)) (p.images was) c → XactFits (length old.xact.items) bank (up_to log (first + length recs)) first c
+    states_from bank was c there step =
         let share : Share = record { banks = length old.xact.items; bank = bank } in
-        let step = (restoring bank was.0 now was.1 is).now c image in
-        fits_within share (up_to log (first + length recs)) first recs (bytes_on p was.0) step.0 c (whole_from log first recs base f) (cut_map bank was.0 was.1) (cut_states bank was.0 step.0 was.1 step.1)
-        (subst (λ (b : Counters). MayRestore (IsNamed share b.oldest (committed_in recs)) b.next (bytes_on p was.0) step.0 c) (sym (counters_are log first recs base f)) step.2)
+        fits_within share (up_to log (first + length recs)) first recs (bytes_on p was) step.0 c (whole_from log first recs base f) (cut_map bank was there) (cut_states bank was step.0 there step.1)
+        (subst (λ (b : Counters). MayRestore (IsNamed share b.oldest (committed_in recs)) b.next (bytes_on p was) step.0 c) (sym (counters_are log first recs base f)) step.2)
 
-    offsets_on_the_way : AreOffsetsRestoring p recs base old.offsets.items vols.offsets.items → (bank : ℕ) (now : P) (c : Pages) → slice_get vols.offsets.items bank ≡ Some now → p.images now c → OffsetsFit (length old.xact.items) bank (up_to log (first + length recs)) first c
-    offsets_on_the_way restoring bank now c is image =
-        let was = had old.offsets.items vols.offsets.items count.offsets bank now is in
-        let step = (restoring bank was.0 now was.1 is).now c image in
-        fits_within_offsets (record { banks = length old.xact.items; bank = bank }) (up_to log (first + length recs)) first recs (bytes_on p was.0) step.0 c (whole_multis log first recs base f) (offsets_map bank was.0 was.1) (cut_offsets bank was.0 step.0 was.1 step.1)
-        (subst (λ (s : OffsetSpan). offsets_leave (length old.xact.items) recs s bank (bytes_on p was.0) step.0 c) (offset_span_is log first recs base f)
-        (subst (λ n. offsets_leave n recs (offset_span recs base) bank (bytes_on p was.0) step.0 c) offsets_count step.2))
+    offsets_from : (bank : ℕ) (was : P) (c : Pages) → slice_get old.offsets.items bank ≡ Some was → IsStepOf (offsets_leave (length old.offsets.items) recs (offset_span recs base) bank (bytes_on p was)) (p.images was) c → OffsetsFit (length old.xact.items) bank (up_to log (first + length recs)) first c
+    offsets_from bank was c there step =
+        fits_within_offsets (record { banks = length old.xact.items; bank = bank }) (up_to log (first + length recs)) first recs (bytes_on p was) step.0 c (whole_multis log first recs base f) (offsets_map bank was there) (cut_offsets bank was step.0 there step.1)
+        (subst (λ (s : OffsetSpan). offsets_leave (length old.xact.items) recs s bank (bytes_on p was) step.0 c) (offset_span_is log first recs base f)
+        (subst (λ n. offsets_leave n recs (offset_span recs base) bank (bytes_on p was) step.0 c) offsets_count step.2))
 
-    members_on_the_way : AreMembersRestoring p recs base old.members.items vols.members.items → (bank : ℕ) (now : P) (c : Pages) → slice_get vols.members.items bank ≡ Some now → p.images now c → MembersFit (length old.xact.items) bank (up_to log (first + length recs)) first c
-    members_on_the_way restoring bank now c is image =
-        let was = had old.members.items vols.members.items count.members bank now is in
-        let step = (restoring bank was.0 now was.1 is).now c image in
-        fits_within_members (record { banks = length old.xact.items; bank = bank }) (up_to log (first + length recs)) first recs (bytes_on p was.0) step.0 c (whole_multis log first recs base f) (members_map bank was.0 was.1) (cut_members bank was.0 step.0 was.1 step.1)
-        (subst (λ (s : MemberSpan). members_leave (length old.xact.items) recs s bank (bytes_on p was.0) step.0 c) (member_span_is log first recs base f)
-        (subst (λ n. members_leave n recs (member_span recs base) bank (bytes_on p was.0) step.0 c) members_count step.2))
+    members_from : (bank : ℕ) (was : P) (c : Pages) → slice_get old.members.items bank ≡ Some was → IsStepOf (members_leave (length old.members.items) recs (member_span recs base) bank (bytes_on p was)) (p.images was) c → MembersFit (length old.xact.items) bank (up_to log (first + length recs)) first c
+    members_from bank was c there step =
+        fits_within_members (record { banks = length old.xact.items; bank = bank }) (up_to log (first + length recs)) first recs (bytes_on p was) step.0 c (whole_multis log first recs base f) (members_map bank was there) (cut_members bank was step.0 there step.1)
+        (subst (λ (s : MemberSpan). members_leave (length old.xact.items) recs s bank (bytes_on p was) step.0 c) (member_span_is log first recs base f)
+        (subst (λ n. members_leave n recs (member_span recs base) bank (bytes_on p was) step.0 c) members_count step.2))
 
     -- when they are each image shows the base
     states_shown : AreRestored p recs base old.xact.items vols.xact.items → (bank : ℕ) (now : P) (c : Pages) → slice_get vols.xact.items bank ≡ Some now → p.images now c → ShowBase (record { banks = length old.xact.items; bank = bank }) (end_base (up_to log (first + length recs))) (code_at c)
@@ -141,12 +153,6 @@ module _ {L P : Type 0} (l : logs.Ghosts L) (p : disks.Ghosts P) where
 
     -- ---- the volumes fit a later log, where its images begin in it, and the pages fit wherever they may begin
 
-    -- each image of each bank fits the log wherever it begins up to a number
-    record FitUpTo (later : KeptLog) (kept : ℕ) : Type 0 where
-      states : (n bank : ℕ) (now : P) (c : Pages) → first ≤ n → n ≤ kept → slice_get vols.xact.items bank ≡ Some now → p.images now c → XactFits (length old.xact.items) bank later n c
-      offsets : (n bank : ℕ) (now : P) (c : Pages) → first ≤ n → n ≤ kept → slice_get vols.offsets.items bank ≡ Some now → p.images now c → OffsetsFit (length old.xact.items) bank later n c
-      members : (n bank : ℕ) (now : P) (c : Pages) → first ≤ n → n ≤ kept → slice_get vols.members.items bank ≡ Some now → p.images now c → MembersFit (length old.xact.items) bank later n c
-
     xact_inside : (bank : ℕ) → bank < length old.xact.items → (d : P) × (slice_get vols.xact.items bank ≡ Some d)
     xact_inside bank inside = let c = count.xact in get_some vols.xact.items bank (omega (arith, inside, c))
 
@@ -156,57 +162,80 @@ module _ {L P : Type 0} (l : logs.Ghosts L) (p : disks.Ghosts P) where
     members_inside : (bank : ℕ) → bank < length old.xact.items → (d : P) × (slice_get vols.members.items bank ≡ Some d)
     members_inside bank inside = let c = count.members in get_some vols.members.items bank (omega (arith, inside, c, members_count))
 
-    volumes_fit : (later : KeptLog) (kept : ℕ) (new : L) → ListFits later → ((v : Volume) → l.images new v → BeginsIn later first kept v) → FitUpTo later kept
+    volumes_fit : (later : KeptLog) (kept : ℕ) (new : L) → ListFits later → ((v : Volume) → l.images new v → BeginsIn later first kept v)
+        → ((left : Left) → IsLeft l p new vols.xact.items vols.offsets.items vols.members.items left → PagesFit (length old.xact.items) first kept later left)
         → VolumesFit (length old.xact.items) later (IsLeft l p new vols.xact.items vols.offsets.items vols.members.items)
-    volumes_fit later kept new list begins pages = record {
-      list = list;
-      each = λ left is.
-          let b = begins left.log is.log_image in
-          record {
-            begins = b.number;
-            may_begin = b.may_begin;
-            opens = b.fits;
-            xact = λ bank inside. let d = xact_inside bank inside in pages.states b.number bank d.0 (left.xact bank) b.from b.upto d.1 (is.states bank d.0 d.1);
-            offsets = λ bank inside. let d = offsets_inside bank inside in pages.offsets b.number bank d.0 (left.offsets bank) b.from b.upto d.1 (is.offsets_are bank d.0 d.1);
-            members = λ bank inside. let d = members_inside bank inside in pages.members b.number bank d.0 (left.members bank) b.from b.upto d.1 (is.members_are bank d.0 d.1);
-          };
-    }
+    volumes_fit later kept new list begins pages = record { list = list; each = λ left is. image_fits (length old.xact.items) first kept later left (begins left.log is.log_image) (pages left is) }
 
-    cut_begins : (kept : ℕ) (new : L) → kept ≤ first → EachHas first recs kept (first + length recs) (l.images new) → (v : Volume) → l.images new v → BeginsIn (up_to log (first + length recs)) first kept v
-    cut_begins kept new few has v image =
+    pub cut_begins : (kept : ℕ) (v : Volume) → kept ≤ first → HasFlushed first recs kept (first + length recs) v → BeginsIn (up_to log (first + length recs)) first kept v
+    cut_begins kept v few has =
         let some = f.some in
-        begins_in (up_to log (first + length recs)) (front log first recs base f) recs first kept v (cut_list_fits log first recs base f) (cut_split log first recs base f) (front_place log first recs base f) (omega arith) (omega arith) (has v image)
+        begins_in (up_to log (first + length recs)) (front log first recs base f) recs first kept v (cut_list_fits log first recs base f) (cut_split log first recs base f) (front_place log first recs base f) (omega arith) (omega arith) has
 
-    checkpoint_begins : (kept flushed : ℕ) (new : L) → kept < flushed → first < flushed → ListFits (with_checkpoint (up_to log (first + length recs)) flushed)
-        → EachHas first (recs ++ records.Checkpoint (first + length recs) base ∷ []) kept flushed (l.images new) → (v : Volume) → l.images new v → BeginsIn (with_checkpoint (up_to log (first + length recs)) flushed) first kept v
-    checkpoint_begins kept flushed new under begun list has v image =
+    pub checkpoint_begins : (kept flushed : ℕ) (v : Volume) → kept < flushed → first < flushed → ListFits (with_checkpoint (up_to log (first + length recs)) flushed)
+        → HasFlushed first (recs ++ records.Checkpoint (first + length recs) base ∷ []) kept flushed v → BeginsIn (with_checkpoint (up_to log (first + length recs)) flushed) first kept v
+    checkpoint_begins kept flushed v under begun list has =
         let same : recs ++ records.Checkpoint (first + length recs) base ∷ [] ≡ recs ++ records.Checkpoint (log_end (up_to log (first + length recs))) (end_base (up_to log (first + length recs))).counters ∷ []
         = λ i. recs ++ records.Checkpoint (sym (cut_end_is log first recs base f) i) (sym (counters_are log first recs base f) i) ∷ [] in
         let split : (with_checkpoint (up_to log (first + length recs)) flushed).recs ≡ front log first recs base f ++ (recs ++ records.Checkpoint (log_end (up_to log (first + length recs))) (end_base (up_to log (first + length recs))).counters ∷ [])
         = ap (λ (t : List Rec). t ++ records.Checkpoint (log_end (up_to log (first + length recs))) (end_base (up_to log (first + length recs))).counters ∷ []) (cut_split log first recs base f)
         ∙ append_assoc (front log first recs base f) recs (records.Checkpoint (log_end (up_to log (first + length recs))) (end_base (up_to log (first + length recs))).counters ∷ []) in
         begins_in (with_checkpoint (up_to log (first + length recs)) flushed) (front log first recs base f) (recs ++ records.Checkpoint (log_end (up_to log (first + length recs))) (end_base (up_to log (first + length recs))).counters ∷ []) first kept v
-        list split (front_place log first recs base f) begun under (subst (λ (t : List Rec). HasFlushed first t kept flushed v) same (has v image))
+        list split (front_place log first recs base f) begun under (subst (λ (t : List Rec). HasFlushed first t kept flushed v) same has)
+
+    -- of each bank an image became this on the way
+    pub record AreSteps (left : Left) : Type 0 where
+      states : (bank : ℕ) → bank < length old.xact.items → (was : P) × (slice_get old.xact.items bank ≡ Some was) × IsStepOf (states_leave (length old.xact.items) recs base bank (bytes_on p was)) (p.images was) (left.xact bank)
+      offsets : (bank : ℕ) → bank < length old.xact.items → (was : P) × (slice_get old.offsets.items bank ≡ Some was) × IsStepOf (offsets_leave (length old.offsets.items) recs (offset_span recs base) bank (bytes_on p was)) (p.images was) (left.offsets bank)
+      members : (bank : ℕ) → bank < length old.xact.items → (was : P) × (slice_get old.members.items bank ≡ Some was) × IsStepOf (members_leave (length old.members.items) recs (member_span recs base) bank (bytes_on p was)) (p.images was) (left.members bank)
+
+    -- behind the call, and at its moments
+    pub steps_now : ArePagesLeft p recs base old vols → (left : Left) → AreLeft l p vols.xact.items left.xact → AreLeft l p vols.offsets.items left.offsets → AreLeft l p vols.members.items left.members → AreSteps left
+    steps_now restoring left states offsets members = record {
+      states = λ bank inside. let d = xact_inside bank inside in let was = had old.xact.items vols.xact.items count.xact bank d.0 d.1 in (was.0, was.1, (restoring.xact bank was.0 d.0 was.1 d.1).now (left.xact bank) (states bank d.0 d.1));
+      offsets = λ bank inside. let d = offsets_inside bank inside in let was = had old.offsets.items vols.offsets.items count.offsets bank d.0 d.1 in (was.0, was.1, (restoring.offsets bank was.0 d.0 was.1 d.1).now (left.offsets bank) (offsets bank d.0 d.1));
+      members = λ bank inside. let d = members_inside bank inside in let was = had old.members.items vols.members.items count.members bank d.0 d.1 in (was.0, was.1, (restoring.members bank was.0 d.0 was.1 d.1).now (left.members bank) (members bank d.0 d.1));
+    }
+
+    pub steps_at : ArePagesLeft p recs base old vols → (left : Left) → WereLeft l p old.xact.items vols.xact.items left.xact → WereLeft l p old.offsets.items vols.offsets.items left.offsets → WereLeft l p old.members.items vols.members.items left.members → AreSteps left
+    steps_at restoring left states offsets members = record {
+      states = λ bank inside.
+          let d = xact_inside bank inside in let was = had old.xact.items vols.xact.items count.xact bank d.0 d.1 in let w = states bank was.0 d.0 was.1 d.1 in
+          (was.0, was.1, (restoring.xact bank was.0 d.0 was.1 d.1).each.each w.at (left.xact bank) w.from w.upto w.left);
+      offsets = λ bank inside.
+          let d = offsets_inside bank inside in let was = had old.offsets.items vols.offsets.items count.offsets bank d.0 d.1 in let w = offsets bank was.0 d.0 was.1 d.1 in
+          (was.0, was.1, (restoring.offsets bank was.0 d.0 was.1 d.1).each.each w.at (left.offsets bank) w.from w.upto w.left);
+      members = λ bank inside.
+          let d = members_inside bank inside in let was = had old.members.items vols.members.items count.members bank d.0 d.1 in let w = members bank was.0 d.0 was.1 d.1 in
+          (was.0, was.1, (restoring.members bank was.0 d.0 was.1 d.1).each.each w.at (left.members bank) w.from w.upto w.left);
+    }
 
     -- the log is as it was found
-    pub cut_volumes : (new : L) → ArePagesLeft p recs base old vols → EachHas first recs first (first + length recs) (l.images new) → VolumesFit (length old.xact.items) (up_to log (first + length recs)) (IsLeft l p new vols.xact.items vols.offsets.items vols.members.items)
-    cut_volumes new restoring has = volumes_fit (up_to log (first + length recs)) first new (cut_list_fits log first recs base f) (cut_begins first new (omega arith) has)
-        (record {
-          states = λ n bank now c from to is image. subst (λ z. XactFits (length old.xact.items) bank (up_to log (first + length recs)) z c) (one n from to) (states_on_the_way restoring.xact bank now c is image);
-          offsets = λ n bank now c from to is image. subst (λ z. OffsetsFit (length old.xact.items) bank (up_to log (first + length recs)) z c) (one n from to) (offsets_on_the_way restoring.offsets bank now c is image);
-          members = λ n bank now c from to is image. subst (λ z. MembersFit (length old.xact.items) bank (up_to log (first + length recs)) z c) (one n from to) (members_on_the_way restoring.members bank now c is image);
-        })
+    pub cut_pages : (left : Left) → AreSteps left → PagesFit (length old.xact.items) first first (up_to log (first + length recs)) left
+    cut_pages left steps = record {
+      states = λ n bank from to inside. let s = steps.states bank inside in subst (λ z. XactFits (length old.xact.items) bank (up_to log (first + length recs)) z (left.xact bank)) (one n from to) (states_from bank s.0 (left.xact bank) s.1 s.2);
+      offsets = λ n bank from to inside. let s = steps.offsets bank inside in subst (λ z. OffsetsFit (length old.xact.items) bank (up_to log (first + length recs)) z (left.offsets bank)) (one n from to) (offsets_from bank s.0 (left.offsets bank) s.1 s.2);
+      members = λ n bank from to inside. let s = steps.members bank inside in subst (λ z. MembersFit (length old.xact.items) bank (up_to log (first + length recs)) z (left.members bank)) (one n from to) (members_from bank s.0 (left.members bank) s.1 s.2);
+    }
       where
         one : (n : ℕ) → first ≤ n → n ≤ first → first ≡ n
         one n from to = omega arith
 
-    checkpoint_pages : (flushed kept : ℕ) → first + length recs ≤ flushed → kept ≤ first + length recs → ArePagesRestored p recs base old vols → FitUpTo (with_checkpoint (up_to log (first + length recs)) flushed) kept
-    checkpoint_pages flushed kept at_least few restored =
+    pub cut_volumes : (new : L) → ArePagesLeft p recs base old vols → EachHas first recs first (first + length recs) (l.images new) → VolumesFit (length old.xact.items) (up_to log (first + length recs)) (IsLeft l p new vols.xact.items vols.offsets.items vols.members.items)
+    cut_volumes new restoring has = volumes_fit (up_to log (first + length recs)) first new (cut_list_fits log first recs base f) (λ v image. cut_begins first v (omega arith) (has v image))
+        (λ left is. cut_pages left (steps_now restoring left is.states is.offsets_are is.members_are))
+
+    pub checkpoint_pages : (flushed kept : ℕ) → first + length recs ≤ flushed → kept ≤ first + length recs → ArePagesRestored p recs base old vols → (left : Left) → AreLeft l p vols.xact.items left.xact → AreLeft l p vols.offsets.items left.offsets → AreLeft l p vols.members.items left.members
+        → PagesFit (length old.xact.items) first kept (with_checkpoint (up_to log (first + length recs)) flushed) left
+    checkpoint_pages flushed kept at_least few restored left states offsets members =
         let e = cut_end_is log first recs base f in
         record {
-          states = λ n bank now c from to is image. checkpoint_fits (record { banks = length old.xact.items; bank = bank }) (up_to log (first + length recs)) flushed n c (omega (arith, e, at_least)) (omega (arith, e, to, few)) (states_shown restored.xact bank now c is image);
-          offsets = λ n bank now c from to is image. checkpoint_fits_offsets (record { banks = length old.xact.items; bank = bank }) (up_to log (first + length recs)) flushed n c (omega (arith, e, at_least)) (omega (arith, e, to, few)) (offsets_shown restored.offsets bank now c is image);
-          members = λ n bank now c from to is image. checkpoint_fits_members (record { banks = length old.xact.items; bank = bank }) (up_to log (first + length recs)) flushed n c (omega (arith, e, at_least)) (omega (arith, e, to, few)) (members_shown restored.members bank now c is image);
+          states = λ n bank from to inside. let d = xact_inside bank inside in
+              checkpoint_fits (record { banks = length old.xact.items; bank = bank }) (up_to log (first + length recs)) flushed n (left.xact bank) (omega (arith, e, at_least)) (omega (arith, e, to, few)) (states_shown restored.xact bank d.0 (left.xact bank) d.1 (states bank d.0 d.1));
+          offsets = λ n bank from to inside. let d = offsets_inside bank inside in
+              checkpoint_fits_offsets (record { banks = length old.xact.items; bank = bank }) (up_to log (first + length recs)) flushed n (left.offsets bank) (omega (arith, e, at_least)) (omega (arith, e, to, few)) (offsets_shown restored.offsets bank d.0 (left.offsets bank) d.1 (offsets bank d.0 d.1));
+          members = λ n bank from to inside. let d = members_inside bank inside in
+              checkpoint_fits_members (record { banks = length old.xact.items; bank = bank }) (up_to log (first + length recs)) flushed n (left.members bank) (omega (arith, e, at_least)) (omega (arith, e, to, few)) (members_shown restored.members bank d.0 (left.members bank) d.1 (members bank d.0 d.1));
         }
 
     -- the checkpoint may stand behind it
@@ -215,15 +244,15 @@ module _ {L P : Type 0} (l : logs.Ghosts L) (p : disks.Ghosts P) where
     pending_volumes new restored has =
         let some = f.some in
         volumes_fit (with_checkpoint (up_to log (first + length recs)) (first + length recs)) first new (pending_fits log first recs base f)
-        (checkpoint_begins first (first + length recs) new (omega arith) (omega arith) (pending_fits log first recs base f) has)
-        (checkpoint_pages (first + length recs) first (omega arith) (omega arith) restored)
+        (λ v image. checkpoint_begins first (first + length recs) v (omega arith) (omega arith) (pending_fits log first recs base f) (has v image))
+        (λ left is. checkpoint_pages (first + length recs) first (omega arith) (omega arith) restored left is.states is.offsets_are is.members_are)
 
     -- it is on disk
     pub settled_volumes : (new : L) → ArePagesRestored p recs base old vols → EachHas first (recs ++ records.Checkpoint (first + length recs) base ∷ []) (first + length recs) (first + length recs + 1) (l.images new)
         → VolumesFit (length old.xact.items) (with_checkpoint (up_to log (first + length recs)) (first + length recs + 1)) (IsLeft l p new vols.xact.items vols.offsets.items vols.members.items)
     settled_volumes new restored has = volumes_fit (with_checkpoint (up_to log (first + length recs)) (first + length recs + 1)) (first + length recs) new (settled_fits log first recs base f)
-        (checkpoint_begins (first + length recs) (first + length recs + 1) new (omega arith) (omega arith) (settled_fits log first recs base f) has)
-        (checkpoint_pages (first + length recs + 1) (first + length recs) (omega arith) (omega arith) restored)
+        (λ v image. checkpoint_begins (first + length recs) (first + length recs + 1) v (omega arith) (omega arith) (settled_fits log first recs base f) (has v image))
+        (λ left is. checkpoint_pages (first + length recs + 1) (first + length recs) (omega arith) (omega arith) restored left is.states is.offsets_are is.members_are)
 
     -- ---- the answers
 
@@ -269,13 +298,13 @@ module _ {L P : Type 0} (l : logs.Ghosts L) (p : disks.Ghosts P) where
     restored_left : (new : L) → ArePagesRestored p recs base old vols → 1 ≤ length old.xact.items → (left : Left) → IsLeft l p new vols.xact.items vols.offsets.items vols.members.items left
         → Restored (length old.xact.items) (with_checkpoint (up_to log (first + length recs)) (first + length recs + 1)) (first + length recs) (base_at log (first + length recs)).counters left
     restored_left new restored some left is =
-        let pages = checkpoint_pages (first + length recs + 1) (first + length recs) (omega arith) (omega arith) restored in
+        let pages = checkpoint_pages (first + length recs + 1) (first + length recs) (omega arith) (omega arith) restored left is.states is.offsets_are is.members_are in
         let same : (end_base (up_to log (first + length recs))).counters ≡ (base_at log (first + length recs)).counters = ap (λ (z : LifeBase). z.counters) (cut_base_is log first recs base f) in
         record {
           may_begin = begins_settled;
-          xact = λ bank inside. let d = xact_inside bank inside in pages.states (first + length recs) bank d.0 (left.xact bank) (omega arith) (omega arith) d.1 (is.states bank d.0 d.1);
-          offsets = λ bank inside. let d = offsets_inside bank inside in pages.offsets (first + length recs) bank d.0 (left.offsets bank) (omega arith) (omega arith) d.1 (is.offsets_are bank d.0 d.1);
-          members = λ bank inside. let d = members_inside bank inside in pages.members (first + length recs) bank d.0 (left.members bank) (omega arith) (omega arith) d.1 (is.members_are bank d.0 d.1);
+          xact = λ bank inside. pages.states (first + length recs) bank (omega arith) (omega arith) inside;
+          offsets = λ bank inside. pages.offsets (first + length recs) bank (omega arith) (omega arith) inside;
+          members = λ bank inside. pages.members (first + length recs) bank (omega arith) (omega arith) inside;
           no_state = λ x next.
               let d = xact_inside (xact_page_of x % length old.xact.items) (mod_inside (xact_page_of x)) in
               (states_shown restored.xact (xact_page_of x % length old.xact.items) d.0 (left.xact (xact_page_of x % length old.xact.items)) d.1 (is.states (xact_page_of x % length old.xact.items) d.0 d.1)).clean x (subst (λ (z : Counters). z.next ≤ x) (sym same) next.0) (subst (λ (z : Counters). x < z.next + 2 ^ 30) (sym same) next.1);

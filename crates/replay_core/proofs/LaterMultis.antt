@@ -1,11 +1,13 @@
 -- The log's part of a recovery keeps what fits of offsets and members.
-use Rattle.std.proofs.Common.{◌≡◌, ⊎_elim, ℕ, ◌+◌, ◌-◌, ◌<◌, ◌≤◌, ◌⊎◌, ◌++◌, Contains, sym, take, ap, subst, arith}
+use Rattle.std.proofs.Common.{◌≡◌, ⊎_elim, ℕ, ◌+◌, ◌-◌, ◌<◌, ◌≤◌, ◌⊎◌, ◌++◌, ◌∙◌, Contains, sym, take, ap, subst, arith}
 use Rattle.std.specs.List.{filter}
 use Rattle.tx_events.specs.declared.record.Rec.{Rec}
 use Rattle.tx_events.specs.declared.record.Rec.TheVariants as records
 use Rattle.tx_events.proofs.Membership.{contains_has, has_contains, has_left}
 use Rattle.tx_events.specs.LifeBase.{LifeBase, base_after, is_multi}
+use Rattle.disk_core.specs.Pages.{Pages}
 use Rattle.recoverable.specs.Fit.{KeptLog, base_at, log_end}
+use Rattle.recoverable.specs.FitMultis.{MembersFit, OffsetsFit}
 use Rattle.recoverable.proofs.LogBases.{multi_grows, offset_grows, oldest_multi_grows}
 use Rattle.replay_core.specs.Laws.{end_base, up_to, with_checkpoint}
 use Rattle.replay_core.specs.LawsMultis.{CheckpointFitsMembers, CheckpointFitsOffsets, CutFitsMembers, CutFitsOffsets}
@@ -118,3 +120,29 @@ checkpoint_fits_members share log flushed n c le begins shows =
       no_gap = λ m x ms among old. shows.no_gap m x ms (subst (λ (b : LifeBase). Contains b.recorded (records.Multi m x ms)) last among) (subst (λ (b : LifeBase). b.counters.oldest_multi ≤ m) same old);
       tails = shows.tails;
     }
+
+-- what fits the log fits it with the checkpoint, too, as long as it begins where it did
+module _ (banks bank : ℕ) (log : KeptLog) (flushed n : ℕ) (c : Pages) (whole : log.flushed ≡ log_end log) (le : log_end log ≤ flushed) (begins : n < log_end log) where
+  flushed_same : base_at (with_checkpoint log flushed) flushed ≡ base_at log log.flushed
+  flushed_same = checkpoint_same log flushed flushed le ∙ ap (base_at log) (sym whole)
+
+  first_same : base_at (with_checkpoint log flushed) n ≡ base_at log n
+  first_same = checkpoint_before log flushed n (omega (arith, begins))
+
+  pub behind_fits_offsets : OffsetsFit banks bank log n c → OffsetsFit banks bank (with_checkpoint log flushed) n c
+  behind_fits_offsets fits =
+      let next : base_at (with_checkpoint log flushed) (n + 1) ≡ base_at log (n + 1) = checkpoint_before log flushed (n + 1) (omega (arith, begins)) in
+      record {
+        recorded = λ m x ms among old. fits.recorded m x ms (subst (λ (b : LifeBase). Contains b.recorded (records.Multi m x ms)) first_same among) (subst (λ (b : LifeBase). b.counters.oldest_multi ≤ m) flushed_same old);
+        no_other = λ m full old below none. fits.no_other m full (subst (λ (b : LifeBase). b.counters.oldest_multi ≤ m) flushed_same old) (subst (λ (b : LifeBase). m < b.counters.multi) next below)
+            (λ x ms among. none x ms (subst (λ (b : LifeBase). Contains b.recorded (records.Multi m x ms)) (sym flushed_same) among));
+      }
+
+  pub behind_fits_members : MembersFit banks bank log n c → MembersFit banks bank (with_checkpoint log flushed) n c
+  behind_fits_members fits =
+      let last : base_at (with_checkpoint log flushed) (log_end (with_checkpoint log flushed)) ≡ end_base log = checkpoint_same log flushed (log_end (with_checkpoint log flushed)) (let e = checkpoint_end log flushed in omega (arith, e)) in
+      record {
+        recorded = λ m x j ms member among old. fits.recorded m x j ms member (subst (λ (b : LifeBase). Contains b.recorded (records.Multi m x ms)) first_same among) (subst (λ (b : LifeBase). b.counters.oldest_multi ≤ m) flushed_same old);
+        no_gap = λ m x ms among old. fits.no_gap m x ms (subst (λ (b : LifeBase). Contains b.recorded (records.Multi m x ms)) last among) (subst (λ (b : LifeBase). b.counters.oldest_multi ≤ m) flushed_same old);
+        tails = fits.tails;
+      }

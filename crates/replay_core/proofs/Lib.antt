@@ -19,4 +19,5 @@ mod Joining
 mod Settling
 mod Prefixed
 mod Recovering
+mod Throughout
 pub mod Refusing

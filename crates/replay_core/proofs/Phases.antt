@@ -5,7 +5,8 @@ use Rattle.std.proofs.lemmas.List.{length-take-le}
 use Rattle.tx_events.specs.declared.record.Rec.{Rec}
 use Rattle.tx_events.proofs.Membership.{contains_has, has_contains, has_left}
 use Rattle.tx_events.specs.LifeBase.{LifeBase, base_after, committed_in}
-use Rattle.recoverable.specs.Fit.{KeptLog, base_at, log_end}
+use Rattle.disk_core.specs.Pages.{Pages}
+use Rattle.recoverable.specs.Fit.{KeptLog, XactFits, base_at, log_end}
 use Rattle.recoverable.specs.Volumes.{checkpoint_of}
 use Rattle.recoverable.proofs.LogBases.{next_grows, oldest_grows}
 use Rattle.tx_events.proofs.BaseSteps.{base_then, checkpoint_settles}
@@ -117,3 +118,19 @@ checkpoint_fits share log flushed n c le begins clean =
         let both : end_base log ≡ base_after (base_at log n) rest
         = ap (λ m. base_after log.base (take m log.recs)) split ∙ ap (base_after log.base) (take-add (n - log.first) (log_end log - log.first - (n - log.first)) log.recs) ∙ base_then log.base (take (n - log.first) log.recs) rest in
         subst (λ (b : LifeBase). Contains b.committed x) (sym both) (has_contains ((base_at log n).committed ++ committed_in rest) x (has_left (base_at log n).committed (committed_in rest) x (contains_has (base_at log n).committed x h)))
+
+-- What fits the log fits it with the checkpoint, too, as long as it begins where it did.
+pub behind_fits : (banks bank : ℕ) (log : KeptLog) (flushed n : ℕ) (c : Pages) → log.flushed ≡ log_end log → log_end log ≤ flushed → n ≤ log_end log → XactFits banks bank log n c → XactFits banks bank (with_checkpoint log flushed) n c
+behind_fits banks bank log flushed n c whole le begins fits =
+    let at_flushed : base_at (with_checkpoint log flushed) flushed ≡ base_at log log.flushed = checkpoint_same log flushed flushed le ∙ ap (base_at log) (sym whole) in
+    let longer : log_end log ≤ log_end (with_checkpoint log flushed) = let e = checkpoint_end log flushed in omega arith in
+    let last : base_at (with_checkpoint log flushed) (log_end (with_checkpoint log flushed)) ≡ end_base log = checkpoint_same log flushed (log_end (with_checkpoint log flushed)) longer in
+    let first : base_at (with_checkpoint log flushed) n ≡ base_at log n = checkpoint_before log flushed n begins in
+    record {
+      committed = λ x among old bank. fits.committed x (subst (λ (b : LifeBase). Contains b.committed x) first among) (subst (λ (b : LifeBase). b.counters.oldest ≤ x) at_flushed old) bank;
+      no_other = record {
+        place = λ x bank code. let y = fits.no_other.place x bank code in (y.0, subst (λ (b : LifeBase). Contains b.committed y.0) (sym at_flushed) y.1, y.2);
+        here = λ x bank old below code. subst (λ (b : LifeBase). Contains b.committed x) (sym at_flushed)
+            (fits.no_other.here x bank (subst (λ (b : LifeBase). b.counters.oldest ≤ x) at_flushed old) (subst (λ (b : LifeBase). x < b.counters.next) last below) code);
+      };
+    }

@@ -9,6 +9,7 @@ use Rattle.wal_core.specs.LogViews.{KeepsAll, log_disk, log_end, log_first, log_
 use Rattle.wal_core.specs.declared.wal_log.WalLog.{WalLog}
 use Rattle.recoverable.specs.Fit.{KeptLog}
 use Rattle.replay_core.specs.Begun.{IsSettled}
+use Rattle.replay_core.specs.Moments.{SettlesThroughout}
 use Rattle.replay_core.specs.Opened.{EachHas, IsFound, LeavesLog, SettlesLog}
 use Rattle.replay_core.specs.PageVolumes.{ArePagesRestored, RestoresPages}
 use Rattle.replay_core.specs.Refused.{IsSettleRefusal}
@@ -30,6 +31,7 @@ module _ {L P : Type 0} {l : logs.Ghosts L} (p : disks.Ghosts P) (recs : List Re
     kept = λ told. tt;
     restored = λ told. tt;
     left = λ told told'. (r.moments told', inl refl);
+    moments = λ told told'. (r.moments told', inl refl);
     refused = inl r.refused;
     log_counted = omega arith;
     counted = r.counted;
@@ -49,14 +51,15 @@ module _ {L P : Type 0} {l : logs.Ghosts L} (p : disks.Ghosts P) (recs : List Re
 
   pub all_replayed : (log' : WalLog L l) (result : Result (Unit {0}) RecoverRefusal) → RestoresPages p recs base old new (Ok (tt {0}))
       → OnOk result (IsSettled (log_next log) base log') → (IsTrue l.tells → OnOk result (SettlesLog l base log log')) → (IsTrue l.tells → OnErr result (LeavesLog l base log log'))
-      → IfErr result (λ refusal. IsSettleRefusal (log_next log) base log log' refusal) → l.faults (log_disk log) ≤ l.faults (log_disk log')
+      → (IsTrue l.tells → SettlesThroughout l base log log') → IfErr result (λ refusal. IsSettleRefusal (log_next log) base log log' refusal) → l.faults (log_disk log) ≤ l.faults (log_disk log')
       → Replays p recs base log log' old new result
-  all_replayed log' result r settled kept left refused count = record {
+  all_replayed log' result r settled kept left moments refused count = record {
     count = r.count;
     settled = settled;
     kept = kept;
     restored = λ told. on result (r.restored told);
     left = λ told told'. err result (λ x. (r.moments told', inr (r.restored told', x))) (left told);
+    moments = λ told told'. (r.moments told', inr (r.restored told', moments told));
     refused = because log' result refused;
     log_counted = count;
     counted = r.counted;

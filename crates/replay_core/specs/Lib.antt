@@ -8,5 +8,6 @@ pub mod PageVolumes
 pub mod Spans
 pub mod Refused
 pub mod Opened
+pub mod Moments
 pub mod Banks
 pub mod Replay

@@ -7,6 +7,7 @@ use Rattle.tx_events.specs.declared.record.Rec.{Rec}
 use Rattle.wal_core.specs.declared.wal_log.WalLog.{WalLog}
 use Rattle.wal_core.specs.LogViews.{log_disk, log_next}
 use Rattle.replay_core.specs.Begun.{IsSettled}
+use Rattle.replay_core.specs.Moments.{SettlesThroughout}
 use Rattle.replay_core.specs.Opened.{LeavesLog, SettlesLog}
 use Rattle.replay_core.specs.PageVolumes.{ArePagesLeft, ArePagesRestored, IsPagesRefusal, NoCountsFell, SameCounts}
 use Rattle.replay_core.specs.Refused.{IsSettleRefusal}
@@ -25,6 +26,7 @@ module _ {L P : Type 0} {l : logs.Ghosts L} (p : disks.Ghosts P) where
     pub kept : IsTrue l.tells → OnOk result (SettlesLog l base log log')
     pub restored : IsTrue p.tells → OnOk result (ArePagesRestored p recs base old new)
     pub left : IsTrue l.tells → IsTrue p.tells → OnErr result (ArePagesLeft p recs base old new × ((log' ≡ log) ⊎ (ArePagesRestored p recs base old new × LeavesLog l base log log')))
+    pub moments : IsTrue l.tells → IsTrue p.tells → ArePagesLeft p recs base old new × ((log' ≡ log) ⊎ (ArePagesRestored p recs base old new × SettlesThroughout l base log log'))
     pub refused : IfErr result (IsReplayRefusal base log log' old new)
     pub log_counted : l.faults (log_disk log) ≤ l.faults (log_disk log')
     pub counted : NoCountsFell p old new

@@ -1,6 +1,8 @@
 //! The log of a media is opened.
 ghost use Rattle.std.specs.Prelude.{IfErr, IfOk, IsTrue};
-ghost use Rattle.wal_core.specs.Log.{EndsWithin};
+ghost use Rattle.disk_core.specs.Images.{LeavesOnly};
+ghost use Rattle.wal_core.specs.Log.{EndsWithin, OpensAsBefore};
+ghost use Rattle.replay_core.specs.Moments.{disk_found};
 ghost use Rattle.replay_core.specs.Opened.{IsFoundLog, OpensStill};
 ghost use Rattle.replay_core.specs.Refused.{IsOpenRefusal};
 
@@ -33,7 +35,9 @@ pub fn find_log<D: LogDisk + Drop>(
     disk: D,
 ) -> Result<FoundLog<D>, (D, RecoverRefusal)>
     ensures found { IfOk result (IsFoundLog disk) }
-    // Whatever is answered, each image opens as one of before.
+    // Whatever is answered, at every moment a crash leaves what opens as an image of before.
+    ensures moments { IsTrue D.tells → EndsWithin (D.reads disk) → IfOk result (λ f. LeavesOnly D.moment D.left_at disk (disk_found f) (OpensAsBefore (D.images disk))) }
+    ensures moments_err { IsTrue D.tells → EndsWithin (D.reads disk) → IfErr result (λ e. LeavesOnly D.moment D.left_at disk e.0 (OpensAsBefore (D.images disk))) }
     ensures still_err { IsTrue D.tells → EndsWithin (D.reads disk) → IfErr result (λ e. OpensStill D.LogDisk disk e.0) }
     ensures refused { IfErr result (λ e. IsOpenRefusal D.LogDisk disk e.0 e.1) }
 {

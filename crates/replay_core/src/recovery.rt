@@ -4,9 +4,10 @@ ghost use Rattle.recoverable.specs.Fit.{KeptLog};
 ghost use Rattle.tx_events.specs.LifeBase.{committed_in};
 ghost use Rattle.replay_core.specs.Redo.{AreNear};
 ghost use Rattle.replay_core.specs.Restore.{IsWindow};
-ghost use Rattle.wal_core.specs.LogViews.{log_disk, log_next};
+ghost use Rattle.wal_core.specs.LogViews.{log_disk, log_first, log_next};
 ghost use Rattle.replay_core.specs.Banks.{NoCountFell};
 ghost use Rattle.replay_core.specs.Begun.{AreEmpty, AreOnDisk, IsSettled};
+ghost use Rattle.replay_core.specs.Moments.{FitThroughout, volumes_after};
 ghost use Rattle.replay_core.specs.Opened.{IsFound, IsOpen};
 ghost use Rattle.replay_core.specs.PageVolumes.{AreFew};
 ghost use Rattle.replay_core.specs.Refused.{IsRefusal, volumes_of};
@@ -55,6 +56,12 @@ pub fn recover<L: LogDisk + Drop, P: PageDisk + Drop>(
     ensures again { (volume : L) → IsFound volume found → IsTrue L.tells → IsTrue P.tells → IfErr result (λ e. (log : KeptLog)
         → Fit L.LogDisk P.PageDisk log volume xact.items offsets.items members.items
         → LeavesFit L.LogDisk P.PageDisk xact.items e.0.log e.0.xact.items e.0.offsets.items e.0.members.items log) }
+    // At every moment of each volume, whatever is answered, a crash leaves what fits, and a later recovery answers what this
+    // one might have answered: while the log begins as it was found, with the pages of any moments; and however it begins,
+    // with the pages as they come back.
+    ensures moments { (volume : L) → IsFound volume found → IsTrue L.tells → IsTrue P.tells → (log : KeptLog)
+        → Fit L.LogDisk P.PageDisk log volume xact.items offsets.items members.items
+        → FitThroughout L.LogDisk P.PageDisk (volumes_of (log_disk found.log) xact subtrans offsets members) (volumes_after L.LogDisk P.PageDisk result) (log_first found.log) log }
     // The base has the counters behind all records that were found, and the checkpoint the number that comes next.
     ensures all { IfOk result (λ r. (r.from ≡ log_next found.log) × (r.base ≡ found.base)) }
     ensures log { IfOk result (λ r. IsSettled r.from r.base r.log) }

@@ -5,6 +5,7 @@ ghost use Rattle.tx_events.specs.declared.record.Rec.TheVariants as records;
 ghost use Rattle.wal_core.specs.LogViews.{log_disk, log_next};
 ghost use Rattle.wal_records.specs.Spelling.{AreCounters};
 ghost use Rattle.replay_core.specs.Begun.{IsSettled};
+ghost use Rattle.replay_core.specs.Moments.{SettlesThroughout};
 ghost use Rattle.replay_core.specs.Opened.{HasCheckpoint, IsOpen, LeavesLog, SettlesLog};
 ghost use Rattle.replay_core.specs.Refused.{IsSettleRefusal};
 
@@ -31,6 +32,7 @@ fn append_checkpoint<D: LogDisk>(log: &mut WalLog<D>, base: Counters) -> Result<
     requires { IsOpen base log.old }
     ensures done { OnOk result (HasCheckpoint (log_next log.old) base log.old log.new) }
     ensures left { IsTrue D.tells → OnErr result (LeavesLog D.LogDisk base log.old log.new) }
+    ensures same_disk { log_disk log.new ≡ log_disk log.old }
     ensures count { D.faults (log_disk log.old) ≤ D.faults (log_disk log.new) }
     ensures refused { IfErr result (λ refusal. IsSettleRefusal (log_next log.old) base log.old log.new refusal) }
 {
@@ -47,6 +49,7 @@ pub(crate) fn settle<D: LogDisk>(log: &mut WalLog<D>, base: Counters) -> Result<
     ensures settled { OnOk result (IsSettled (log_next log.old) base log.new) }
     ensures kept { IsTrue D.tells → OnOk result (SettlesLog D.LogDisk base log.old log.new) }
     ensures left { IsTrue D.tells → OnErr result (LeavesLog D.LogDisk base log.old log.new) }
+    ensures moments { IsTrue D.tells → SettlesThroughout D.LogDisk base log.old log.new }
     ensures count { D.faults (log_disk log.old) ≤ D.faults (log_disk log.new) }
     ensures refused { IfErr result (λ refusal. IsSettleRefusal (log_next log.old) base log.old log.new refusal) }
 {

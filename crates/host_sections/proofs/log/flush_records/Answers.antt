@@ -209,3 +209,12 @@ returns-in_default-clause-adds g c =
 
 pub returns-in_default-clause-kept : goal.returns-in_default-clause-kept
 returns-in_default-clause-kept g c = subst (EngineInvariant (start_of c.args.hall.now)) (sym (ap (λ (z : Knowledge). z.seen) c.put_back.ensures.view)) c.take_log-held.ensures.inside.kept
+
+pub returns-in-Ok-clause-was_kept : goal.returns-in-Ok-clause-was_kept
+returns-in-Ok-clause-was_kept g c = let i = c.take_log-held.ensures.inside in subst (EngineInvariant (start_of c.args.hall.now)) i.seen i.kept
+
+pub returns-in-LogFault-clause-was_kept : goal.returns-in-LogFault-clause-was_kept
+returns-in-LogFault-clause-was_kept g c = let i = c.take_log-held.ensures.inside in subst (EngineInvariant (start_of c.args.hall.now)) i.seen i.kept
+
+pub returns-in_default-clause-was_kept : goal.returns-in_default-clause-was_kept
+returns-in_default-clause-was_kept g c = let i = c.take_log-held.ensures.inside in subst (EngineInvariant (start_of c.args.hall.now)) i.seen i.kept

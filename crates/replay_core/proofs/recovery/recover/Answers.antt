@@ -5,6 +5,7 @@ use Rattle.tx_events.specs.LifeBase.{committed_in}
 use Rattle.wal_core.specs.LogViews.{log_disk, log_first, log_next}
 use Rattle.replay_core.specs.Redo.{AreNear}
 use Rattle.replay_core.specs.Banks.{NoCountFell, members_become, offsets_become, states_become}
+use Rattle.replay_core.specs.Moments.{FitThroughout}
 use Rattle.replay_core.specs.Refused.{volumes_of}
 use Rattle.replay_core.specs.Replay.{Replays}
 use Rattle.replay_core.specs.Spans.{AreMultisInReach, member_span, offset_span}
@@ -12,6 +13,7 @@ use Rattle.replay_core.specs.Volumes.{LeavesFit, RecoversLog}
 use Rattle.replay_core.proofs.LaterLogs.{ids_near, multis_in_reach}
 use Rattle.replay_core.proofs.Recovering.{replay_leaves, replay_recovers}
 use Rattle.replay_core.proofs.Refusing.{on_disk, pages_of, refusal_is}
+use Rattle.replay_core.proofs.Throughout.{throughout}
 use Rattle.replay_core.proofs.recovery.recover.Goals as goal
 
 pub replay-requires-clause-near : goal.replay-requires-clause-near
@@ -85,3 +87,23 @@ returns-clause-counted g c v is =
       subst (λ z. NoCountFell p a.offsets.items z.items) (sym b.pages.2) r.counted.offsets,
       subst (λ z. NoCountFell p a.members.items z.items) (sym b.pages.3) r.counted.members,
     )
+
+pub returns-in-Err-clause-moments : goal.returns-in-Err-clause-moments
+returns-in-Err-clause-moments g c v is told told' log fit =
+    let l = g.L.LogDisk in let p = g.P.PageDisk in let a = c.args in let found = a.found in
+    let old = pages_of (volumes_of v a.xact a.subtrans a.offsets a.members) in
+    let new = c.replay.new.pages in let w = c.with_log.ensures in let n = c.requires.as_many in
+    let r = subst (λ (t : List Rec). Replays p t found.base found.log c.replay.new.log old new (Err c.in-Err.refusal)) c.items.ensures c.in-Err.ensures in
+    subst (λ z. FitThroughout l p (volumes_of (log_disk found.log) a.xact a.subtrans a.offsets a.members) z (log_first found.log) log)
+    (λ i. record { log = sym (w.log ∙ c.into_disk.ensures) i; xact = sym w.pages.0 i; subtrans = sym w.pages.1 i; offsets = sym w.pages.2 i; members = sym w.pages.3 i })
+    (throughout l p v old new found is c.replay.new.log told told' (g.met.L.LogDisk.reads_image v told) (λ d. g.met.P.PageDisk.reads_image d told') (λ d x left. g.met.L.LogDisk.only_now d x told left) c.requires.some n.1 n.2 log fit (Err c.in-Err.refusal) r)
+
+pub returns-clause-moments : goal.returns-clause-moments
+returns-clause-moments g c v is told told' log fit =
+    let l = g.L.LogDisk in let p = g.P.PageDisk in let a = c.args in let found = a.found in
+    let old = pages_of (volumes_of v a.xact a.subtrans a.offsets a.members) in
+    let new = c.replay.new.pages in let b = c.begun.ensures in let n = c.requires.as_many in
+    let r = subst (λ (t : List Rec). Replays p t found.base found.log c.replay.new.log old new (Ok (tt {0}))) c.items.ensures c.in_default.ensures in
+    subst (λ z. FitThroughout l p (volumes_of (log_disk found.log) a.xact a.subtrans a.offsets a.members) z (log_first found.log) log)
+    (λ i. record { log = log_disk (sym b.log i); xact = sym b.pages.0 i; subtrans = sym b.pages.1 i; offsets = sym b.pages.2 i; members = sym b.pages.3 i })
+    (throughout l p v old new found is c.replay.new.log told told' (g.met.L.LogDisk.reads_image v told) (λ d. g.met.P.PageDisk.reads_image d told') (λ d x left. g.met.L.LogDisk.only_now d x told left) c.requires.some n.1 n.2 log fit (Ok (tt {0})) r)

@@ -14,6 +14,15 @@ use crate::step_kinds::{Leave, Look, Release};
 use crossbeam_utils::Backoff;
 use notes::Note;
 use std::sync::Wait;
+use std::sync::atomic::AtomicU64;
+use std::time::Duration;
+
+// How often a waiter looks again before it sleeps, each time after a pause twice as long.
+const LOOKS_AWAKE: u32 = 4;
+
+// How long it sleeps. Two threads that enter the same few locks in turn send the cache lines of locks and values to and
+// fro, which costs more than what is done inside; so one of them sleeps for as long as some hundred critical sections.
+const NAP_MICROS: u64 = 200;
 
 impl<L: Law> Hall<L> {
     /// Looks once at the lock `cell`, which is below the number of locks, as LWLockConditionalAcquire:
@@ -43,8 +52,8 @@ impl<L: Law> Hall<L> {
 
     /// Looks until it has the lock's value, as LWLockAcquire, and may wait for ever.
     ///
-    /// After a few looks in vain it yields its processor each time, so that the holder gets one. There
-    /// is no queue: who looks first after a release gets in.
+    /// After a few looks in vain it sleeps between them, a fifth of a millisecond each time, so that whoever is at work
+    /// keeps its processor and the lock's cache line. There is no queue: who looks first after a release gets in.
     ///
     /// It promises what `look` does where that finds the lock free. What the pass has seen before
     /// counts as of the moment of the look that found it so.
@@ -76,8 +85,16 @@ impl<L: Law> Hall<L> {
     {
         let word = line_at(cell as usize);
         let backoff = Backoff::new();
+        let asleep = AtomicU64::new(0);
+        let nap = Duration::from_micros(NAP_MICROS);
+        let mut looks = 0;
         for _ in rt.forever() {
-            backoff.snooze();
+            if looks < LOOKS_AWAKE {
+                backoff.spin();
+                looks += 1;
+            } else {
+                asleep.park_timeout(rt, 0, nap);
+            }
             if self.table.shared.peek(word) != 0 {
                 continue;
             }

@@ -1,12 +1,18 @@
 -- The record of a truncation, and what it leaves.
-use Rattle.std.proofs.Common.{Contains, inl, inr, ⊎_elim, ◌≡◌, ℕ, ◌<◌, List, refl, sym, ap, subst, ◌∙◌, length}
+use Rattle.std.proofs.Common.{Contains, IsNone, IsTrue, Option, inl, inr, ⊎_elim, ◌≡◌, ℕ, ◌<◌, List, refl, sym, ap, subst, ◌∙◌, length}
+use Rattle.std.proofs.lemmas.Bool.{false≢true}
+use Rattle.disk_core.specs.declared.log_disk.LogDisk as logs
 use Rattle.notes.specs.Lists.{Grows, at}
 use Rattle.tx_events.specs.declared.event.By.{By}
 use Rattle.tx_events.specs.declared.event.Event.{Event}
 use Rattle.tx_events.specs.declared.event.Event.TheVariants as events
 use Rattle.tx_events.specs.declared.multi.MultiEvent.TheVariants as multis
+use Rattle.tx_events.specs.declared.record.Counters.{Counters}
 use Rattle.tx_events.specs.declared.record.Rec.{Rec}
 use Rattle.tx_events.specs.declared.record.Rec.TheVariants as records
+use Rattle.tx_events.specs.After.{after_record}
+use Rattle.tx_events.specs.Base.{IsBase}
+use Rattle.tx_events.specs.Ids.{IsFullMulti, IsXidNumber}
 use Rattle.tx_events.specs.Running.{open_ids}
 use Rattle.tx_events.specs.declared.multi.Member.{Member}
 use Rattle.tx_core.specs.MultiEntries.{multi_of}
@@ -14,6 +20,7 @@ use Rattle.engine_parts.proofs.Made.{makes_left}
 use Rattle.tx_core.specs.declared.entry.Entry.{Entry}
 use Rattle.tx_core.specs.declared.entry.Kind.TheVariants as kinds
 use Rattle.tx_core.specs.declared.entry.Start.{Start}
+use Rattle.tx_core.specs.EngineInvariant.{EngineInvariant}
 use Rattle.tx_core.specs.Entries.{IsAppended, event_of, history}
 use Rattle.tx_core.specs.Laws.{StaysBase}
 use Rattle.tx_core.specs.Locks.{log_lock, multi_lock}
@@ -24,10 +31,17 @@ use Rattle.tx_core.proofs.Growing.{begins_filter_map, contains_begins}
 use Rattle.tx_core.proofs.Lasting.{history_grows}
 use Rattle.tx_core.proofs.Quiet.{truncate_record_law}
 use Rattle.tx_core.proofs.Stepping.{appended_cases}
+use Rattle.wal_core.specs.Log.{MayAppend, counters_or_none}
+use Rattle.wal_core.specs.LogViews.{log_counters, log_next}
+use Rattle.wal_core.specs.Opening.{number_fits}
+use Rattle.wal_core.specs.declared.wal_log.WalLog.{WalLog}
+use Rattle.log_takes.specs.Takes.{IsTaken}
+use Rattle.log_takes.proofs.Taking.{truncations_taken}
 use Rattle.session_levels.specs.Stands.{Stands}
 use Rattle.engine_parts.specs.declared.session.Session.{Session}
 use Rattle.engine_parts.specs.Holds.{Knowledge, Leaves}
 use Rattle.engine_parts.specs.Law.{MayKeep}
+use Rattle.engine_parts.specs.Parts.{IsLogOf}
 use Rattle.engine_parts.specs.Sessions.{IsAt, IsReady, by_at}
 use Rattle.engine_parts.proofs.Leaving.{at_left, filed_left, history_same, unaborted_same}
 use Rattle.log_sections.specs.LogSections.{IsTruncationOf}
@@ -53,6 +67,19 @@ truncation_later start lists more rec g t = record {
   id = oldest_later start lists more t.oldest g t.id;
   first = multi_later start lists more t.multi t.offset g t.first;
 }
+
+-- the log can take the record
+pub truncation_follows : {D : Type 0} {g : logs.Ghosts D} (start : Start) (log : WalLog D g) (lists : List (List Entry)) (rec : Rec) → EngineInvariant start lists → IsBase start.base → IsLogOf start log (at lists log_lock) → IsTruncationOf start lists rec
+    → ((oldest multi offset : ℕ) → rec ≡ records.Truncate oldest multi offset → IsXidNumber oldest × IsFullMulti multi) → MayAppend (log_counters log) (log_next log) rec
+truncation_follows start log lists rec k is s t forms =
+    let f = forms t.oldest t.multi t.offset t.is in
+    let taken : IsTaken start lists rec = subst (IsTaken start lists) (sym t.is) (truncations_taken start lists t.oldest t.multi t.offset k is t.id t.first f.0 f.1) in
+    record {
+      lawful = taken.lawful;
+      first = λ missing. absurd (false≢true (sym (subst IsNone s.counters_are missing)));
+      fits = subst (λ (z : Rec). IsTrue (number_fits (log_next log) z)) (sym t.is) refl;
+      base = subst (λ (o : Option Counters). IsBase (after_record (counters_or_none o) rec)) (sym s.counters_are) taken.base;
+    }
 
 -- the record may be appended
 pub may_append_truncation : (start : Start) (v : Knowledge) (n : ℕ) (s : Session) (rec : Rec) (e : Entry) → IsAt start v n s → IsTruncationOf start v.seen rec → StaysBase start v.seen rec → IsUp (at v.seen log_lock) → e ≡ append_entry (by_at n s.levels.commands) rec → MayKeep start v.seen log_lock e

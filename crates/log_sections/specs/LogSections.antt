@@ -66,10 +66,10 @@ pub record IsTruncationOf (start : Start) (lists : List (List Entry)) (rec : Rec
   pub id : IsOldestAnnounced start lists oldest
   pub first : IsMultiAnnounced start lists multi offset
 
--- A truncation's record stands. Or after it, if it is lawful, the log's counters would be no base, or the log refused it.
+-- A truncation's record stands, or the log refused it: it can always take it next.
 abbrev pub TakesTruncation : Start → List (List Entry) → Rec → Result Appended Refusal → Type 0
 TakesTruncation start lists rec (Ok (came.At number)) = Unit {0}
-TakesTruncation start lists rec (Ok came.NoBase) = IsLawful rec → StaysBase start lists rec → ⊥
+TakesTruncation start lists rec (Ok came.NoBase) = ⊥
 TakesTruncation start lists rec (Err r) = IsAppendRefused start lists r
 
 -- the critical section: its entry is the record that was appended, or a look

@@ -3,6 +3,8 @@ ghost use Rattle.std.specs.Prelude.{◌≡◌, ℕ, ◌+◌, ◌*◌, ◌++◌, 
 ghost use Rattle.hall.specs.declared.view.Stage.TheVariants.{Inside};
 ghost use Rattle.hall.specs.Calls.{view, IsOf, start_of};
 ghost use Rattle.notes.specs.Lists.{at};
+ghost use Rattle.tx_events.specs.declared.record.Rec.TheVariants as records;
+ghost use Rattle.tx_events.specs.Ids.{IsFullMulti, IsXidNumber};
 ghost use Rattle.tx_core.specs.declared.entry.Kind.TheVariants as kinds;
 ghost use Rattle.tx_core.specs.Laws.{StaysBase};
 ghost use Rattle.tx_core.specs.Locks.{log_lock};
@@ -55,11 +57,25 @@ fn leave_truncated<L: LogDisk, P: PageDisk>(
     leave_log(hall, caller, log, entry);
 }
 
+/// What a truncation's record names are numbers of an id and of a multixact.
+fn tell_forms(rec: &Rec)
+    ensures { (oldest : ℕ) → (multi : ℕ) → (offset : ℕ) → rec.now ≡ records.Truncate oldest multi offset
+        → IsXidNumber oldest × IsFullMulti multi }
+{
+    match rec {
+        Rec::Truncate { oldest, multi, .. } => {
+            let _oldest = oldest.number();
+            let _multi = multi.number();
+        }
+        _ => {}
+    }
+}
+
 /// Appends the record of a truncation (`WriteTruncateXlogRec` of `src/backend/access/transam/clog.c`): one critical
-/// section of the log. It names an oldest id and an oldest multixact that were announced. The session stands as before.
+/// section of the log. It names an oldest id and an oldest multixact that were announced, so the log can take it,
+/// whatever records it has. The session stands as before.
 ///
-/// Refused with `LogDown`, or where the log isn't down with `Full` or `Memory`; then, and where the log can't take the
-/// record, nothing was appended.
+/// Refused with `LogDown`, or where the log isn't down with `Full` or `Memory`; then nothing was appended.
 pub fn append_truncation<R: Passing, L: LogDisk, P: PageDisk>(
     rt: &R,
     hall: &Hall<EngineLaw<L, P>>,
@@ -79,12 +95,9 @@ pub fn append_truncation<R: Passing, L: LogDisk, P: PageDisk>(
     ensures takes { TakesTruncation (start_of hall.now) (view caller.new.pass).seen rec.now result }
     ensures same { (caller.new.session ≡ caller.old.session) × (caller.new.number ≡ caller.old.number) }
 {
+    tell_forms(rec);
     let mut held = enter_log(rt, hall, caller);
     let log = &mut *held;
-    if !log.may_append(rec) {
-        leave_looked(hall, caller, 0, Part::Log(held));
-        return Ok(Appended::NoBase);
-    }
     match log.append(rec) {
         Ok(number) => {
             leave_truncated(hall, caller, held, rec);

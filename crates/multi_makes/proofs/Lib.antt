@@ -9,3 +9,4 @@ pub mod Acts
 pub mod Making
 pub mod Announcing
 pub mod Outcomes
+pub mod Landing

@@ -1,6 +1,10 @@
 //! The record of a multixact comes to the log, behind a truncation's where the log can't take it yet.
-ghost use Rattle.std.specs.Prelude.{◌≡◌, ◌+◌, ◌*◌, [], IfErr, OnOk};
+ghost use Rattle.std.specs.Prelude.{◌≡◌, ℕ, ◌+◌, ◌*◌, List, [], IfErr, OnOk};
 ghost use Rattle.hall.specs.Calls.{view, IsOf, start_of};
+ghost use Rattle.tx_events.specs.Ids.{IsFullMulti};
+ghost use Rattle.tx_events.specs.declared.multi.Member.{Member};
+ghost use Rattle.tx_events.specs.declared.record.Rec.TheVariants as records;
+ghost use Rattle.log_takes.specs.Takes.{AreOldestTold};
 ghost use Rattle.engine_parts.specs.Adding.{Adds, IsOfMulti, IsTruncation, MayAdd};
 ghost use Rattle.engine_parts.specs.Sessions.{MayCall, by_at};
 ghost use Rattle.engine_parts.specs.Steps.{WentOn};
@@ -8,7 +12,6 @@ ghost use Rattle.log_sections.specs.LogSections.{IsAppendRefused};
 ghost use Rattle.log_sections.specs.MultiRecords.{IsMakingRecord};
 ghost use Rattle.multi_makes.specs.Logged.{LogsMulti};
 
-use bank_sections::stall;
 use disk_core::{LogDisk, PageDisk};
 use engine_parts::{Caller, EngineLaw, Passing};
 use hall::Hall;
@@ -18,7 +21,7 @@ use proc_sections::read_oldest;
 use tx_events::{Rec, Refusal};
 
 /// Appends the record of a truncation to the announced oldest id and the announced oldest multixact with its offset,
-/// which the log's records may not tell yet: one look at the ProcArray and one at the generator.
+/// which the log's records may not tell yet: one look at the ProcArray and one at the generator. The log can take it.
 fn log_truncation<R: Passing, L: LogDisk, P: PageDisk>(
     rt: &R,
     hall: &Hall<EngineLaw<L, P>>,
@@ -32,6 +35,8 @@ fn log_truncation<R: Passing, L: LogDisk, P: PageDisk>(
     ensures went { WentOn caller.old.number [] (view caller.old.pass).seen (view caller.new.pass).seen }
     ensures adds { Adds (by_at caller.old.number caller.old.session.levels.commands) (MayAdd IsTruncation ⊥ (λ _. ⊥))
         (view caller.old.pass).seen (view caller.new.pass).seen }
+    ensures told { OnOk result (AreOldestTold (start_of hall.now) (view caller.old.pass).seen
+        (view caller.new.pass).seen) }
     ensures refused { IfErr result (IsAppendRefused (start_of hall.now) (view caller.new.pass).seen) }
     ensures same { (caller.new.session ≡ caller.old.session) × (caller.new.number ≡ caller.old.number) }
 {
@@ -44,15 +49,26 @@ fn log_truncation<R: Passing, L: LogDisk, P: PageDisk>(
     };
     match append_truncation(rt, hall, caller, &rec) {
         Ok(Appended::At { .. }) => Ok(()),
-        Ok(Appended::NoBase) => {
-            stall(rt);
-            unreachable!()
-        }
+        Ok(Appended::NoBase) => unreachable!(),
         Err(refusal) => Err(refusal),
     }
 }
 
-/// Appends the record of a truncation, and then the multixact's.
+/// The number that a multixact's record names is one.
+fn tell_form(rec: &Rec)
+    ensures { (multi : ℕ) → (offset : ℕ) → (members : List Member) → rec.now ≡ records.Multi multi offset members
+        → IsFullMulti multi }
+{
+    match rec {
+        Rec::Multi { multi, .. } => {
+            let _multi = multi.number();
+        }
+        _ => {}
+    }
+}
+
+/// Appends the record of a truncation, and then the multixact's. Behind the one the log can take the other: it tells the
+/// oldest numbers that were announced by then, and the multixact was given below their limits.
 fn log_behind<R: Passing, L: LogDisk, P: PageDisk>(
     rt: &R,
     hall: &Hall<EngineLaw<L, P>>,
@@ -72,13 +88,11 @@ fn log_behind<R: Passing, L: LogDisk, P: PageDisk>(
         result }
     ensures number { caller.new.number ≡ caller.old.number }
 {
+    tell_form(rec);
     match log_truncation(rt, hall, caller) {
         Ok(()) => match append_multi(rt, hall, caller, rec) {
             Ok(Appended::At { .. }) => Ok(()),
-            Ok(Appended::NoBase) => {
-                stall(rt);
-                unreachable!()
-            }
+            Ok(Appended::NoBase) => unreachable!(),
             Err(refusal) => Err(refusal),
         },
         Err(refusal) => Err(refusal),

@@ -1,10 +1,10 @@
 -- The ends along the history.
-use Rattle.std.proofs.Common.{◌≡◌, ◌↔◌, ℕ, zero, suc, ◌<◌, ◌≤◌, List, [], ◌∷◌, ◌++◌, Some, None, Bool, true, false, cond, ◌==◌, ◌||◌, length, take, is_some, refl, ap, sym, subst, ◌∙◌, ⊎_elim, eqb-true, arith, Contains, IsTrue}
+use Rattle.std.proofs.Common.{◌≡◌, ◌↔◌, ℕ, zero, suc, ◌+◌, ◌<◌, ◌≤◌, List, [], ◌∷◌, ◌++◌, Option, Some, None, Bool, true, false, cond, ◌==◌, ◌||◌, length, drop, take, is_some, append-nil, length-append, refl, ap, sym, subst, ◌∙◌, ⊎_elim, eqb-true, arith, Contains, IsTrue}
 use Rattle.std.proofs.Math.Seq.{take-append_seam}
 use Rattle.std.proofs.lemmas.Bool.{cases_Bool, cases_lt, false≢true}
-use Rattle.std.specs.BTreeMap.{BTreeMap, get}
-use Rattle.std.specs.List.{slice_get, list_any}
-use Rattle.std.specs.Ordering.{is_eq, nat_cmp}
+use Rattle.std.proofs.lemmas.List.{drop_at, take-append-le}
+use Rattle.std.proofs.lemmas.Slice.{between_is, between_to_end}
+use Rattle.std.specs.List.{between, slice_get, list_any}
 use Rattle.tx_events.specs.declared.event.By.{By}
 use Rattle.tx_events.specs.declared.event.Event.{Event}
 use Rattle.tx_events.specs.declared.event.Event.TheVariants as events
@@ -20,9 +20,10 @@ use Rattle.tx_events.proofs.Closing.{open_is}
 use Rattle.tx_events.proofs.ListSteps.{eqb-refl}
 use Rattle.tx_events.proofs.Membership.{contains_has, has_filter}
 use Rattle.tx_events.proofs.PlaceLemmas.{last_at, slice_get-grows, slice_get-push, take-grows}
-use Rattle.counted_map.proofs.Counted.{cmp_eq}
 use Rattle.report_law.specs.Records.{IsEndedAs}
+use Rattle.near_map.specs.Near.{value_of}
 use Rattle.record_rules.specs.declared.ends.Ended.{Ended}
+use Rattle.record_rules.specs.declared.ends.Ends.{Ends}
 use Rattle.record_rules.specs.Ends.{AreEnds, IsEndAt, is_end}
 
 -- the top that an event ends
@@ -35,57 +36,76 @@ end_top_of : (how : XactEnd) (by : By) (t : ℕ) → end_top (end_event how by t
 end_top_of ends.Commit by t = refl
 end_top_of ends.Abort by t = refl
 
-ended_at : (h : List Event) (x : Event) (t : ℕ) (e : Ended) → IsEndAt h t e → IsEndAt (h ++ x ∷ []) t e
-ended_at h x t e a = record {
+-- a part of the front of a list
+between_front : (xs ys : List ℕ) (i j : ℕ) → j ≤ length xs → between i j (xs ++ ys) ≡ between i j xs
+between_front xs ys i j l = between_is (xs ++ ys) i j ∙ ap (λ (t : List ℕ). drop i t) (take-append-le j xs ys l) ∙ sym (between_is xs i j)
+
+-- what stands behind it
+between_back : (xs more : List ℕ) (i j : ℕ) (ys : List ℕ) → ys ≡ xs ++ more → i ≡ length xs → j ≡ length ys → between i j ys ≡ more
+between_back xs more i j ys is from end = between_to_end ys i j (omega arith) ∙ ap (λ (t : List ℕ). drop i t) is ∙ drop_at xs more i (sym from)
+
+ended_at : (h : List Event) (ids more : List ℕ) (x : Event) (t : ℕ) (e : Ended) → IsEndAt h ids t e → IsEndAt (h ++ x ∷ []) (ids ++ more) t e
+ended_at h ids more x t e a = record {
   place = a.place;
   by = a.by;
   stands = slice_get-grows h (x ∷ []) (end_event e.how a.by t) a.place a.stands;
-  ids = ap (open_ids a.by.session) (take-grows h (x ∷ []) (end_event e.how a.by t) a.place a.stands) ∙ a.ids;
+  order = a.order;
+  within = let w = a.within in omega (arith, length-append ids more);
+  opened = ap (open_ids a.by.session) (take-grows h (x ∷ []) (end_event e.how a.by t) a.place a.stands) ∙ a.opened ∙ sym (between_front ids more e.from e.end a.within);
 }
 
-pub end_kept : (h : List Event) (how : XactEnd) (by : By) (t : ℕ) (e : Ended) (m n : BTreeMap ℕ Ended) → AreEnds h m → e.how ≡ how → open_ids by.session h ≡ e.ids.items
-    → ((q : ℕ) → get nat_cmp n q ≡ cond (is_eq (nat_cmp t q)) (Some e) (get nat_cmp m q)) → AreEnds (h ++ end_event how by t ∷ []) n
-end_kept h how by t e m n a how_is ids now = record {
-  each = λ q d f. ⊎_elim
-      (λ (same : (t == q) ≡ true).
-      let key : t ≡ q = eqb-true t q same in
-      let there : Some e ≡ Some d = sym (ap (λ b. cond b (Some e) (get nat_cmp m q)) (cmp_eq t q ∙ same)) ∙ sym (now q) ∙ f in
-      let is : e ≡ d = cc in
-      subst (IsEndAt (h ++ end_event how by t ∷ []) q) is (record {
-        place = length h;
-        by = by;
-        stands = last_at h (end_event how by t) ∙ ap (λ (w : XactEnd). Some (end_event w by t)) (sym how_is) ∙ ap (λ k. Some (end_event e.how by k)) key;
-        ids = ap (open_ids by.session) (take-append_seam h (end_event how by t ∷ [])) ∙ ids;
-      }))
-      (λ (other : (t == q) ≡ false). ended_at h (end_event how by t) q d (a.each q d (sym (now q ∙ ap (λ b. cond b (Some e) (get nat_cmp m q)) (cmp_eq t q ∙ other)) ∙ f)))
-      (cases_Bool (t == q));
-  all = λ place q w b s. ⊎_elim
-      (λ (same : (t == q) ≡ true). ap is_some (now q ∙ ap (λ c. cond c (Some e) (get nat_cmp m q)) (cmp_eq t q ∙ same)))
-      (λ (other : (t == q) ≡ false).
-      ap is_some (now q ∙ ap (λ c. cond c (Some e) (get nat_cmp m q)) (cmp_eq t q ∙ other))
-      ∙ ⊎_elim
-      (λ (old : (place < length h) × (slice_get h place ≡ Some (end_event w b q))). a.all place q w b old.1)
-      (λ (new : (place ≡ length h) × (end_event how by t ≡ end_event w b q)).
-      absurd (false≢true (sym other ∙ ap (λ k. k == q) (sym (end_top_of how by t) ∙ ap end_top new.1 ∙ end_top_of w b q) ∙ eqb-refl q)))
-      (slice_get-push h (end_event how by t) (end_event w b q) place s))
-      (cases_Bool (t == q));
-}
+-- what is kept now of a top, where the last one put is t's
+put_same : (t q : ℕ) (e d : Ended) (m n : ℕ → Option Ended) → ((k : ℕ) → n k ≡ cond (t == k) (Some e) (m k)) → (t == q) ≡ true → n q ≡ Some d → e ≡ d
+put_same t q e d m n now same f = let there : Some e ≡ Some d = sym (ap (λ b. cond b (Some e) (m q)) same) ∙ sym (now q) ∙ f in cc
+
+pub end_kept : (h : List Event) (how : XactEnd) (by : By) (t : ℕ) (e : Ended) (m n : Ends) (more : List ℕ) → AreEnds h m → e.how ≡ how → n.ids.items ≡ m.ids.items ++ more → e.from ≡ length m.ids.items → e.end ≡ length n.ids.items → open_ids by.session h ≡ more
+    → ((q : ℕ) → value_of n.by_top q ≡ cond (t == q) (Some e) (value_of m.by_top q)) → AreEnds (h ++ end_event how by t ∷ []) n
+end_kept h how by t e m n more a how_is grown from_is end_is opened now =
+    let size : length n.ids.items ≡ length m.ids.items + length more = ap (λ (l : List ℕ). length l) grown ∙ length-append m.ids.items more in
+    record {
+      each = λ q d f. ⊎_elim
+          (λ (same : (t == q) ≡ true).
+          let key : t ≡ q = eqb-true t q same in
+          let is : e ≡ d = put_same t q e d (value_of m.by_top) (value_of n.by_top) now same f in
+          subst (IsEndAt (h ++ end_event how by t ∷ []) n.ids.items q) is (record {
+            place = length h;
+            by = by;
+            stands = last_at h (end_event how by t) ∙ ap (λ (w : XactEnd). Some (end_event w by t)) (sym how_is) ∙ ap (λ k. Some (end_event e.how by k)) key;
+            order = omega arith;
+            within = omega arith;
+            opened = ap (open_ids by.session) (take-append_seam h (end_event how by t ∷ [])) ∙ opened ∙ sym (between_back m.ids.items more e.from e.end n.ids.items grown from_is end_is);
+          }))
+          (λ (other : (t == q) ≡ false).
+          subst (λ (l : List ℕ). IsEndAt (h ++ end_event how by t ∷ []) l q d) (sym grown)
+          (ended_at h m.ids.items more (end_event how by t) q d (a.each q d (sym (now q ∙ ap (λ b. cond b (Some e) (value_of m.by_top q)) other) ∙ f))))
+          (cases_Bool (t == q));
+      all = λ place q w b s. ⊎_elim
+          (λ (same : (t == q) ≡ true). ap is_some (now q ∙ ap (λ c. cond c (Some e) (value_of m.by_top q)) same))
+          (λ (other : (t == q) ≡ false).
+          ap is_some (now q ∙ ap (λ c. cond c (Some e) (value_of m.by_top q)) other)
+          ∙ ⊎_elim
+          (λ (old : (place < length h) × (slice_get h place ≡ Some (end_event w b q))). a.all place q w b old.1)
+          (λ (new : (place ≡ length h) × (end_event how by t ≡ end_event w b q)).
+          absurd (false≢true (sym other ∙ ap (λ k. k == q) (sym (end_top_of how by t) ∙ ap end_top new.1 ∙ end_top_of w b q) ∙ eqb-refl q)))
+          (slice_get-push h (end_event how by t) (end_event w b q) place s))
+          (cases_Bool (t == q));
+    }
 
 is_end_event : (how : XactEnd) (by : By) (t : ℕ) → is_end (end_event how by t) ≡ true
 is_end_event ends.Commit by t = refl
 is_end_event ends.Abort by t = refl
 
 -- another event ends nothing
-pub no_end_kept : (h : List Event) (x : Event) (m : BTreeMap ℕ Ended) → is_end x ≡ false → AreEnds h m → AreEnds (h ++ x ∷ []) m
+pub no_end_kept : (h : List Event) (x : Event) (m : Ends) → is_end x ≡ false → AreEnds h m → AreEnds (h ++ x ∷ []) m
 no_end_kept h x m none a = record {
-  each = λ q d f. ended_at h x q d (a.each q d f);
+  each = λ q d f. subst (λ (l : List ℕ). IsEndAt (h ++ x ∷ []) l q d) (append-nil m.ids.items) (ended_at h m.ids.items [] x q d (a.each q d f));
   all = λ place q w b s. ⊎_elim
       (λ (old : (place < length h) × (slice_get h place ≡ Some (end_event w b q))). a.all place q w b old.1)
       (λ (new : (place ≡ length h) × (x ≡ end_event w b q)). absurd (false≢true (sym none ∙ ap is_end new.1 ∙ is_end_event w b q)))
       (slice_get-push h x (end_event w b q) place s);
 }
 
-pub no_ends : (m : BTreeMap ℕ Ended) → ((q : ℕ) → get nat_cmp m q ≡ None) → AreEnds [] m
+pub no_ends : (m : Ends) → ((q : ℕ) → value_of m.by_top q ≡ None) → AreEnds [] m
 no_ends m none = record {
   each = λ q d f. let z : None ≡ Some d = sym (none q) ∙ f in absurd cc;
   all = λ place q w b s. absurd cc;
@@ -140,20 +160,20 @@ same_end ends.Abort ends.Commit by b t e = absurd cc
 same_end ends.Abort ends.Abort by b t e = (refl, cc)
 
 -- what is kept of the top answers
-pub ended_iff : (base : Counters) (h : List Event) (m : BTreeMap ℕ Ended) (how : XactEnd) (t : ℕ) (subs : List ℕ) (e : Ended) (b : Bool) → IsLegal base h → AreEnds h m → get nat_cmp m t ≡ Some e
-    → IsTrue b ↔ ((e.how ≡ how) × (e.ids.items ≡ t ∷ subs)) → IsTrue b ↔ IsEndedAs h how t subs
+pub ended_iff : (base : Counters) (h : List Event) (m : Ends) (how : XactEnd) (t : ℕ) (subs : List ℕ) (e : Ended) (b : Bool) → IsLegal base h → AreEnds h m → value_of m.by_top t ≡ Some e
+    → IsTrue b ↔ ((e.how ≡ how) × (between e.from e.end m.ids.items ≡ t ∷ subs)) → IsTrue b ↔ IsEndedAs h how t subs
 ended_iff base h m how t subs e b legal a found iff =
     let at = a.each t e found in (
       λ yes.
           let i = iff.0 yes in
-          record { place = at.place; by = at.by; stands = at.stands ∙ ap (λ (w : XactEnd). Some (end_event w at.by t)) i.0; ids = at.ids ∙ i.1 },
+          record { place = at.place; by = at.by; stands = at.stands ∙ ap (λ (w : XactEnd). Some (end_event w at.by t)) i.0; ids = at.opened ∙ i.1 },
       λ ended.
           let same : at.place ≡ ended.place = one_end base h at.place ended.place t e.how how at.by ended.by legal at.stands ended.stands in
           let both : Some (end_event e.how at.by t) ≡ Some (end_event how ended.by t) = sym at.stands ∙ ap (slice_get h) same ∙ ended.stands in
           let event : end_event e.how at.by t ≡ end_event how ended.by t = cc in
           let parts = same_end e.how how at.by ended.by t event in
-          iff.1 (parts.0, sym at.ids ∙ ap (λ k. open_ids at.by.session (take k h)) same ∙ ap (λ (c : By). open_ids c.session (take ended.place h)) parts.1 ∙ ended.ids),
+          iff.1 (parts.0, sym at.opened ∙ ap (λ k. open_ids at.by.session (take k h)) same ∙ ap (λ (c : By). open_ids c.session (take ended.place h)) parts.1 ∙ ended.ids),
     )
 
-pub never_ended : (h : List Event) (m : BTreeMap ℕ Ended) (how : XactEnd) (t : ℕ) (subs : List ℕ) → AreEnds h m → get nat_cmp m t ≡ None → IsEndedAs h how t subs → ⊥
-never_ended h m how t subs a none ended = let z : is_some (get nat_cmp m t) ≡ true = a.all ended.place t how ended.by ended.stands in let y : false ≡ true = sym (ap is_some none) ∙ z in false≢true y
+pub never_ended : (h : List Event) (m : Ends) (how : XactEnd) (t : ℕ) (subs : List ℕ) → AreEnds h m → value_of m.by_top t ≡ None → IsEndedAs h how t subs → ⊥
+never_ended h m how t subs a none ended = let z : is_some (value_of m.by_top t) ≡ true = a.all ended.place t how ended.by ended.stands in let y : false ≡ true = sym (ap is_some none) ∙ z in false≢true y

@@ -1,5 +1,5 @@
 -- Keys that the items of a list name, one item after another.
-use Rattle.std.proofs.Common.{◌≡◌, ◌↔◌, ℕ, List, [], ◌∷◌, ◌++◌, Bool, true, false, not, cond, ◌==◌, ◌||◌, ◌&&◌, Less, Equal, Greater, refl, ap, sym, ◌∙◌, ⊎_elim, inl, inr, eqb-true, IsTrue, Contains}
+use Rattle.std.proofs.Common.{◌≡◌, ◌↔◌, ℕ, List, [], ◌∷◌, ◌++◌, Bool, true, false, not, cond, ◌==◌, ◌||◌, ◌&&◌, Less, Equal, Greater, Option, Some, None, is_some, refl, ap, sym, ◌∙◌, ⊎_elim, inl, inr, eqb-true, IsTrue, Contains}
 use Rattle.std.proofs.Math.Bool.{or-true}
 use Rattle.std.proofs.lemmas.Bool.{and_parts, cases_Bool, false≢true, or_parts}
 use Rattle.std.specs.BTreeSet.{BTreeSet, contains}
@@ -16,10 +16,12 @@ use Rattle.tx_events.specs.declared.multi.MultiEvent.TheVariants as multis
 use Rattle.tx_events.specs.declared.record.Rec.{Rec}
 use Rattle.tx_events.specs.declared.record.Rec.TheVariants as records
 use Rattle.counted_map.proofs.Counted.{cmp_eq}
+use Rattle.near_map.specs.declared.NearMap.{NearMap}
+use Rattle.near_map.specs.Near.{value_of}
 use Rattle.life_law.specs.LifeLog.{ends_top}
 use Rattle.report_law.specs.Records.{is_same_multi}
 use Rattle.record_rules.specs.declared.announced.StartKey.{StartKey}
-use Rattle.record_rules.specs.Firsts.{HasKeys, announces, ends_id, has_number, raises, start_cmp}
+use Rattle.record_rules.specs.Firsts.{HasKeys, HasTops, announces, ends_id, has_number, raises, start_cmp}
 
 or_false : (b : Bool) → (b || false) ≡ b
 or_false true = refl
@@ -43,6 +45,27 @@ no_key_more cmp names xs x m none has k = has k ∙ sym (or_false (list_any (nam
 
 pub no_keys : {K X : Type 0} (cmp : K → K → Ordering) (names : K → X → Bool) (m : BTreeSet K) → m.keys ≡ [] → HasKeys cmp names [] m
 no_keys cmp names m none k = ap (λ (t : List _). list_any (λ x. is_eq (cmp k x)) t) none
+
+-- ---- tops
+
+-- a record that ends the transaction of this top
+pub top_more : (recs : List Rec) (rec : Rec) (top : ℕ) (m n : NearMap (Unit {0})) → ((id : ℕ) → ends_id id rec ≡ (top == id)) → ((id : ℕ) → value_of n id ≡ cond (top == id) (Some tt) (value_of m id)) → HasTops recs m → HasTops (recs ++ rec ∷ []) n
+top_more recs rec top m n is now has id =
+    ap is_some (now id) ∙ one (top == id) (value_of m id)
+    ∙ ap (λ b. b || (top == id)) (has id) ∙ ap (λ b. list_any (ends_id id) recs || b) (sym (is id)) ∙ sym (list_any-push (ends_id id) recs rec)
+  where
+    one : (b : Bool) (o : Option (Unit {0})) → is_some (cond b (Some tt) o) ≡ (is_some o || b)
+    one true None = refl
+    one true (Some u) = refl
+    one false None = refl
+    one false (Some u) = refl
+
+-- one that ends none
+pub no_top_more : (recs : List Rec) (rec : Rec) (m : NearMap (Unit {0})) → ((id : ℕ) → ends_id id rec ≡ false) → HasTops recs m → HasTops (recs ++ rec ∷ []) m
+no_top_more recs rec m none has id = has id ∙ sym (or_false (list_any (ends_id id) recs)) ∙ ap (λ b. list_any (ends_id id) recs || b) (sym (none id)) ∙ sym (list_any-push (ends_id id) recs rec)
+
+pub no_tops : (m : NearMap (Unit {0})) → ((id : ℕ) → value_of m id ≡ None) → HasTops [] m
+no_tops m none id = ap is_some (none id)
 
 -- ---- what a record's rule says
 
@@ -69,9 +92,9 @@ not_true : (b : Bool) → not b ≡ true → b ≡ false
 not_true true e = absurd cc
 not_true false e = refl
 
-pub first_top : (recs : List Rec) (id : ℕ) (m : BTreeSet ℕ) → HasKeys nat_cmp ends_id recs m → IsTrue (not (contains nat_cmp m id)) ↔ ((rec : Rec) → Contains recs rec → ends_top rec id → ⊥)
+pub first_top : (recs : List Rec) (id : ℕ) (m : NearMap (Unit {0})) → HasTops recs m → IsTrue (not (is_some (value_of m id))) ↔ ((rec : Rec) → Contains recs rec → ends_top rec id → ⊥)
 first_top recs id m has = (
-  λ yes rec there ends. false≢true (sym (not_true (contains nat_cmp m id) yes) ∙ has id ∙ any_has (ends_id id) recs rec (contains_has recs rec there) ((top_iff rec id).1 ends)),
+  λ yes rec there ends. false≢true (sym (not_true (is_some (value_of m id)) yes) ∙ has id ∙ any_has (ends_id id) recs rec (contains_has recs rec there) ((top_iff rec id).1 ends)),
   λ f. ap not (has id ∙ none_has (λ r. ends_top r id) (ends_id id) recs (λ r. (top_iff r id).0) (λ r h. f r (has_contains recs r h))),
 )
 

@@ -1,5 +1,5 @@
 -- Keys that the items of a list name.
-use Rattle.std.specs.Prelude.{◌≡◌, ℕ, ◌==◌, ◌&&◌, Bool, false, List}
+use Rattle.std.specs.Prelude.{◌≡◌, ℕ, ◌==◌, ◌&&◌, Bool, false, is_some, List}
 use Rattle.std.specs.BTreeSet.{BTreeSet, contains}
 use Rattle.std.specs.List.{list_any}
 use Rattle.std.specs.Ordering.{nat_cmp, ordering_then}
@@ -13,6 +13,8 @@ use Rattle.tx_events.specs.declared.record.Rec.TheVariants as records
 use Rattle.record_rules.specs.declared.announced.Announced.{Announced}
 use Rattle.record_rules.specs.declared.announced.StartKey.{StartKey}
 use Rattle.record_rules.specs.declared.firsts.Seen.{Seen}
+use Rattle.near_map.specs.declared.NearMap.{NearMap}
+use Rattle.near_map.specs.Near.{value_of}
 
 -- the set has exactly the keys that some item names
 abbrev pub HasKeys : {K X : Type 0} → (K → K → Ordering) → (K → X → Bool) → List X → BTreeSet K → Type 0
@@ -47,6 +49,10 @@ pub record AreAnnounced (h : List Event) (m : List MultiEvent) (a : Announced) :
   pub ids : HasKeys nat_cmp announces h a.ids
   pub starts : HasKeys start_cmp raises m a.starts
 
+-- exactly the tops that some record names have a value
+abbrev pub HasTops : List Rec → NearMap (Unit {0}) → Type 0
+HasTops recs tops = (id : ℕ) → is_some (value_of tops id) ≡ list_any (ends_id id) recs
+
 pub record AreSeen (recs : List Rec) (seen : Seen) : Type 0 where
-  pub tops : HasKeys nat_cmp ends_id recs seen.tops
+  pub tops : HasTops recs seen.tops
   pub multis : HasKeys nat_cmp has_number recs seen.multis

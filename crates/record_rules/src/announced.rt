@@ -1,5 +1,5 @@
 //! The oldest numbers that a life announces.
-ghost use Rattle.std.specs.Prelude.{◌≡◌, ◌↔◌, ◌∷◌, ◌++◌, [], List, IfOk, IsTrue, OnOk, Contains, cond, true};
+ghost use Rattle.std.specs.Prelude.{◌≡◌, ◌↔◌, ◌∷◌, ◌++◌, [], ℕ, List, IfOk, IsTrue, OnOk, Contains, cond, true};
 ghost use Rattle.std.specs.BTreeSet.{contains};
 ghost use Rattle.std.specs.Ordering.{is_eq, nat_cmp};
 ghost use Rattle.tx_events.specs.declared.event.By.{By};
@@ -13,7 +13,6 @@ ghost use Rattle.record_rules.specs.declared.announced.StartKey.{StartKey};
 ghost use Rattle.record_rules.specs.Firsts.{AreAnnounced, HasKeys, announces, raises, start_cmp};
 
 use crate::either::either;
-use crate::firsts::put_id;
 use std::alloc::Global;
 use std::collections::BTreeSet;
 use tx_events::{Counters, Event, FullMulti, FullXid, Memory, MultiEvent};
@@ -30,6 +29,13 @@ pub struct StartKey {
 pub struct Announced {
     pub ids: BTreeSet<FullXid>,
     pub starts: BTreeSet<StartKey>,
+}
+
+fn put_id(ids: &mut BTreeSet<FullXid>, id: FullXid) -> Result<(), Memory>
+    ensures { OnOk result ((k : ℕ) → contains nat_cmp ids.new k ≡ cond (is_eq (nat_cmp id k)) true (contains nat_cmp ids.old k)) }
+{
+    ids.insert(id)?;
+    Ok(())
 }
 
 fn note_id(ids: &mut BTreeSet<FullXid>, event: &Event) -> Result<(), Memory>

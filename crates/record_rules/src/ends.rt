@@ -1,5 +1,6 @@
 //! How the transactions of a history ended, each with the ids that it had open then.
-ghost use Rattle.std.specs.Prelude.{◌≡◌, ◌<◌, ◌∷◌, ◌++◌, [], List, IfOk, OnOk};
+ghost use Rattle.std.specs.Prelude.{◌≡◌, ◌<◌, ◌≤◌, ◌∷◌, ◌++◌, [], List, IfOk, OnOk, length};
+ghost use Rattle.std.specs.List.{between};
 ghost use Rattle.tx_events.specs.declared.event.Event.{Event};
 ghost use Rattle.tx_events.specs.Events.{by_of};
 ghost use Rattle.tx_events.specs.XactEnds.{end_event};
@@ -7,19 +8,25 @@ ghost use Rattle.history_check.specs.Opened.{AreOpened, opened_ids};
 ghost use Rattle.record_rules.specs.Ends.{AreEnds, is_end};
 
 use history_check::{HistoryReplay, OpenId};
+use near_map::NearMap;
 use std::alloc::Global;
-use std::collections::BTreeMap;
 use tx_events::{By, Event, FullXid, Memory, XactEnd};
 
-/// How a transaction ended, with the ids that it had open then: its top, and the subids that weren't rolled back.
-#[derive(Drop)]
+/// How a transaction ended, and where the ids stand that it had open then: its top, and the subids that weren't rolled
+/// back.
+#[derive(Clone, Copy)]
 pub struct Ended {
     pub how: XactEnd,
-    pub ids: Vec<FullXid>,
+    pub from: usize,
+    pub end: usize,
 }
 
-/// Ended transactions by their top-level ids.
-pub type EndedByTop = BTreeMap<FullXid, Ended>;
+/// Ended transactions by their top-level ids, and the ids of all.
+#[derive(Drop)]
+pub struct Ends {
+    pub by_top: NearMap<Ended>,
+    pub ids: Vec<FullXid>,
+}
 
 #[tactic(auto, using(history_check::proofs::OpenedSteps::ids_more))]
 pub fn ids_of(alloc: Global, opened: &[OpenId]) -> Result<Vec<FullXid>, Memory>
@@ -32,10 +39,32 @@ pub fn ids_of(alloc: Global, opened: &[OpenId]) -> Result<Vec<FullXid>, Memory>
     Ok(ids)
 }
 
+/// Puts the open ids behind these.
+#[tactic(auto, using(history_check::proofs::OpenedSteps::ids_more))]
+fn add_ids(ids: &mut Vec<FullXid>, opened: &[OpenId]) -> Result<(), Memory>
+    ensures { OnOk result (ids.new.items ≡ ids.old.items ++ opened_ids opened.now) }
+{
+    for o in opened {
+        ids.push(o.id)?;
+    }
+    Ok(())
+}
+
+/// None has ended. Most tops are next to the first id.
+#[tactic(auto, using(crate::proofs::Ending::no_ends))]
+pub fn none_ended(alloc: Global, first: FullXid, count: usize) -> Result<Ends, Memory>
+    ensures { IfOk result (AreEnds []) }
+{
+    let by_top = NearMap::new(alloc, first.number(), count)?;
+    Ok(Ends {
+        by_top,
+        ids: Vec::new(alloc),
+    })
+}
+
 /// Keeps that the transaction of this top ended so, whose session has these ids open.
 fn keep_end(
-    alloc: Global,
-    ends: &mut EndedByTop,
+    ends: &mut Ends,
     how: XactEnd,
     by: By,
     top: FullXid,
@@ -43,8 +72,10 @@ fn keep_end(
 ) -> Result<(), Memory>
     ensures { OnOk result ((h : List Event) → AreOpened h by.session opened.now → AreEnds h ends.old → AreEnds (h ++ end_event how by top ∷ []) ends.new) }
 {
-    let ids = ids_of(alloc, opened)?;
-    ends.insert(top, Ended { how, ids })?;
+    let from = ends.ids.len();
+    add_ids(&mut ends.ids, opened)?;
+    let end = ends.ids.len();
+    ends.by_top.put(top.number(), Ended { how, from, end })?;
     Ok(())
 }
 
@@ -59,12 +90,7 @@ fn is_end(event: &Event) -> bool
 }
 
 /// Keeps the event that comes next, where it ends a transaction.
-pub fn note_end(
-    alloc: Global,
-    ends: &mut EndedByTop,
-    replay: &HistoryReplay,
-    event: &Event,
-) -> Result<(), Memory>
+pub fn note_end(ends: &mut Ends, replay: &HistoryReplay, event: &Event) -> Result<(), Memory>
     requires { (by_of event.now).session < replay.now.sessions }
     ensures { OnOk result (AreEnds replay.now.events ends.old → AreEnds (replay.now.events ++ event.now ∷ []) ends.new) }
 {
@@ -74,12 +100,21 @@ pub fn note_end(
     match event {
         Event::Commit { by, top } => {
             let opened = replay.open_ids(by.session);
-            keep_end(alloc, ends, XactEnd::Commit, *by, *top, opened)
+            keep_end(ends, XactEnd::Commit, *by, *top, opened)
         }
         Event::Abort { by, top } => {
             let opened = replay.open_ids(by.session);
-            keep_end(alloc, ends, XactEnd::Abort, *by, *top, opened)
+            keep_end(ends, XactEnd::Abort, *by, *top, opened)
         }
         _ => Ok(()),
     }
+}
+
+/// The ids from one place up to another.
+pub fn part_of(ids: &[FullXid], from: usize, end: usize) -> &[FullXid]
+    ensures { from ≤ end → end ≤ length ids.now → result.now ≡ between from end ids.now }
+{
+    let end = end.min(ids.len());
+    let from = from.min(end);
+    &ids[from..end]
 }

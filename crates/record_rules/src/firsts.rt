@@ -1,11 +1,13 @@
 //! Which transactions and which multixacts records have named so far.
-ghost use Rattle.std.specs.Prelude.{◌≡◌, ◌↔◌, ◌∷◌, ◌++◌, [], ℕ, List, IsTrue, OnOk, not, cond, true};
+ghost use Rattle.std.specs.Prelude.{◌≡◌, ◌↔◌, ◌∷◌, ◌++◌, [], ℕ, List, IfOk, IsTrue, OnOk, is_some, not, cond, true};
 ghost use Rattle.std.specs.BTreeSet.{contains};
 ghost use Rattle.std.specs.Ordering.{is_eq, nat_cmp};
 ghost use Rattle.tx_events.specs.declared.record.Rec.{Rec};
 ghost use Rattle.report_law.specs.Records.{IsFirstOf};
-ghost use Rattle.record_rules.specs.Firsts.{AreSeen, HasKeys, ends_id, has_number};
+ghost use Rattle.near_map.specs.Near.{value_of};
+ghost use Rattle.record_rules.specs.Firsts.{AreSeen, HasKeys, HasTops, has_number};
 
+use near_map::NearMap;
 use std::alloc::Global;
 use std::collections::BTreeSet;
 use tx_events::{FullMulti, FullXid, Memory, Rec};
@@ -13,16 +15,8 @@ use tx_events::{FullMulti, FullXid, Memory, Rec};
 /// The top-level ids of the commits and aborts so far, and the numbers of the multixacts.
 #[derive(Drop)]
 pub struct Seen {
-    pub tops: BTreeSet<FullXid>,
+    pub tops: NearMap<()>,
     pub multis: BTreeSet<FullMulti>,
-}
-
-/// Puts a key into a set of ids.
-pub fn put_id(ids: &mut BTreeSet<FullXid>, id: FullXid) -> Result<(), Memory>
-    ensures { OnOk result ((k : ℕ) → contains nat_cmp ids.new k ≡ cond (is_eq (nat_cmp id k)) true (contains nat_cmp ids.old k)) }
-{
-    ids.insert(id)?;
-    Ok(())
 }
 
 fn put_multi(multis: &mut BTreeSet<FullMulti>, multi: FullMulti) -> Result<(), Memory>
@@ -32,12 +26,13 @@ fn put_multi(multis: &mut BTreeSet<FullMulti>, multi: FullMulti) -> Result<(), M
     Ok(())
 }
 
-fn note_top(tops: &mut BTreeSet<FullXid>, rec: &Rec) -> Result<(), Memory>
-    ensures { OnOk result ((recs : List Rec) → HasKeys nat_cmp ends_id recs tops.old → HasKeys nat_cmp ends_id (recs ++ rec.now ∷ []) tops.new) }
+#[tactic(auto, using(crate::proofs::Keys::top_more, crate::proofs::Keys::no_top_more))]
+fn note_top(tops: &mut NearMap<()>, rec: &Rec) -> Result<(), Memory>
+    ensures { OnOk result ((recs : List Rec) → HasTops recs tops.old → HasTops (recs ++ rec.now ∷ []) tops.new) }
 {
     match rec {
-        Rec::Commit { top, .. } => put_id(tops, *top),
-        Rec::Abort { top, .. } => put_id(tops, *top),
+        Rec::Commit { top, .. } => tops.put(top.number(), ()),
+        Rec::Abort { top, .. } => tops.put(top.number(), ()),
         Rec::Multi { .. } => Ok(()),
         Rec::Checkpoint { .. } => Ok(()),
         Rec::Truncate { .. } => Ok(()),
@@ -56,14 +51,16 @@ fn note_multi(multis: &mut BTreeSet<FullMulti>, rec: &Rec) -> Result<(), Memory>
     }
 }
 
-/// No record.
-pub fn none_seen(alloc: Global) -> Seen
-    ensures { AreSeen [] result }
+/// No record. Most tops are next to the first id.
+#[tactic(auto, using(crate::proofs::Keys::no_tops))]
+pub fn none_seen(alloc: Global, first: FullXid, count: usize) -> Result<Seen, Memory>
+    ensures { IfOk result (AreSeen []) }
 {
-    Seen {
-        tops: BTreeSet::new(alloc),
+    let tops = NearMap::new(alloc, first.number(), count)?;
+    Ok(Seen {
+        tops,
         multis: BTreeSet::new(alloc),
-    }
+    })
 }
 
 /// Notes one record more.
@@ -72,6 +69,13 @@ pub fn note_record(seen: &mut Seen, rec: &Rec) -> Result<(), Memory>
 {
     note_top(&mut seen.tops, rec)?;
     note_multi(&mut seen.multis, rec)
+}
+
+/// Whether a record so far ends the transaction of this top.
+fn is_named(tops: &NearMap<()>, top: FullXid) -> bool
+    ensures { result ≡ is_some (value_of tops.now top) }
+{
+    tops.get(top.number()).is_some()
 }
 
 fn not(b: bool) -> bool
@@ -85,8 +89,8 @@ pub fn is_first(seen: &Seen, rec: &Rec) -> bool
     ensures { (recs : List Rec) → AreSeen recs seen.now → IsTrue result ↔ IsFirstOf recs rec.now }
 {
     match rec {
-        Rec::Commit { top, .. } => not(seen.tops.contains(top)),
-        Rec::Abort { top, .. } => not(seen.tops.contains(top)),
+        Rec::Commit { top, .. } => not(is_named(&seen.tops, *top)),
+        Rec::Abort { top, .. } => not(is_named(&seen.tops, *top)),
         Rec::Multi { multi, .. } => not(seen.multis.contains(multi)),
         _ => true,
     }

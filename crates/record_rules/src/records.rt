@@ -242,7 +242,7 @@ pub fn first_unlawful_record(
     ensures some { IfOk result (λ o. IfSome o (IsFirstUnlawful j)) }
 {
     let judging = judging_of(alloc, base, report)?;
-    let mut seen = none_seen(alloc);
+    let mut seen = none_seen(alloc, base.next, report.life.events.items().len())?;
     for (place, rec) in report.life.recs.items().iter().enumerate() {
         if !is_lawful_record(&judging, multis, asked, &seen, place, rec) {
             return Ok(Some(place));

@@ -18,11 +18,9 @@ ghost use Rattle.record_rules.specs.Answered.{AreAnswers, IsAnswered, may_have};
 ghost use Rattle.record_rules.specs.Ends.{AreEnds, AreOpenXacts, AreTransactions, IsOpenXact};
 
 use crate::answers::{Answers, answers_of};
-use crate::either::either;
-use crate::ends::{EndedByTop, ids_of, note_end};
+use crate::ends::{Ends, ids_of, none_ended, note_end, part_of};
 use history_check::{HistoryReplay, OpenId};
 use std::alloc::Global;
-use std::collections::BTreeMap;
 use tx_events::{Counters, Event, FullXid, Memory, XactEnd};
 use tx_model::Step;
 
@@ -38,7 +36,7 @@ pub struct OpenXact {
 /// The transactions of a history.
 #[derive(Drop)]
 pub struct Transactions {
-    pub ends: EndedByTop,
+    pub ends: Ends,
     pub opened: Vec<OpenXact>,
 }
 
@@ -81,12 +79,15 @@ fn is_same_end(a: XactEnd, b: XactEnd) -> bool
     }
 }
 
-/// Whether the transaction of this top ended so, with these subids. Takes the logarithm of how many ended.
-fn is_ended_as(ends: &EndedByTop, how: XactEnd, top: FullXid, subs: &[FullXid]) -> bool
+/// Whether the transaction of this top ended so, with these subids.
+fn is_ended_as(ends: &Ends, how: XactEnd, top: FullXid, subs: &[FullXid]) -> bool
     ensures { (base : Counters) (h : List Event) → IsLegal base h → AreEnds h ends.now → IsTrue result ↔ IsEndedAs h how top subs.now }
 {
-    match ends.get(&top) {
-        Some(ended) => is_same_end(ended.how, how) && is_whole(ended.ids.as_slice(), top, subs),
+    match ends.by_top.get(top.number()) {
+        Some(ended) => {
+            let ids = part_of(ends.ids.as_slice(), ended.from, ended.end);
+            is_same_end(ended.how, how) && is_whole(ids, top, subs)
+        }
         None => false,
     }
 }
@@ -164,13 +165,14 @@ fn has_open(xacts: &[OpenXact], how: XactEnd, top: FullXid, subs: &[FullXid]) ->
 }
 
 /// Whether the transaction of this top ended so with these subids, or it is open at the end and its session's last answer
-/// lets the log have its record. Takes the logarithm of how many ended, and looks at 64 sessions.
+/// lets the log have its record. Looks at 64 sessions where it didn't.
 fn is_end_recorded(xacts: &Transactions, how: XactEnd, top: FullXid, subs: &[FullXid]) -> bool
     ensures { (base : Counters) (h : List Event) (lines : List Line) → IsLegal base h → AllByRecursion (λ e. (by_of e).session < 64) h → AreTransactions h lines xacts.now → IsTrue result ↔ (IsEndedAs h how top subs.now ⊎ ((s : ℕ) × IsOpenOf h s top subs.now × IsTrue (may_have how lines s))) }
 {
-    let ended = is_ended_as(&xacts.ends, how, top, subs);
-    let open = has_open(xacts.opened.as_slice(), how, top, subs);
-    either(ended, open)
+    if is_ended_as(&xacts.ends, how, top, subs) {
+        return true;
+    }
+    has_open(xacts.opened.as_slice(), how, top, subs)
 }
 
 /// Whether a commit's record says what is so of a life whose history is legal, and whose transactions these are.
@@ -200,9 +202,9 @@ pub fn transactions_of(
     ensures { IfOk result (λ t. AreTransactions events.now (flat_map lines_in steps.now) t) }
 {
     let mut replay = HistoryReplay::new(alloc, base.same(), 64)?;
-    let mut ends = BTreeMap::new(alloc);
+    let mut ends = none_ended(alloc, base.next, events.len())?;
     for event in events {
-        note_end(alloc, &mut ends, &replay, event)?;
+        note_end(&mut ends, &replay, event)?;
         let _added = replay.add(event)?;
     }
     let answers = answers_of(alloc, steps)?;

@@ -7,3 +7,4 @@ pub mod Steps
 pub mod Levels
 pub mod Whole
 pub mod GenWords
+pub mod EventCounts

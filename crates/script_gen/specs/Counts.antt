@@ -1,5 +1,5 @@
 -- What the summary of a run counts, and what it counts in the script.
-use Rattle.std.specs.Prelude.{ℕ, Bool, true, false, List, [], ◌∷◌, ◌++◌, codes, length}
+use Rattle.std.specs.Prelude.{ℕ, ◌+◌, ◌^◌, ◌<◌, cond, Bool, true, false, List, [], ◌∷◌, ◌++◌, codes, length}
 use Rattle.std.specs.Fmt.{decimal}
 use Rattle.std.specs.List.{count_by, flat_map}
 use Rattle.tx_events.specs.declared.event.Event.{Event}
@@ -9,6 +9,7 @@ use Rattle.tx_model.specs.declared.report.Line.{Line}
 use Rattle.tx_model.specs.Rounds.{lines_in}
 use Rattle.report_text.specs.Words.{line_text}
 pub use Rattle.run_law.specs.Counting.{is_verdict}
+use Rattle.script_gen.specs.declared.summary.Counts.{Counts}
 use Rattle.script_gen.specs.declared.summary.Summary.{Summary}
 
 -- ---- of a report
@@ -33,6 +34,34 @@ is_abort event = false
 abbrev pub is_snap : Event → Bool
 is_snap (events.Snap by name) = true
 is_snap event = false
+
+-- how many events of each kind there are
+abbrev pub counts_of : List Event → Counts
+counts_of history = record {
+  ids = count_by gives_id history;
+  undone = count_by is_undo history;
+  commits = count_by is_commit history;
+  aborts = count_by is_abort history;
+  snaps = count_by is_snap history;
+}
+
+-- with one event more
+abbrev pub counted : Event → Counts → Counts
+counted e c = record {
+  ids = c.ids + cond (gives_id e) 1 0;
+  undone = c.undone + cond (is_undo e) 1 0;
+  commits = c.commits + cond (is_commit e) 1 0;
+  aborts = c.aborts + cond (is_abort e) 1 0;
+  snaps = c.snaps + cond (is_snap e) 1 0;
+}
+
+-- each can be one more
+pub record AreFew (c : Counts) : Type 0 where
+  pub ids : c.ids + 1 < 2 ^ 64
+  pub undone : c.undone + 1 < 2 ^ 64
+  pub commits : c.commits + 1 < 2 ^ 64
+  pub aborts : c.aborts + 1 < 2 ^ 64
+  pub snaps : c.snaps + 1 < 2 ^ 64
 
 -- of a history, and of so many commands of which so many were answered a verdict
 abbrev pub summary_by : List Event → ℕ → ℕ → Summary

@@ -1,9 +1,8 @@
 //! What the run of a generated script did.
-ghost use Rattle.std.specs.Prelude.{◌≡◌, [], ◌∷◌, ◌++◌, IfOk, OnOk, codes, length};
+ghost use Rattle.std.specs.Prelude.{◌≡◌, [], ◌∷◌, ◌++◌, IfOk, OnOk, codes, cond};
 ghost use Rattle.std.specs.Fmt.{decimal};
-ghost use Rattle.std.specs.List.{filter};
 ghost use Rattle.report_text.specs.Words.{more};
-ghost use Rattle.script_gen.specs.Counts.{first_counts, gives_id, is_abort, is_commit, is_snap, is_undo, last_counts, summary_by, summary_text};
+ghost use Rattle.script_gen.specs.Counts.{AreFew, counted, counts_of, first_counts, gives_id, is_abort, is_commit, is_snap, is_undo, last_counts, summary_by, summary_text};
 
 use report_text::Text;
 use std::alloc::Global;
@@ -28,16 +27,26 @@ pub struct Summary {
     pub sees: u64,
 }
 
+/// How many events of each kind there are that a summary tells.
+#[derive(Clone, Copy)]
+pub struct Counts {
+    ids: usize,
+    undone: usize,
+    commits: usize,
+    aborts: usize,
+    snaps: usize,
+}
+
+fn one_if(yes: bool) -> usize
+    ensures { result ≡ cond yes 1 0 }
+{
+    if yes { 1 } else { 0 }
+}
+
 fn gives_id(event: &Event) -> bool
     ensures { result ≡ gives_id event.now }
 {
     matches!(event, Event::Id { .. } | Event::Sub { .. })
-}
-
-fn ids_in(history: &[Event]) -> usize
-    ensures { result ≡ length (filter gives_id history.now) }
-{
-    history.iter().filter(|event| gives_id(event)).count()
 }
 
 fn is_undo(event: &Event) -> bool
@@ -46,22 +55,10 @@ fn is_undo(event: &Event) -> bool
     matches!(event, Event::Undo { .. })
 }
 
-fn undone_in(history: &[Event]) -> usize
-    ensures { result ≡ length (filter is_undo history.now) }
-{
-    history.iter().filter(|event| is_undo(event)).count()
-}
-
 fn is_commit(event: &Event) -> bool
     ensures { result ≡ is_commit event.now }
 {
     matches!(event, Event::Commit { .. })
-}
-
-fn commits_in(history: &[Event]) -> usize
-    ensures { result ≡ length (filter is_commit history.now) }
-{
-    history.iter().filter(|event| is_commit(event)).count()
 }
 
 fn is_abort(event: &Event) -> bool
@@ -70,22 +67,41 @@ fn is_abort(event: &Event) -> bool
     matches!(event, Event::Abort { .. })
 }
 
-fn aborts_in(history: &[Event]) -> usize
-    ensures { result ≡ length (filter is_abort history.now) }
-{
-    history.iter().filter(|event| is_abort(event)).count()
-}
-
 fn is_snap(event: &Event) -> bool
     ensures { result ≡ is_snap event.now }
 {
     matches!(event, Event::Snap { .. })
 }
 
-fn snaps_in(history: &[Event]) -> usize
-    ensures { result ≡ length (filter is_snap history.now) }
+/// The counts with one event more.
+fn counted(counts: Counts, event: &Event) -> Counts
+    requires few { AreFew counts }
+    ensures { result ≡ counted event.now counts }
 {
-    history.iter().filter(|event| is_snap(event)).count()
+    Counts {
+        ids: counts.ids + one_if(gives_id(event)),
+        undone: counts.undone + one_if(is_undo(event)),
+        commits: counts.commits + one_if(is_commit(event)),
+        aborts: counts.aborts + one_if(is_abort(event)),
+        snaps: counts.snaps + one_if(is_snap(event)),
+    }
+}
+
+/// Counts the events of each kind. A history is long, so it goes over it once.
+fn counts_of(history: &[Event]) -> Counts
+    ensures { result ≡ counts_of history.now }
+{
+    let mut counts = Counts {
+        ids: 0,
+        undone: 0,
+        commits: 0,
+        aborts: 0,
+        snaps: 0,
+    };
+    for event in history {
+        counts = counted(counts, event);
+    }
+    counts
 }
 
 impl Summary {
@@ -93,13 +109,14 @@ impl Summary {
     pub fn of(history: &[Event], commands: u64, sees: u64) -> Summary
         ensures { result ≡ summary_by history.now commands sees }
     {
+        let counts = counts_of(history);
         Summary {
             commands,
-            ids: ids_in(history) as u64,
-            undone: undone_in(history) as u64,
-            commits: commits_in(history) as u64,
-            aborts: aborts_in(history) as u64,
-            snaps: snaps_in(history) as u64,
+            ids: counts.ids as u64,
+            undone: counts.undone as u64,
+            commits: counts.commits as u64,
+            aborts: counts.aborts as u64,
+            snaps: counts.snaps as u64,
             sees,
         }
     }

@@ -55,7 +55,7 @@ impl Writer {
         requires { IsInRange command }
         ensures { OnOk result (Adds self.old self.new self.old.draws.state (run_by session (command ∷ []))) }
     {
-        self.items.push_command(session, command)
+        self.items.push_command(session, &command)
     }
 
     /// Ends the round before each 64th transaction but the first.

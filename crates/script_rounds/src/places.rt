@@ -5,10 +5,10 @@ use std::alloc::Global;
 use std::marker::Model;
 use tx_model::Memory;
 
-/// Places in their order. A contract sees the list of them.
+/// Places in their order, each in four bytes: no script that is read has more. A contract sees the list of them.
 #[derive(Drop)]
 pub struct Places {
-    at: Vec<usize>,
+    at: Vec<u32>,
 }
 
 impl Model for Places {
@@ -29,15 +29,20 @@ impl Places {
         }
     }
 
-    pub fn items(&self) -> &[usize]
+    /// The places, in order.
+    pub fn items(&self) -> &[u32]
         ensures { result.now ≡ self.now }
     {
         self.at.as_slice()
     }
 
+    /// Adds a place at the end.
     pub fn push(&mut self, place: usize) -> Result<(), Memory>
         ensures { OnOk result (self.new ≡ self.old ++ place ∷ []) }
     {
+        let Ok(place) = u32::try_from(place) else {
+            return Err(Memory);
+        };
         self.at.push(place)?;
         Ok(())
     }

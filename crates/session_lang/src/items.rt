@@ -183,9 +183,9 @@ impl ItemList {
 
     /// Adds a command of the session of this number at the end.
     #[inline(always)]
-    pub fn push_command(&mut self, session: u8, command: Command) -> Result<(), Memory>
-        requires { IsInRange command }
-        ensures { OnOk result (self.new ≡ self.old ++ items.Run session command ∷ []) }
+    pub fn push_command(&mut self, session: u8, command: &Command) -> Result<(), Memory>
+        requires { IsInRange command.now }
+        ensures { OnOk result (self.new ≡ self.old ++ items.Run session command.now ∷ []) }
     {
         match command {
             Command::Begin => self.push_plain(session, PlainCommand::Begin),
@@ -197,28 +197,18 @@ impl ItemList {
             Command::Abort => self.push_plain(session, PlainCommand::Abort),
             Command::Trim => self.push_plain(session, PlainCommand::Trim),
             Command::Horizon => self.push_plain(session, PlainCommand::Horizon),
-            Command::Snap { name } => self.push_named(session, NamedCommand::Snap, &name, 0),
-            Command::DropSnap { name } => self.push_named(
-                session,
-                NamedCommand::DropSnap,
-                &name,
-                0,
-            ),
-            Command::See { name, x } => self.push_named(
-                session,
-                NamedCommand::See,
-                &name,
-                x.number,
-            ),
+            Command::Snap { name } => self.push_named(session, NamedCommand::Snap, name, 0),
+            Command::DropSnap { name } => self.push_named(session, NamedCommand::DropSnap, name, 0),
+            Command::See { name, x } => self.push_named(session, NamedCommand::See, name, x.number),
             Command::SeeMulti { name, multi } => {
-                self.push_named(session, NamedCommand::SeeMulti, &name, multi.number)
+                self.push_named(session, NamedCommand::SeeMulti, name, multi.number)
             }
             Command::Did { x } => {
-                self.packed.push(PackedItem::Did { session, x })?;
+                self.packed.push(PackedItem::Did { session, x: *x })?;
                 Ok(())
             }
             Command::Status { x } => self.push_id(session, IdCommand::Status, x.number()),
-            Command::Multi { members } => self.push_multi(session, &members),
+            Command::Multi { members } => self.push_multi(session, members),
             Command::Freeze { oldest } => {
                 self.push_id(session, IdCommand::Freeze, oldest.number())
             }

@@ -59,7 +59,7 @@ fn run_places<R: Passing, K: LineKeeper, L: LogDisk, P: PageDisk>(
     banks: u32,
     alloc: Global,
     names: &NameList,
-    places: &[usize],
+    places: &[u32],
     round: &Items,
 ) -> Result<(), Memory>
     requires begins { Begins hall.now banks (length places.now) member.old }
@@ -69,7 +69,7 @@ fn run_places<R: Passing, K: LineKeeper, L: LogDisk, P: PageDisk>(
     ensures { RunsRound K.LineKeeper hall.now banks names.now round.now (IsOk result) member.old member.new }
 {
     for place in places {
-        if let Some(command) = command_at(member.caller.number, round, *place)? {
+        if let Some(command) = command_at(member.caller.number, round, *place as usize)? {
             run_turn(rt, hall, member, banks, alloc, names, &command)?;
         }
     }

@@ -8,5 +8,4 @@ pub mod Unrecorded
 pub mod RolledBack
 pub mod Undone
 pub mod Truncating
-pub mod Fitting
 pub mod Landing

@@ -1,5 +1,5 @@
 //! The record of a commit or an abort comes to the log, behind a truncation's where the log can't take it yet.
-ghost use Rattle.std.specs.Prelude.{◌≡◌, ◌+◌, ◌*◌, ◌≤◌, [], false, IfErr, None, OnOk, length};
+ghost use Rattle.std.specs.Prelude.{◌≡◌, ◌+◌, ◌*◌, [], false, IfErr, None, OnOk};
 ghost use Rattle.hall.specs.Calls.{view, IsOf, start_of};
 ghost use Rattle.engine_parts.specs.declared.session.Stage.TheVariants as stages;
 ghost use Rattle.engine_parts.specs.Adding.{Adds, IsOfAbort, IsOfCommit, IsTruncation, MayAdd};
@@ -7,7 +7,8 @@ ghost use Rattle.engine_parts.specs.Sessions.{MayCall, by_at};
 ghost use Rattle.engine_parts.specs.Stages.{may_be_aborted, may_be_recorded};
 ghost use Rattle.engine_parts.specs.Steps.{WentOn};
 ghost use Rattle.log_sections.specs.LogSections.{Appends, IsAbortOf, IsAppendRefused, IsCommitOf, TakesAbort};
-ghost use Rattle.xact_ends.specs.Logged.{IsNumbered, IsOldestTold};
+ghost use Rattle.log_takes.specs.Takes.{IsOldestTold};
+ghost use Rattle.xact_ends.specs.Logged.{IsNumbered};
 
 use disk_core::{LogDisk, PageDisk};
 use engine_parts::{Caller, EngineLaw, Passing};
@@ -16,8 +17,8 @@ use log_sections::{Appended, append_abort, append_commit, append_truncation};
 use proc_sections::read_truncation;
 use tx_events::{Rec, Refusal};
 
-/// Appends the record of a truncation to the announced oldest id, which the log's records may not tell yet. The session
-/// has an id open, and the log can take the record: the open id is from the announced one on, and below its stop limit.
+/// Appends the record of a truncation to the announced oldest id, which the log's records may not tell yet. The log can
+/// take it.
 fn log_truncation<R: Passing, L: LogDisk, P: PageDisk>(
     rt: &R,
     hall: &Hall<EngineLaw<L, P>>,
@@ -26,7 +27,6 @@ fn log_truncation<R: Passing, L: LogDisk, P: PageDisk>(
     requires own { IsOf hall.now caller.old.pass }
     requires laid { hall.now.cells ≡ 3 + 4 * (start_of hall.now).banks }
     requires may { MayCall (start_of hall.now) (view caller.old.pass) caller.old.number caller.old.session }
-    requires some { 1 ≤ length caller.old.session.levels.open_ids.items }
     ensures own { IsOf hall.now caller.new.pass }
     ensures may { MayCall (start_of hall.now) (view caller.new.pass) caller.new.number caller.new.session }
     ensures went { WentOn caller.old.number [] (view caller.old.pass).seen (view caller.new.pass).seen }

@@ -12,7 +12,6 @@ ghost use Rattle.log_sections.specs.LogSections.{IsTruncationOf};
 ghost use Rattle.xact_freezes.specs.Trims.{HasFlushed, IsTrimMet, MayTrim};
 ghost use Rattle.xact_freezes.specs.Visits.{Visited};
 
-use bank_sections::stall;
 use disk_core::{LogDisk, PageDisk};
 use engine_parts::{Caller, EngineLaw, Part, Passing, enter_log, leave_looked};
 use hall::Hall;
@@ -43,8 +42,7 @@ fn read_next<R: Passing, L: LogDisk, P: PageDisk>(
     next
 }
 
-/// Appends the record of a truncation, and puts all that the log has on disk. Waits for ever where the log's counters
-/// would be no base behind it.
+/// Appends the record of a truncation, which the log can take, and puts all that the log has on disk.
 pub(crate) fn log_trim<R: Passing, L: LogDisk, P: PageDisk>(
     rt: &R,
     hall: &Hall<EngineLaw<L, P>>,
@@ -66,10 +64,7 @@ pub(crate) fn log_trim<R: Passing, L: LogDisk, P: PageDisk>(
                 let next = read_next(rt, hall, caller);
                 flush_log(rt, hall, caller, next - 1)
             }
-            Appended::NoBase => {
-                stall(rt);
-                unreachable!()
-            }
+            Appended::NoBase => unreachable!(),
         },
         Err(refusal) => Err(refusal),
     }

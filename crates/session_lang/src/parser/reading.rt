@@ -149,11 +149,11 @@ impl Reading {
     }
 
     /// Adds a command of a session that has one.
-    fn add_old(&mut self, session: usize, name: &[u8], command: Command) -> Result<(), Stop>
+    fn add_old(&mut self, session: usize, name: &[u8], command: &Command) -> Result<(), Stop>
         requires so_far { HasRead self.old.front.names self.old.commands.items self.old.front.items }
         requires known { session < length self.old.front.names }
-        requires ranges { IsInRange command }
-        ensures adds { Gives (λ _. self.new.front) result (with_turn self.old.front session name.now command) }
+        requires ranges { IsInRange command.now }
+        ensures adds { Gives (λ _. self.new.front) result (with_turn self.old.front session name.now command.now) }
         ensures few { OnOk result (length self.new.front.items ≡ length self.old.front.items + 1) }
         ensures so_far { OnOk result (HasRead self.new.front.names self.new.commands.items self.new.front.items) }
     {
@@ -169,13 +169,13 @@ impl Reading {
     }
 
     /// Adds the first command of a session.
-    fn add_new(&mut self, name: &[u8], command: Command) -> Result<(), Stop>
+    fn add_new(&mut self, name: &[u8], command: &Command) -> Result<(), Stop>
         requires so_far { HasRead self.old.front.names self.old.commands.items self.old.front.items }
         requires named { is_name name.now ≡ true }
         requires short { length name.now ≤ 16 }
         requires fresh { IsNew self.old.front.names name.now }
-        requires ranges { IsInRange command }
-        ensures adds { Gives (λ _. self.new.front) result (with_turn self.old.front (length self.old.front.names) name.now command) }
+        requires ranges { IsInRange command.now }
+        ensures adds { Gives (λ _. self.new.front) result (with_turn self.old.front (length self.old.front.names) name.now command.now) }
         ensures few { OnOk result (length self.new.front.items ≡ length self.old.front.items + 1) }
         ensures so_far { OnOk result (HasRead self.new.front.names self.new.commands.items self.new.front.items) }
     {
@@ -196,12 +196,12 @@ impl Reading {
     }
 
     /// Adds a command. Sessions are numbered in the order in which their names first come.
-    fn add(&mut self, name: &[u8], command: Command) -> Result<(), Stop>
+    fn add(&mut self, name: &[u8], command: &Command) -> Result<(), Stop>
         requires so_far { HasRead self.old.front.names self.old.commands.items self.old.front.items }
         requires named { is_name name.now ≡ true }
         requires short { length name.now ≤ 16 }
-        requires ranges { IsInRange command }
-        ensures adds { Gives (λ _. self.new.front) result (with_turn self.old.front (place_of self.old.front.names name.now) name.now command) }
+        requires ranges { IsInRange command.now }
+        ensures adds { Gives (λ _. self.new.front) result (with_turn self.old.front (place_of self.old.front.names name.now) name.now command.now) }
         ensures few { OnOk result (length self.new.front.items ≡ length self.old.front.items + 1) }
         ensures so_far { OnOk result (HasRead self.new.front.names self.new.commands.items self.new.front.items) }
     {
@@ -237,7 +237,7 @@ impl Reading {
             return Err(Stop::Fault(Kind::Session));
         }
         let command = command_at(alloc, rest)?;
-        self.add(name, command)
+        self.add(name, &command)
     }
 
     /// Adds the words of a line that isn't of the header.

@@ -1,52 +1,46 @@
-use Rattle.engine_parts.specs.Parts.{IsLogOf}
-use Rattle.std.proofs.Common.{Err, IsTrue, ◌≡◌, arith, ap, ◌∙◌, subst, sym, refl, ◌++◌, ◌∷◌, [], Some}
-use Rattle.std.proofs.lemmas.Bool.{false≢true}
+use Rattle.std.proofs.Common.{Err, ◌≡◌, arith, ap, ◌∙◌, subst, sym, refl, ◌++◌, ◌∷◌, [], Some}
 use Rattle.hall.specs.Calls.{view, start_of}
 use Rattle.notes.specs.Lists.{at}
 use Rattle.tx_events.specs.declared.event.By.{By}
-use Rattle.tx_events.specs.declared.record.Rec.{Rec}
 use Rattle.tx_events.specs.After.{after_record}
 use Rattle.tx_core.specs.declared.entry.Entry.{Entry}
 use Rattle.tx_core.specs.declared.entry.Kind.TheVariants as kinds
 use Rattle.tx_core.specs.Entries.{flushed_in}
 use Rattle.tx_core.specs.Locks.{log_lock}
 use Rattle.wal_core.specs.Log.{counters_or_none}
-use Rattle.wal_core.specs.Opening.{number_fits}
 use Rattle.wal_core.specs.LogViews.{log_checkpoint, log_counters, log_disk, log_down, log_first, log_flushed, log_next, log_recs}
 use Rattle.engine_parts.specs.declared.session.Session.{Session}
 use Rattle.engine_parts.specs.Parts.{IsLogOf}
 use Rattle.engine_parts.specs.Faults.{look_of}
 use Rattle.engine_parts.specs.Sessions.{by_at, inner_id, look_by}
 use Rattle.engine_parts.proofs.Leaving.{call_left}
-use Rattle.engine_parts.proofs.Logging.{appends, begins_untouched, failed_more, first_same, goes_on, log_looks, unflushed, up_more}
+use Rattle.engine_parts.proofs.Logging.{appends, begins_untouched, failed_more, first_same, goes_on, unflushed, up_more}
 use Rattle.engine_parts.proofs.Sectioning.{same_command, section_of}
 use Rattle.engine_parts.proofs.Stepping.{went_quiet}
-use Rattle.log_sections.proofs.Sections.{append_refused, base_of_log, down_left, log_refused, may_follow, not_down, same_err, up_left}
+use Rattle.log_sections.proofs.Sections.{append_refused, base_of_log, down_left, log_refused, not_down, same_err, up_left}
 use Rattle.tx_core.specs.FaultsRise.{count_in, faults_at, faults_told}
 use Rattle.tx_core.proofs.LastNumbers.{number_same}
-use Rattle.log_sections.proofs.Truncated.{truncation_later}
+use Rattle.log_sections.proofs.Truncated.{truncation_follows, truncation_later}
 use Rattle.log_sections.proofs.truncating.append_truncation.Goals as goal
 
--- nothing was appended: the log isn't one that may take the record
-pub leave_looked-requires-clause-stands : goal.leave_looked-requires-clause-stands
-leave_looked-requires-clause-stands g c =
+-- the log can take it
+pub append-requires : goal.append-requires
+append-requires g c =
+    let start = start_of c.args.hall.now in
     let u = c.enter_log-held.new.caller in
-    (refl, log_looks (start_of c.args.hall.now) c.deref_mut-log.result.now (at (view u.pass).seen log_lock) (by_at u.number u.session.levels.commands) (subst (λ l. IsLogOf (start_of c.args.hall.now) l (at (view c.enter_log-held.new.caller.pass).seen log_lock)) (sym c.deref_mut-log.ensures.value) c.enter_log-held.ensures.stands))
-
-pub returns-then-not-may_append-clause-may : goal.returns-then-not-may_append-clause-may
-returns-then-not-may_append-clause-may g c =
     let e = c.enter_log-held.ensures in
-    let r = c.leave_looked.ensures in
-    let wide = c.requires.may.ready.at.wide in
-    let same = r.same.0 ∙ e.same.0 in
-    call_left (start_of c.args.hall.now) (view c.args.caller.now.pass) (view c.enter_log-held.new.caller.pass) (view c.leave_looked.new.caller.pass) c.args.caller.now.number c.leave_looked.new.caller.number log_lock c.args.caller.now.session c.leave_looked.new.caller.session _
-    c.requires.may e.entered.learns (omega arith) r.left refl (ap (λ (z : Session). inner_id z) same) (ap (λ (z : Session). z.levels.open_ids.items) same) (ap (λ (z : Session). z.stage) same) (r.same.1 ∙ e.same.1) r.ready
+    truncation_follows start c.deref_mut-log.result.now (view u.pass).seen c.args.rec.now e.entered.kept c.requires.may.ready.at.base (subst (λ l. IsLogOf start l (at (view u.pass).seen log_lock)) (sym c.deref_mut-log.ensures.value) e.stands)
+    (truncation_later start (view c.args.caller.now.pass).seen (view u.pass).seen c.args.rec.now e.entered.learns.knows.grows c.requires.record) c.tell_forms.ensures
 
-pub returns-then-not-may_append-clause-went : goal.returns-then-not-may_append-clause-went
-returns-then-not-may_append-clause-went g c =
+pub leave_truncated-requires-clause-base : goal.leave_truncated-requires-clause-base
+leave_truncated-requires-clause-base g c =
+    let start = start_of c.args.hall.now in
+    let u = c.enter_log-held.new.caller in
     let e = c.enter_log-held.ensures in
-    let wide = c.requires.may.ready.at.wide in
-    went_quiet (start_of c.args.hall.now) (view c.args.caller.now.pass) (view c.enter_log-held.new.caller.pass) (view c.leave_looked.new.caller.pass) c.args.caller.now.number log_lock c.args.caller.now.session _ c.requires.may.ready.at e.entered.kept e.entered.learns (omega arith) refl refl refl c.leave_looked.ensures.left
+    let stands = subst (λ l. IsLogOf start l (at (view u.pass).seen log_lock)) (sym c.deref_mut-log.ensures.value) e.stands in
+    base_of_log start c.deref_mut-log.result.now (at (view u.pass).seen log_lock) c.args.rec.now stands
+    (truncation_follows start c.deref_mut-log.result.now (view u.pass).seen c.args.rec.now e.entered.kept c.requires.may.ready.at.base stands
+    (truncation_later start (view c.args.caller.now.pass).seen (view u.pass).seen c.args.rec.now e.entered.learns.knows.grows c.requires.record) c.tell_forms.ensures).base
 
 -- the record is appended
 pub returns-in-Ok-clause-may : goal.returns-in-Ok-clause-may
@@ -64,11 +58,6 @@ returns-in-Ok-clause-went g c =
     let wide = c.requires.may.ready.at.wide in
     went_quiet (start_of c.args.hall.now) (view c.args.caller.now.pass) (view c.enter_log-held.new.caller.pass) (view c.leave_truncated.new.caller.pass) c.args.caller.now.number log_lock c.args.caller.now.session _ c.requires.may.ready.at e.entered.kept e.entered.learns (omega arith) refl refl refl c.leave_truncated.ensures.left
 
-pub leave_truncated-requires-clause-base : goal.leave_truncated-requires-clause-base
-leave_truncated-requires-clause-base g c =
-    let e = c.enter_log-held.ensures in
-    base_of_log (start_of c.args.hall.now) c.deref_mut-log.result.now (at (view c.enter_log-held.new.caller.pass).seen log_lock) c.args.rec.now (subst (λ l. IsLogOf (start_of c.args.hall.now) l (at (view c.enter_log-held.new.caller.pass).seen log_lock)) (sym c.deref_mut-log.ensures.value) c.enter_log-held.ensures.stands) (c.may_append.ensures.0 c.if-not-may_append.false).base
-
 pub leave_truncated-requires-clause-stands : goal.leave_truncated-requires-clause-stands
 leave_truncated-requires-clause-stands g c =
     let d = g.L.LogDisk in
@@ -80,8 +69,8 @@ leave_truncated-requires-clause-stands g c =
     appends (start_of c.args.hall.now) d.tells (d.faults (log_disk o)) (d.faults (log_disk n)) (d.images (log_disk o)) (d.images (log_disk n)) (log_recs o) (log_recs n) (log_next o) (log_next n) (log_first o) (log_first n) (log_flushed o) (log_flushed n) (log_counters o) (log_counters n) (log_down o) (log_down n) (log_checkpoint o) (log_checkpoint n) (at (view u.pass).seen log_lock) (by_at u.number u.session.levels.commands) s c.args.rec.now
     a.recs a.next a.flushed (a.counters ∙ ap (λ (l : _). Some (after_record (counters_or_none l) c.args.rec.now)) s.counters_are) a.stays (ap d.faults a.disk) a.first a.keeps (begins_untouched o n a.disk a.first)
 
-pub leave_looked-requires-in-Err-clause-stands : goal.leave_looked-requires-in-Err-clause-stands
-leave_looked-requires-in-Err-clause-stands g c =
+pub leave_looked-requires-clause-stands : goal.leave_looked-requires-clause-stands
+leave_looked-requires-clause-stands g c =
     let start = start_of c.args.hall.now in
     let d = g.L.LogDisk in
     let u = c.enter_log-held.new.caller in
@@ -106,49 +95,32 @@ refusal_of-requires g c place is = c.in-Err.ensures.no_other.1 place (ap Err is)
 pub returns-in-Err-clause-may : goal.returns-in-Err-clause-may
 returns-in-Err-clause-may g c =
     let e = c.enter_log-held.ensures in
-    let r = c.leave_looked-in-Err.ensures in
+    let r = c.leave_looked.ensures in
     let wide = c.requires.may.ready.at.wide in
     let same = r.same.0 ∙ e.same.0 in
-    call_left (start_of c.args.hall.now) (view c.args.caller.now.pass) (view c.enter_log-held.new.caller.pass) (view c.leave_looked-in-Err.new.caller.pass) c.args.caller.now.number c.leave_looked-in-Err.new.caller.number log_lock c.args.caller.now.session c.leave_looked-in-Err.new.caller.session _
+    call_left (start_of c.args.hall.now) (view c.args.caller.now.pass) (view c.enter_log-held.new.caller.pass) (view c.leave_looked.new.caller.pass) c.args.caller.now.number c.leave_looked.new.caller.number log_lock c.args.caller.now.session c.leave_looked.new.caller.session _
     c.requires.may e.entered.learns (omega arith) r.left refl (ap (λ (z : Session). inner_id z) same) (ap (λ (z : Session). z.levels.open_ids.items) same) (ap (λ (z : Session). z.stage) same) (r.same.1 ∙ e.same.1) r.ready
 
 pub returns-in-Err-clause-went : goal.returns-in-Err-clause-went
 returns-in-Err-clause-went g c =
     let e = c.enter_log-held.ensures in
     let wide = c.requires.may.ready.at.wide in
-    went_quiet (start_of c.args.hall.now) (view c.args.caller.now.pass) (view c.enter_log-held.new.caller.pass) (view c.leave_looked-in-Err.new.caller.pass) c.args.caller.now.number log_lock c.args.caller.now.session _ c.requires.may.ready.at e.entered.kept e.entered.learns (omega arith) refl refl refl c.leave_looked-in-Err.ensures.left
+    went_quiet (start_of c.args.hall.now) (view c.args.caller.now.pass) (view c.enter_log-held.new.caller.pass) (view c.leave_looked.new.caller.pass) c.args.caller.now.number log_lock c.args.caller.now.session _ c.requires.may.ready.at e.entered.kept e.entered.learns (omega arith) refl refl refl c.leave_looked.ensures.left
 
 -- what came of the record
-pub returns-then-not-may_append-clause-takes : goal.returns-then-not-may_append-clause-takes
-returns-then-not-may_append-clause-takes g c =
-    let e = c.enter_log-held.ensures in
-    let wide = c.requires.may.ready.at.wide in
-    let long = e.entered.learns.long in
-    let log = c.deref_mut-log.result.now in
-    λ lawful base. false≢true (sym c.if-not-may_append.true ∙ c.may_append.ensures.1 (may_follow (start_of c.args.hall.now) log (view c.enter_log-held.new.caller.pass) (view c.leave_looked.new.caller.pass) c.args.rec.now _ (subst (λ l. IsLogOf (start_of c.args.hall.now) l (at (view c.enter_log-held.new.caller.pass).seen log_lock)) (sym c.deref_mut-log.ensures.value) c.enter_log-held.ensures.stands)
-    (subst (λ (z : Rec). IsTrue (number_fits (log_next log) z)) (sym c.requires.record.is) refl) (omega arith) refl c.leave_looked.ensures.left lawful base))
-
 pub returns-in-Err-clause-takes : goal.returns-in-Err-clause-takes
 returns-in-Err-clause-takes g c =
     let e = c.enter_log-held.ensures in
     let wide = c.requires.may.ready.at.wide in
     let long = e.entered.learns.long in
     let start = start_of c.args.hall.now in
-    append_refused start (view c.leave_looked-in-Err.new.caller.pass).seen c.in-Err.refusal c.refusal_of.result c.refusal_of.ensures
+    append_refused start (view c.leave_looked.new.caller.pass).seen c.in-Err.refusal c.refusal_of.result c.refusal_of.ensures
     (λ is. c.in-Err.ensures.no_other.0 (ap Err is))
-    (λ down is. down_left start (view c.enter_log-held.new.caller.pass) (view c.leave_looked-in-Err.new.caller.pass) _ down (omega arith) c.leave_looked-in-Err.ensures.left ((subst (λ l. IsLogOf (start_of c.args.hall.now) l (at (view c.enter_log-held.new.caller.pass).seen log_lock)) (sym c.deref_mut-log.ensures.value) c.enter_log-held.ensures.stands).failed down (c.in-Err.ensures.down down (ap Err is))).0)
-    (λ why. up_left start (view c.enter_log-held.new.caller.pass) (view c.leave_looked-in-Err.new.caller.pass) _ (omega arith) c.leave_looked-in-Err.ensures.left refl
+    (λ down is. down_left start (view c.enter_log-held.new.caller.pass) (view c.leave_looked.new.caller.pass) _ down (omega arith) c.leave_looked.ensures.left ((subst (λ l. IsLogOf (start_of c.args.hall.now) l (at (view c.enter_log-held.new.caller.pass).seen log_lock)) (sym c.deref_mut-log.ensures.value) c.enter_log-held.ensures.stands).failed down (c.in-Err.ensures.down down (ap Err is))).0)
+    (λ why. up_left start (view c.enter_log-held.new.caller.pass) (view c.leave_looked.new.caller.pass) _ (omega arith) c.leave_looked.ensures.left refl
     ((subst (λ l. IsLogOf (start_of c.args.hall.now) l (at (view c.enter_log-held.new.caller.pass).seen log_lock)) (sym c.deref_mut-log.ensures.value) c.enter_log-held.ensures.stands).up (not_down (log_down c.deref_mut-log.result.now) (λ n is. log_refused c.in-Err.refusal n (same_err (c.in-Err.ensures.is_down n is)) why))))
 
 -- the critical section
-pub returns-then-not-may_append-clause-section : goal.returns-then-not-may_append-clause-section
-returns-then-not-may_append-clause-section g c =
-    let e = c.enter_log-held.ensures in
-    let t = c.enter_log-held.new.caller in
-    let s = c.args.caller.now.session in
-    let n = c.args.caller.now.number in
-    section_of (start_of c.args.hall.now) (view c.args.caller.now.pass) (view t.pass) (view c.leave_looked.new.caller.pass) log_lock (look_by t.number t.session) (look_by n s) e.entered (ap look_of (same_command n t.number s t.session e.same.1 e.same.0)) c.leave_looked.ensures.left
-
 pub returns-in-Ok-clause-section : goal.returns-in-Ok-clause-section
 returns-in-Ok-clause-section g c =
     let e = c.enter_log-held.ensures in
@@ -164,7 +136,7 @@ returns-in-Err-clause-section g c =
     let t = c.enter_log-held.new.caller in
     let s = c.args.caller.now.session in
     let n = c.args.caller.now.number in
-    section_of (start_of c.args.hall.now) (view c.args.caller.now.pass) (view t.pass) (view c.leave_looked-in-Err.new.caller.pass) log_lock (look_by t.number t.session) (look_by n s) e.entered (ap look_of (same_command n t.number s t.session e.same.1 e.same.0)) c.leave_looked-in-Err.ensures.left
+    section_of (start_of c.args.hall.now) (view c.args.caller.now.pass) (view t.pass) (view c.leave_looked.new.caller.pass) log_lock (look_by t.number t.session) (look_by n s) e.entered (ap look_of (same_command n t.number s t.session e.same.1 e.same.0)) c.leave_looked.ensures.left
 
 pub leave_truncated-requires-clause-up : goal.leave_truncated-requires-clause-up
 leave_truncated-requires-clause-up g c = (subst (λ l. IsLogOf (start_of c.args.hall.now) l (at (view c.enter_log-held.new.caller.pass).seen log_lock)) (sym c.deref_mut-log.ensures.value) c.enter_log-held.ensures.stands).up (not_down (log_down c.deref_mut-log.result.now) (λ n is. let refused = c.in-Ok.ensures.is_down n is in cc))

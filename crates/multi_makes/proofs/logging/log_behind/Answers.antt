@@ -6,6 +6,7 @@ use Rattle.engine_parts.proofs.Adding.{adds_wider}
 use Rattle.engine_parts.proofs.Sectioning.{same_command}
 use Rattle.multi_makes.proofs.Announcing.{append_adds, record_wider, truncation_wider}
 use Rattle.multi_makes.proofs.Going.{both_add, on_then}
+use Rattle.multi_makes.proofs.Landing.{multi_lands}
 use Rattle.multi_makes.proofs.logging.log_behind.Goals as goal
 
 pub returns-in-Ok-At-clause-went : goal.returns-in-Ok-At-clause-went
@@ -54,3 +55,13 @@ pub returns-in-Err-clause-adds : goal.returns-in-Err-clause-adds
 returns-in-Err-clause-adds g c =
     let old = c.args.caller.now in
     adds_wider (by_at old.number old.session.levels.commands) (MayAdd IsTruncation ⊥ (λ r. ⊥)) (MayAdd IsOfMulti ⊥ (λ r. ⊥)) (view old.pass).seen (view c.log_truncation.new.caller.pass).seen truncation_wider c.in-Err.ensures.adds
+
+pub unreachable-requires : goal.unreachable-requires
+unreachable-requires g c =
+    let old = c.args.caller.now in
+    let t = c.log_truncation.new.caller in
+    let w = c.append_multi.new.caller in
+    let e = c.log_truncation.ensures in
+    let a = c.append_multi.ensures in
+    multi_lands (start_of c.args.hall.now) (view old.pass) (view t.pass).seen (view w.pass).seen old.number old.session t.session w.session c.args.rec.now c.in-Ok-NoBase.field-0 c.requires.may.ready.at c.requires.record c.tell_form.ensures a.may.ready.at.kept c.in-Ok.ensures.told e.went.on.grows a.went.on.grows
+    c.in-Ok-NoBase.field-0-is c.in-Ok-NoBase.ensures.takes

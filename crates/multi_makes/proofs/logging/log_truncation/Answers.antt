@@ -1,14 +1,16 @@
-use Rattle.std.proofs.Common.{◌≡◌, [], refl, sym, subst, ◌∙◌}
+use Rattle.std.proofs.Common.{◌≡◌, [], arith, refl, sym, subst, ◌∙◌}
 use Rattle.hall.specs.Calls.{view, start_of}
 use Rattle.tx_events.specs.declared.record.Rec.{Rec}
 use Rattle.tx_events.specs.declared.record.Rec.TheVariants as records
 use Rattle.engine_parts.specs.Adding.{IsPlain, IsTruncation, MayAdd}
 use Rattle.engine_parts.specs.Sessions.{by_at}
 use Rattle.engine_parts.proofs.Adding.{may_wider, plain_wider}
+use Rattle.engine_parts.proofs.Leaving.{grows_then}
 use Rattle.engine_parts.proofs.Sectioning.{same_command}
 use Rattle.engine_parts.proofs.Unmoved.{call_read, look_adds}
 use Rattle.multi_makes.proofs.Announcing.{append_adds, multi_look_adds, truncation_found}
 use Rattle.multi_makes.proofs.Going.{both_add, call_multi, on_then, same_making, went_on}
+use Rattle.multi_makes.proofs.Landing.{truncation_lands, truncation_tells}
 use Rattle.multi_makes.proofs.logging.log_truncation.Goals as goal
 
 pub append_truncation-requires-clause-may : goal.append_truncation-requires-clause-may
@@ -91,3 +93,22 @@ returns-clause-adds g c =
     (look_adds start (view old.pass) (view u.pass) old.number old.session IsPlain c.requires.may.ready.at tt e.section)
     (multi_look_adds start (view u.pass) (view t.pass) u.number u.session e.ready.at f.section))
     (append_adds start (view t.pass) (view w.pass) by' t.session rec c.append_truncation.result f.ready.at c.append_truncation.ensures.section)
+
+pub unreachable-requires : goal.unreachable-requires
+unreachable-requires g c =
+    let t = c.read_multis-multis.new.caller in
+    let rec : Rec = records.Truncate c.read_oldest-oldest.result c.read_multis-multis.result.oldest_multi c.read_multis-multis.result.oldest_offset in
+    truncation_lands (start_of c.args.hall.now) (view c.append_truncation.new.caller.pass).seen rec c.in-Ok-NoBase.field-0 c.in-Ok-NoBase.field-0-is c.in-Ok-NoBase.ensures.takes
+
+pub returns-in-Ok-At-clause-told : goal.returns-in-Ok-At-clause-told
+returns-in-Ok-At-clause-told g c =
+    let start = start_of c.args.hall.now in
+    let old = c.args.caller.now in
+    let u = c.read_oldest-oldest.new.caller in
+    let t = c.read_multis-multis.new.caller in
+    let w = c.append_truncation.new.caller in
+    let e = c.read_oldest-oldest.ensures in
+    let f = c.read_multis-multis.ensures in
+    let wide = f.ready.at.wide in
+    truncation_tells start (view old.pass).seen (view u.pass).seen (view t.pass) (view w.pass) (by_at t.number t.session.levels.commands) c.in-Ok-At.field-0 c.read_oldest-oldest.result c.read_multis-multis.result e.ready.at.base e.ready.at.kept f.ready.at.kept
+    e.went.on.grows (grows_then (view old.pass).seen (view u.pass).seen (view t.pass).seen e.went.on.grows f.went.grows) (omega arith) e.oldest f.counters c.in-Ok-At.ensures.takes c.in-Ok-At.ensures.section

@@ -8,7 +8,7 @@ use Rattle.engine_parts.proofs.Adding.{adds_wider}
 use Rattle.engine_parts.proofs.Sectioning.{same_command}
 use Rattle.log_sections.specs.LogSections.{TakesAbort}
 use Rattle.xact_ends.proofs.Added.{append_adds, both_add}
-use Rattle.xact_ends.proofs.Landing.{abort_lands, abort_some}
+use Rattle.xact_ends.proofs.Landing.{abort_lands}
 use Rattle.xact_ends.proofs.Truncating.{abort_wider, truncation_wider_abort, went_on}
 use Rattle.xact_ends.proofs.logging.log_abort_behind.Goals as goal
 
@@ -59,9 +59,6 @@ returns-in-Err-clause-adds g c =
 
 pub returns-in-Err-clause-takes : goal.returns-in-Err-clause-takes
 returns-in-Err-clause-takes g c = (c.in-Err.ensures.same.0, c.in-Err.ensures.refused)
-
-pub log_truncation-requires-clause-some : goal.log_truncation-requires-clause-some
-log_truncation-requires-clause-some g c = abort_some c.args.caller.now.session.levels.open_ids.items c.args.rec.now c.requires.record
 
 pub returns-in-Ok-clause-numbered : goal.returns-in-Ok-clause-numbered
 returns-in-Ok-clause-numbered g c =

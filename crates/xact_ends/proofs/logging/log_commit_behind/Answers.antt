@@ -7,7 +7,7 @@ use Rattle.engine_parts.proofs.Adding.{adds_wider}
 use Rattle.engine_parts.proofs.Sectioning.{same_command}
 use Rattle.log_sections.specs.LogSections.{Appends}
 use Rattle.xact_ends.proofs.Added.{append_adds, both_add}
-use Rattle.xact_ends.proofs.Landing.{commit_lands, commit_some}
+use Rattle.xact_ends.proofs.Landing.{commit_lands}
 use Rattle.xact_ends.proofs.Truncating.{commit_wider, truncation_wider, went_on}
 use Rattle.xact_ends.proofs.logging.log_commit_behind.Goals as goal
 
@@ -58,9 +58,6 @@ returns-in-Err-clause-adds g c =
 
 pub returns-in-Err-clause-appends : goal.returns-in-Err-clause-appends
 returns-in-Err-clause-appends g c = (c.in-Err.ensures.same.0, c.in-Err.ensures.refused)
-
-pub log_truncation-requires-clause-some : goal.log_truncation-requires-clause-some
-log_truncation-requires-clause-some g c = commit_some c.args.caller.now.session.levels.open_ids.items c.args.rec.now c.requires.record
 
 pub returns-in-Ok-clause-numbered : goal.returns-in-Ok-clause-numbered
 returns-in-Ok-clause-numbered g c =

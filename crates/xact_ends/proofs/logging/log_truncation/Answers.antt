@@ -1,7 +1,6 @@
-use Rattle.std.proofs.Common.{Ok, ◌≡◌, ◌≤◌, arith, length, sym, subst}
+use Rattle.std.proofs.Common.{Ok, ◌≡◌, arith, sym, subst}
 use Rattle.hall.specs.Calls.{view, start_of}
 use Rattle.tx_events.specs.declared.record.Rec.{Rec}
-use Rattle.engine_parts.specs.declared.session.Session.{Session}
 use Rattle.engine_parts.specs.Adding.{IsPlain, IsTruncation, MayAdd}
 use Rattle.engine_parts.specs.Sessions.{by_at}
 use Rattle.engine_parts.proofs.Adding.{may_wider, plain_wider}
@@ -10,7 +9,7 @@ use Rattle.engine_parts.proofs.Unmoved.{call_read, look_adds}
 use Rattle.log_sections.specs.declared.appending.Appended.{Appended}
 use Rattle.log_sections.specs.LogSections.{AppendSection, TakesTruncation}
 use Rattle.xact_ends.proofs.Added.{append_adds, both_add}
-use Rattle.xact_ends.proofs.Landing.{truncation_lands, truncation_tells}
+use Rattle.xact_ends.proofs.Landing.{truncation_tells}
 use Rattle.xact_ends.proofs.Truncating.{is_truncation, truncation_found, went_on}
 use Rattle.xact_ends.proofs.logging.log_truncation.Goals as goal
 
@@ -75,14 +74,8 @@ returns-clause-adds g c =
 
 pub unreachable-requires : goal.unreachable-requires
 unreachable-requires g c =
-    let start = start_of c.args.hall.now in
-    let t = c.read_truncation-rec.new.caller in
     let w = c.append_truncation.new.caller in
-    let e = c.read_truncation-rec.ensures in
-    let rec : Rec = c.read_truncation-rec.result in
-    let some : 1 ≤ length t.session.levels.open_ids.items = subst (λ (z : Session). 1 ≤ length z.levels.open_ids.items) (sym e.same.0) c.requires.some in
-    truncation_lands start (view t.pass) (view w.pass).seen t.number t.session rec e.ready.at some c.append_truncation.ensures.may.ready.at.kept e.record e.forms
-    (subst (λ (z : Appended). TakesTruncation start (view w.pass).seen rec (Ok z)) c.in-NoBase.is c.in-Ok.ensures.takes)
+    subst (λ (z : Appended). TakesTruncation (start_of c.args.hall.now) (view w.pass).seen c.read_truncation-rec.result (Ok z)) c.in-NoBase.is c.in-Ok.ensures.takes
 
 pub returns-in-At-clause-told : goal.returns-in-At-clause-told
 returns-in-At-clause-told g c =

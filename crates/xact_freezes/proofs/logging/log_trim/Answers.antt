@@ -12,6 +12,8 @@ use Rattle.engine_parts.proofs.Leaving.{grows_then}
 use Rattle.tx_core.specs.declared.entry.Kind.{Kind}
 use Rattle.engine_parts.proofs.Sectioning.{shared_adds}
 use Rattle.engine_parts.proofs.Unmoved.{call_read}
+use Rattle.log_sections.specs.declared.appending.Appended.{Appended}
+use Rattle.log_sections.specs.LogSections.{TakesTruncation}
 use Rattle.xact_freezes.specs.Trims.{HasFlushed, IsTrimMet, MayTrim}
 use Rattle.xact_freezes.specs.Visits.{Visited}
 use Rattle.xact_freezes.proofs.Going.{command_kept, visited_now, went_none}
@@ -119,3 +121,7 @@ returns-in-Err-clause-visited g c =
 
 pub returns-in-Err-clause-met : goal.returns-in-Err-clause-met
 returns-in-Err-clause-met g c = append_met (start_of c.args.hall.now) (view c.append_truncation.new.caller.pass).seen (by_at c.args.caller.now.number c.args.caller.now.session.levels.commands) c.in-Err.refusal c.in-Err.ensures.takes
+
+pub unreachable-requires : goal.unreachable-requires
+unreachable-requires g c =
+    subst (λ (z : Appended). TakesTruncation (start_of c.args.hall.now) (view c.append_truncation.new.caller.pass).seen c.args.rec.now (Ok z)) c.in-NoBase.is c.in-Ok.ensures.takes

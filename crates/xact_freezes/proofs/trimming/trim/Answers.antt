@@ -12,6 +12,7 @@ use Rattle.tx_core.specs.Entries.{history}
 use Rattle.tx_core.specs.MultiEntries.{multi_history}
 use Rattle.tx_core.specs.RecordsFollow.{IsMultiAnnounced}
 use Rattle.tx_core.proofs.Posting.{oldest_rises}
+use Rattle.log_takes.proofs.Announced.{multis_rise}
 use Rattle.engine_parts.specs.Calls.{next_command}
 use Rattle.engine_parts.specs.Sessions.{by_at}
 use Rattle.engine_parts.proofs.Calling.{step_counted}
@@ -20,7 +21,7 @@ use Rattle.xact_freezes.specs.Trims.{AreCut, HasFlushed, HasTrimmed, IsTrimMet}
 use Rattle.xact_freezes.proofs.Going.{command_kept}
 use Rattle.xact_freezes.proofs.Letting.{xmin_later}
 use Rattle.xact_freezes.proofs.Looks.{trim_looks}
-use Rattle.xact_freezes.proofs.Rising.{multis_rise, xmin_since}
+use Rattle.xact_freezes.proofs.Rising.{xmin_since}
 use Rattle.xact_freezes.proofs.Starting.{announced_now}
 use Rattle.xact_freezes.proofs.TrimSteps.{has_flushed_later, horizon_from, is_truncated, look_then, ok_maps, trim_ran, trim_record, trim_then, xmin_now}
 use Rattle.xact_freezes.proofs.trimming.trim.Goals as goal

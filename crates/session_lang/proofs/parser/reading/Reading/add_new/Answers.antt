@@ -9,4 +9,4 @@ returns-in-Ok-push_command-clause-so_far c =
     let n = c.items-session.ensures in let m = c.of.ensures in
     let room = c.if-session-ge-MAX_SESSIONS.false in
     let size = ap length n in
-    rw (a, m, b, e, n) (has_read_new s.front.names s.commands.items s.front.items c.args.name.now c.args.command h c.requires.fresh c.requires.named (omega arith))
+    rw (a, m, b, e, n) (has_read_new s.front.names s.commands.items s.front.items c.args.name.now c.args.command.now h c.requires.fresh c.requires.named (omega arith))

@@ -90,9 +90,9 @@ fn walk_line(
         return Ok(false);
     }
     pass_line(alloc, report, known, number, line, &mut passed.sessions)?;
-    let lines = plus(number, 1)?;
+    let next = plus(number, 1)?;
     let trims = trims_with(passed.trims, line)?;
-    passed.lines = lines;
+    passed.lines = next;
     passed.trims = trims;
     Ok(true)
 }

@@ -59,5 +59,5 @@ returns-clause-passed g c = λ l at t.
     let p = r.1.1.1.1.1.1.0 in
     let there : slice_get (lines_at g.at) g.at.place ≡ Some c.index-lines-place.result = line_there (lines_at g.at) c.args.lines.now c.args.place g.at.place c.index-lines-place.result r.1.1.1.1.0 r.1.1.1.1.1.1.1.0 r.1.1.1.1.1.1.1.1 c.index-lines-place.is in
     let same : c.index-lines-place.result ≡ l = same_line (lines_at g.at) g.at.place c.index-lines-place.result l there at in
-    subst (λ (x : Line). IsPassed g.at.j (before_at g.at ++ x ∷ []) (record { sessions = c.pass_line.new.sessions; told = c.is_lawful_command.new.told; lines = c.in_ok-lines.lines; trims = c.in_ok-trims.trims })) same
-    (passed_more g.at c.index-lines-place.result c.args.passed.now (record { sessions = c.pass_line.new.sessions; told = c.is_lawful_command.new.told; lines = c.in_ok-lines.lines; trims = c.in_ok-trims.trims }) c.args.passed.now.lines p refl c.in_ok-pass_line.ensures c.in_ok-lawful.ensures.told c.in_ok-lines.ensures c.in_ok-trims.ensures)
+    subst (λ (x : Line). IsPassed g.at.j (before_at g.at ++ x ∷ []) (record { sessions = c.pass_line.new.sessions; told = c.is_lawful_command.new.told; lines = c.in_ok-next.next; trims = c.in_ok-trims.trims })) same
+    (passed_more g.at c.index-lines-place.result c.args.passed.now (record { sessions = c.pass_line.new.sessions; told = c.is_lawful_command.new.told; lines = c.in_ok-next.next; trims = c.in_ok-trims.trims }) c.args.passed.now.lines p refl c.in_ok-pass_line.ensures c.in_ok-lawful.ensures.told c.in_ok-next.ensures c.in_ok-trims.ensures)

@@ -1,7 +1,6 @@
 -- What the replies of a life's lines tell of its events, line by line.
-use Rattle.std.specs.Prelude.{◌≡◌, ℕ, ◌<◌, List, Option, Some, length, map, take, slice_get, MatchOption}
-use Rattle.std.specs.Global.{Vec}
-use Rattle.std.specs.List.{HoldsAt}
+use Rattle.std.specs.Prelude.{◌≡◌, ◌↔◌, ℕ, ◌+◌, ◌<◌, Bool, false, nat_lt, List, Some, IsTrue, length, get_or, map, take, slice_get}
+use Rattle.std.specs.List.{count_by}
 use Rattle.tx_events.specs.declared.event.By.{By}
 use Rattle.tx_events.specs.declared.event.Event.{Event}
 use Rattle.tx_events.specs.declared.multi.MultiEvent.{MultiEvent}
@@ -12,26 +11,28 @@ use Rattle.tx_model.specs.Rounds.{lines_in}
 use Rattle.report_law.specs.Events.{IsCommitLogged, StandsAt, lines_before, rounds_before}
 use Rattle.report_law.specs.Places.{IsNotLate, multis_of}
 use Rattle.report_law.specs.Steps.{HasFirst, HasFirstMultis, Judged}
-use Rattle.event_rules.specs.Lined.{number_at}
+use Rattle.event_rules.specs.Lined.{events_in, number_at}
 
--- the longest of the lists that pass, of which each other one is a front
-pub record IsLongest {X : Type 0} (Has : List X → Type 0) (es : List X) : Type 0 where
-  pub has : Has es
-  pub longest : (others : List X) → Has others → others ≡ take (length others) es
+-- the event at this place, whose command stands there, is told by the command's reply in its turn
+abbrev pub IsToldEvent : (j : Judged) → ℕ → (e : Event) → StandsAt j (by_of e) → Type 0
+IsToldEvent j p e s =
+    (es : List Event) × HasFirst j (lines_before j (by_of e) s) s.line es × (slice_get es (length (events_of (by_of e) (take p j.life.events))) ≡ Some e)
 
--- it, or none where no list passes
-abbrev pub IsTold : {X : Type 0} → (List X → Type 0) → Option (Vec X) → Type 0
-IsTold {X} Has o = MatchOption o ((es : List X) → Has es → ⊥) (λ v. IsLongest Has v.items)
+-- how many events are of the first lines
+abbrev pub count_before : Judged → ℕ → ℕ
+count_before j lines = count_by (λ k. nat_lt k lines) (events_in j).numbers
 
--- this event is told in its turn, of the line of this number
-pub record IsToldIn {X : Type 0} (told : List (Option (Vec X))) (number rank : ℕ) (e : X) : Type 0 where
-  pub list : Vec X
-  pub stands : slice_get told number ≡ Some (Some list)
-  pub its : slice_get list.items rank ≡ Some e
+-- of each event of the first lines, line by line, whether its line's reply tells it in its turn
+pub record AreToldEvents (j : Judged) (lines : ℕ) (told : List Bool) : Type 0 where
+  pub size : length told ≡ count_before j lines
+  pub each : (by : By) (s : StandsAt j by) → number_at j by s < lines → (rank : ℕ) (e : Event) → slice_get (events_of by j.life.events) rank ≡ Some e
+      → IsTrue (get_or told (count_before j (number_at j by s) + rank) false) ↔ ((es : List Event) × HasFirst j (lines_before j by s) s.line es × (slice_get es rank ≡ Some e))
 
--- the events that the replies of the first lines tell, of each line those with which its command's events begin
-abbrev pub AreToldEvents : Judged → List (Option (Vec Event)) → Type 0
-AreToldEvents j told = (by : By) (s : StandsAt j by) → number_at j by s < length told → HoldsAt (IsTold (HasFirst j (lines_before j by s) s.line)) told (number_at j by s)
+-- whether each of these events is told in its turn stands behind what was there
+pub record AreMarked (old new : List Bool) (own told : List Event) : Type 0 where
+  pub size : length new ≡ length old + length own
+  pub front : (k : ℕ) → k < length old → get_or new k false ≡ get_or old k false
+  pub each : (rank : ℕ) (e : Event) → slice_get own rank ≡ Some e → IsTrue (get_or new (length old + rank) false) ↔ (slice_get told rank ≡ Some e)
 
 -- the multixact event at this place, whose command stands there, is told by the command's reply in its turn
 abbrev pub IsToldMulti : (j : Judged) → ℕ → (e : MultiEvent) → StandsAt j (multi_by e) → Type 0
@@ -43,8 +44,7 @@ IsToldMulti j p e s =
 pub record IsItsEvent (j : Judged) (p : ℕ) (e : Event) : Type 0 where
   pub command : StandsAt j (by_of e)
   pub in_time : IsNotLate j.steps (map by_of (take p j.life.events)) (by_of e)
-  pub told : (es : List Event) × HasFirst j (lines_before j (by_of e) command) command.line es
-      × (slice_get es (length (events_of (by_of e) (take p j.life.events))) ≡ Some e)
+  pub told : IsToldEvent j p e command
   pub logged : IsCommitLogged j e
 
 pub record IsItsMulti (j : Judged) (p : ℕ) (e : MultiEvent) : Type 0 where

@@ -5,7 +5,6 @@ ghost use Rattle.place_columns.specs.Lined.{lines_from, numbered};
 ghost use Rattle.report_law.specs.Events.{StandsAt};
 ghost use Rattle.report_law.specs.Places.{IsNotLate};
 ghost use Rattle.report_law.specs.Steps.{Judged};
-ghost use Rattle.event_rules.specs.Told.{IsToldIn};
 
 use crate::same::Same;
 use place_columns::{LineTable, OwnEvents, Owned};
@@ -39,24 +38,11 @@ pub fn is_in_time<E: Owned>(
 }
 
 /// Whether this event stands there among those that are told.
-fn is_told_by<E: Same>(list: &[E], rank: u64, event: &E) -> bool
+pub fn is_told_by<E: Same>(list: &[E], rank: u64, event: &E) -> bool
     ensures { IsTrue result ↔ (slice_get list.now rank ≡ Some event.now) }
 {
     match list.get(rank as usize) {
         Some(e) => e.is_same(event),
-        None => false,
-    }
-}
-
-/// Whether this event is the one that is told in this turn, of the line of this number.
-pub fn is_told_in<E: Same>(told: &[Option<Vec<E>>], number: u64, rank: u64, event: &E) -> bool
-    ensures { IsTrue result ↔ IsToldIn told.now number rank event.now }
-{
-    match told.get(number as usize) {
-        Some(line) => match line {
-            Some(list) => is_told_by(list.as_slice(), rank, event),
-            None => false,
-        },
         None => false,
     }
 }

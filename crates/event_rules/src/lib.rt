@@ -11,7 +11,7 @@ mod multi_fronts;
 mod multis;
 mod same;
 
-pub use events::is_its_event;
+pub use events::{is_its_event, mark_told};
 pub use front::{HistoryFront, history_front, is_legal_to, may_come_at};
 pub use judged::{are_multis_theirs, are_theirs, count_of_events, count_of_multis};
 pub use multi_fronts::{are_legal_to, multi_front, multi_may_come_at};

@@ -20,6 +20,7 @@ use crate::own::{events_at, ids_at, multis_at};
 use crate::replies::is_lawful_reply;
 use crate::rounds::RoundAt;
 use command_events::{has_first_multis, told_events};
+use event_rules::mark_told;
 use line_stances::top_of;
 use reply_rules::is_logged;
 use standing_rules::{
@@ -163,32 +164,36 @@ fn multi_places_of<'a>(known: &'a Known, number: u64, line: &Line) -> &'a [u64]
     known.multis.places(number)
 }
 
-/// Adds what the line's reply tells of events, and tells whether its command's events begin with such.
-fn add_told(
+/// Whether its command's events begin with such as its reply tells. Marks each of them that is told in its turn.
+fn mark_events(
     alloc: Global,
     report: &LifeReport,
     known: &Known,
     session: &Session,
     number: u64,
     line: &Line,
-    told: &mut Vec<Option<Vec<Event>>>,
+    told: &mut Vec<bool>,
 ) -> Result<bool, Memory>
     ghost at: { AtLine }
     requires report { IsReportOf at.j report.now }
     requires known { IsKnown at.j known.now }
     requires stands { StandsThere at number line.now }
     requires session { IsBehind (lived_at at) line.now.by.session session.now }
-    requires told { AreToldEvents at.j told.old.items }
-    requires size { length told.old.items ≡ number }
+    requires told { AreToldEvents at.j number told.old.items }
     ensures has { IfOk result (λ b. IsTrue b ↔ ((es : List Event) × HasFirst at.j (before_at at) line.now es)) }
-    ensures told { OnOk result (AreToldEvents at.j told.new.items) }
-    ensures size { OnOk result (length told.new.items ≡ number + 1) }
+    ensures told { OnOk result (AreToldEvents at.j (number + 1) told.new.items) }
 {
     let own = its_events(alloc, report, known, number, line)?;
-    let events = told_events(alloc, &session.standing, line, own.as_slice())?;
-    let has = events.is_some();
-    told.push(events)?;
-    Ok(has)
+    match told_events(alloc, &session.standing, line, own.as_slice())? {
+        Some(events) => {
+            mark_told(told, own.as_slice(), events.as_slice())?;
+            Ok(true)
+        }
+        None => {
+            mark_told(told, own.as_slice(), &[])?;
+            Ok(false)
+        }
+    }
 }
 
 /// Whether its command's multixact events begin with such as its reply tells.
@@ -219,8 +224,8 @@ fn has_its_multis(
     ))
 }
 
-/// Whether the command's line is lawful: of this number in its life, behind so many trims that were answered `ok`. Adds
-/// what its reply tells of events to what those of the lines before do.
+/// Whether the command's line is lawful: of this number in its life, behind so many trims that were answered `ok`. Marks
+/// which of its events its reply tells, behind those of the lines before.
 pub fn is_lawful_command(
     alloc: Global,
     lives: &[LifeReport],
@@ -232,7 +237,7 @@ pub fn is_lawful_command(
     trims: u64,
     number: u64,
     line: &Line,
-    told: &mut Vec<Option<Vec<Event>>>,
+    told: &mut Vec<bool>,
 ) -> Result<bool, Memory>
     ghost at: { AtLine }
     requires report { IsReportOf at.j report.now }
@@ -242,13 +247,11 @@ pub fn is_lawful_command(
     requires stands { StandsThere at number line.now }
     requires session { IsBehind (lived_at at) line.now.by.session session.now }
     requires trims { trims ≡ count_by is_ok_trim (before_at at) }
-    requires told { AreToldEvents at.j told.old.items }
-    requires size { length told.old.items ≡ number }
+    requires told { AreToldEvents at.j number told.old.items }
     ensures lawful { IfOk result (λ b. IsTrue b ↔ IsLawfulCommand at.j (rounds_at at) (lines_at at) (earlier_at at) line.now) }
-    ensures told { OnOk result (AreToldEvents at.j told.new.items) }
-    ensures size { OnOk result (length told.new.items ≡ number + 1) }
+    ensures told { OnOk result (AreToldEvents at.j (number + 1) told.new.items) }
 {
-    let events = add_told(alloc, report, known, session, number, line, told)?;
+    let events = mark_events(alloc, report, known, session, number, line, told)?;
     let multis = has_its_multis(alloc, report, known, round, number, line)?;
     let standing = is_refused_by_standing(line, &session.standing, session.pending);
     let members = is_refused_by_members(line);

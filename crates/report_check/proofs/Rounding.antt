@@ -83,7 +83,7 @@ before_size at l =
     let all : length (before_at at) ≡ length (rounds_at at) + length (take at.place (lines_at at)) = length-append (rounds_at at) (take at.place (lines_at at)) in
     omega arith
 
-pub stands_there : (at : AtLine) (number : ℕ) (l : Line) (p : Passed) → slice_get at.j.steps at.round ≡ Some at.step → slice_get (lines_at at) at.place ≡ Some l → IsPassed at.j (before_at at) p → number ≡ length p.told.items → StandsThere at number l
+pub stands_there : (at : AtLine) (number : ℕ) (l : Line) (p : Passed) → slice_get at.j.steps at.round ≡ Some at.step → slice_get (lines_at at) at.place ≡ Some l → IsPassed at.j (before_at at) p → number ≡ p.lines → StandsThere at number l
 stands_there at number l p told there passed is = record {
   told = told;
   stands = there;
@@ -104,14 +104,18 @@ trims_on lines l =
     let more : trims_with (count_by is_ok_trim lines) l ≡ count_by is_ok_trim lines + cond (is_ok_trim l) 1 0 = cond_more (is_ok_trim l) (count_by is_ok_trim lines) in
     omega arith
 
-pub passed_more : (at : AtLine) (l : Line) (old new : Passed) (number : ℕ) → IsPassed at.j (before_at at) old → number ≡ length old.told.items → AreBehind (with_line (lived_at at) l) 64 new.sessions.items → AreToldEvents at.j new.told.items
-    → length new.told.items ≡ number + 1 → new.trims ≡ trims_with old.trims l → IsPassed at.j (before_at at ++ l ∷ []) new
-passed_more at l old new number p is sessions told size trims = record {
-  sessions = sessions;
-  told = told;
-  size = let was = p.size in let more : length (before_at at ++ l ∷ []) ≡ length (before_at at) + 1 = length-append (before_at at) (l ∷ []) in omega arith;
-  trims = trims ∙ ap (λ k. trims_with k l) p.trims ∙ trims_on (before_at at) l;
-}
+pub passed_more : (at : AtLine) (l : Line) (old new : Passed) (number : ℕ) → IsPassed at.j (before_at at) old → number ≡ old.lines → AreBehind (with_line (lived_at at) l) 64 new.sessions.items → AreToldEvents at.j (number + 1) new.told.items
+    → new.lines ≡ number + 1 → new.trims ≡ trims_with old.trims l → IsPassed at.j (before_at at ++ l ∷ []) new
+passed_more at l old new number p is sessions told lines trims =
+    let was = p.size in
+    let more : length (before_at at ++ l ∷ []) ≡ length (before_at at) + 1 = length-append (before_at at) (l ∷ []) in
+    let size : new.lines ≡ length (before_at at ++ l ∷ []) = omega arith in
+    record {
+      sessions = sessions;
+      told = subst (λ n. AreToldEvents at.j n new.told.items) (sym lines ∙ size) told;
+      size = size;
+      trims = trims ∙ ap (λ k. trims_with k l) p.trims ∙ trims_on (before_at at) l;
+    }
 
 pub behind_slice : (v : Lived) (items slice : List Session) → slice ≡ items → AreBehind v 64 items → AreBehind v (length slice) slice
 behind_slice v items slice is b =

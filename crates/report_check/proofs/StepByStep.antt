@@ -12,6 +12,8 @@ use Rattle.tx_model.specs.declared.report.Step.{Step}
 use Rattle.tx_model.specs.Rounds.{lines_in}
 use Rattle.event_rules.proofs.Fronting.{one_more}
 use Rattle.place_columns.specs.Lined.{line_by}
+use Rattle.place_columns.proofs.CountingLines.{count_none}
+use Rattle.event_rules.specs.Lined.{events_in}
 use Rattle.report_law.specs.ReportLines.{IsLawfulAt, ReportLine, plain, step_lines, steps_lines}
 use Rattle.history_check.specs.Replays.{Replayed}
 use Rattle.checkpoint_rules.specs.declared.counted.Checkpoints.{Checkpoints}
@@ -138,8 +140,11 @@ noted_next j n step s multis events places c told is same a =
     (subst (λ (t : List Step). AreNoted (noting_of j t multis) places c) (ap (λ (x : Step). take n j.steps ++ x ∷ []) is ∙ sym (one_more n j.steps step told)) a)
 
 -- no line has told anything yet
-pub none_told : (j : Judged) → AreToldEvents j []
-none_told j by s l = absurd (omega arith)
+pub none_told : (j : Judged) → AreToldEvents j 0 []
+none_told j = record {
+  size = count_none (events_in j).numbers;
+  each = λ by s l rank e at. absurd (omega arith);
+}
 
 -- the step at this place
 pub step_there : (all : List Step) (p : ℕ) → p < length all → slice_get all p ≡ Some (step_or all p)

@@ -15,8 +15,8 @@ lived_by j lines = record { recs = j.life.recs; events = j.life.events; multis =
 -- what is kept of these lines is so
 pub record IsPassed (j : Judged) (lines : List Line) (p : Passed) : Type 0 where
   pub sessions : AreBehind (lived_by j lines) 64 p.sessions.items
-  pub told : AreToldEvents j p.told.items
-  pub size : length p.told.items ≡ length lines
+  pub told : AreToldEvents j (length lines) p.told.items
+  pub size : p.lines ≡ length lines
   pub trims : p.trims ≡ count_by is_ok_trim lines
 
 abbrev pub trims_with : ℕ → Line → ℕ

@@ -18,22 +18,16 @@ use event_rules::{is_its_event, is_its_multi, may_come_at, multi_may_come_at};
 use place_columns::Owned;
 use reply_lines::Known;
 use std::alloc::Global;
-use tx_events::{Event, Memory, MultiEvent};
+use tx_events::{Memory, MultiEvent};
 use tx_model::LifeReport;
 
-/// Whether the event at this place is lawful, where the history is legal up to it. `told` has what the reply of each line
-/// tells.
-fn is_lawful_event(
-    report: &LifeReport,
-    known: &Known,
-    told: &[Option<Vec<Event>>],
-    place: u64,
-) -> bool
+/// Whether the event at this place is lawful, where the history is legal up to it. `told` says line by line of each
+/// event whether its line's reply tells it.
+fn is_lawful_event(report: &LifeReport, known: &Known, told: &[bool], place: u64) -> bool
     ghost j: { Judged }
     requires report { IsReportOf j report.now }
     requires known { IsKnown j known.now }
-    requires told { AreToldEvents j told.now }
-    requires size { length told.now ≡ length (lines_of j) }
+    requires told { AreToldEvents j (length (lines_of j)) told.now }
     requires within { place < length j.life.events }
     requires legal { IsLegal j.begun.counters (take place j.life.events) }
     ensures { (e : _) → slice_get j.life.events place ≡ Some e → IsTrue result ↔ IsLawfulEvent j place e }
@@ -52,12 +46,11 @@ fn is_lawful_event(
 }
 
 /// The lines of the history, where those of the steps are lawful.
-pub fn walk_events(report: &LifeReport, known: &Known, told: &[Option<Vec<Event>>]) -> Walked
+pub fn walk_events(report: &LifeReport, known: &Known, told: &[bool]) -> Walked
     ghost j: { Judged }
     requires report { IsReportOf j report.now }
     requires known { IsKnown j known.now }
-    requires told { AreToldEvents j told.now }
-    requires size { length told.now ≡ length (lines_of j) }
+    requires told { AreToldEvents j (length (lines_of j)) told.now }
     ensures { IsWalked (placed (event j) 0 j.life.events) result }
 {
     let count = report.life.events.items().len() as u64;

@@ -116,7 +116,7 @@ fn walk_from_multis(
     }
 }
 
-/// The lines of the history, where those of the steps are lawful. What their replies tell is let go then.
+/// The lines of the history, where those of the steps are lawful. What is said of their events is let go then.
 fn walk_told(report: &LifeReport, known: &Known, passed: Passed) -> Result<Walked, Memory>
     ghost j: { Judged }
     requires report { IsReportOf j report.now }

@@ -14,15 +14,16 @@ use reply_lines::{Kept, Known, RoundAt, is_lawful_command, pass_line, round_at};
 use reply_rules::is_ok_trim;
 use standing_rules::Session;
 use std::alloc::Global;
-use tx_events::{Event, Memory};
+use tx_events::Memory;
 use tx_model::{LifeReport, Line};
 
-/// What is kept of the lines of a life so far: how each session stands behind them, what the reply of each tells of events,
-/// and how many are trims that were answered `ok`.
+/// What is kept of the lines of a life so far: how each session stands behind them, of each of their events whether its
+/// line's reply tells it, how many lines there are, and how many are trims that were answered `ok`.
 #[derive(Drop)]
 pub struct Passed {
     pub sessions: Vec<Session>,
-    pub told: Vec<Option<Vec<Event>>>,
+    pub told: Vec<bool>,
+    pub lines: u64,
     pub trims: u64,
 }
 
@@ -71,7 +72,7 @@ fn walk_line(
     ensures passed { IfOk result (λ b. (l : _) → slice_get (lines_at at) at.place ≡ Some l → IsTrue b → IsPassed at.j (before_at at ++ l ∷ []) passed.new) }
 {
     let line = &lines[place];
-    let number = passed.told.len() as u64;
+    let number = passed.lines;
     let lawful = is_lawful_command(
         alloc,
         before,
@@ -89,7 +90,10 @@ fn walk_line(
         return Ok(false);
     }
     pass_line(alloc, report, known, number, line, &mut passed.sessions)?;
-    passed.trims = trims_with(passed.trims, line)?;
+    let next = plus(number, 1)?;
+    let trims = trims_with(passed.trims, line)?;
+    passed.lines = next;
+    passed.trims = trims;
     Ok(true)
 }
 
@@ -113,7 +117,7 @@ pub fn walk_round(
     ensures walked { IfOk result (IsWalked (command_lines of.j (lines_before of) (lines_in of.step) [] (lines_in of.step))) }
     ensures passed { IfOk result (λ w. IfLawful w (IsPassed of.j (lines_before of ++ lines_in of.step) passed.new)) }
 {
-    let start = passed.told.len() as u64;
+    let start = passed.lines;
     let count = lines.len();
     let round = round_at(known, start, plus(start, count as u64)?);
     for place in 0..count {

@@ -73,7 +73,7 @@ fn here_of(known: &Known, passed: &Passed) -> RoundAt
     requires passed { IsPassed of.j (flat_map lines_in (steps_before of)) passed.now }
     ensures { IsRoundAt of.j (flat_map lines_in (steps_before of)) [] known.now result }
 {
-    let count = passed.told.len() as u64;
+    let count = passed.lines;
     round_at(known, count, count)
 }
 
@@ -237,6 +237,7 @@ fn nothing_so_far(alloc: Global, report: &LifeReport) -> Result<SoFar, Memory>
         passed: Passed {
             sessions,
             told: Vec::new(alloc),
+            lines: 0,
             trims: 0,
         },
         checkpoints,

@@ -5,3 +5,6 @@ ghost-stands g a = g.j
 
 abbrev pub ghost-is_commit_logged : goal.ghost-is_commit_logged
 ghost-is_commit_logged g a = g.j
+
+abbrev pub ghost-is_told_at : goal.ghost-is_told_at
+ghost-is_told_at g a = g.j

@@ -1,7 +1,7 @@
 use Rattle.reply_lines.proofs.commands.is_lawful_command.Given as goal
 
-abbrev pub ghost-add_told : goal.ghost-add_told
-ghost-add_told g a = g.at
+abbrev pub ghost-mark_events : goal.ghost-mark_events
+ghost-mark_events g a = g.at
 
 abbrev pub ghost-has_its_multis : goal.ghost-has_its_multis
 ghost-has_its_multis g a = g.at

@@ -8,7 +8,7 @@ use Rattle.report_check.proofs.histories.is_lawful_event.Goals as goal
 pub returns : goal.returns
 returns g c = λ e at.
     let known = c.requires.1.0 in
-    let legal = c.requires.1.1.1.1.1 in
+    let legal = c.requires.1.1.1.1 in
     let items : c.items.result.now ≡ g.j.life.events = c.items.ensures ∙ ap (λ (l : Life). l.events) c.requires.0.life in
     let here : slice_get c.items.result.now c.args.place ≡ Some e = ap (λ (h : List Event). slice_get h c.args.place) items ∙ at in
     let may = (c.may_come_at.ensures g.j.begun.counters g.j.life.events e known.front legal at).0 c.if-not-may_come_at.false in

@@ -12,7 +12,7 @@ is_lawful_event-requires g c =
     let items : c.items.result.now ≡ g.j.life.events = c.items.ensures ∙ ap (λ (l : Life). l.events) r.0.life in
     let size : length c.items.result.now ≡ length g.j.life.events = ap length items in
     let within : c.loop-place.place < length g.j.life.events = let l : c.loop-place.place < length c.items.result.now = c.loop-place-test.true in omega arith in
-    (r.0, (r.1.0, (r.1.1.0, (r.1.1.1, (within, legal_so_far g.j c.loop-place.place c.loop-place.invariant)))))
+    (r.0, (r.1.0, (r.1.1, (within, legal_so_far g.j c.loop-place.place c.loop-place.invariant))))
 
 pub returns-then-not-is_lawful_event : goal.returns-then-not-is_lawful_event
 returns-then-not-is_lawful_event g c =

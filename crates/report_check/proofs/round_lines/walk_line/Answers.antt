@@ -1,7 +1,8 @@
-use Rattle.std.proofs.Common.{◌≡◌, ◌<◌, ◌++◌, ◌∷◌, [], Some, length, ap, subst, sym, arith}
+use Rattle.std.proofs.Common.{◌≡◌, ◌<◌, ◌++◌, ◌∷◌, [], Some, length, ap, refl, subst, sym, arith}
 use Rattle.std.specs.List.{slice_get}
 use Rattle.tx_model.specs.declared.report.Line.{Line}
 use Rattle.report_law.specs.Steps.{IsLawfulCommand}
+use Rattle.event_rules.specs.Told.{AreToldEvents}
 use Rattle.standing_rules.specs.Sessions.{AreBehind}
 use Rattle.reply_lines.specs.At.{StandsThere, before_at, earlier_at, lines_at, lived_at, rounds_at}
 use Rattle.report_check.specs.Passing.{IsPassed}
@@ -23,10 +24,9 @@ is_lawful_command-requires g c =
     let r = c.requires in
     let p = r.1.1.1.1.1.1.0 in
     let there : slice_get (lines_at g.at) g.at.place ≡ Some c.index-lines-place.result = line_there (lines_at g.at) c.args.lines.now c.args.place g.at.place c.index-lines-place.result r.1.1.1.1.0 r.1.1.1.1.1.1.1.0 r.1.1.1.1.1.1.1.1 c.index-lines-place.is in
-    let number : c.len-number.result ≡ length c.args.passed.now.told.items = omega (arith, c.args.passed.now.told.ok.0) in
-    let stands : StandsThere g.at c.len-number.result c.index-lines-place.result = stands_there g.at c.len-number.result c.index-lines-place.result c.args.passed.now r.1.1.1.0 there p number in
+    let stands : StandsThere g.at c.args.passed.now.lines c.index-lines-place.result = stands_there g.at c.args.passed.now.lines c.index-lines-place.result c.args.passed.now r.1.1.1.0 there p refl in
     let behind : AreBehind (lived_at g.at) (length c.as_slice.result.now) c.as_slice.result.now = behind_slice (lived_at g.at) c.args.passed.now.sessions.items c.as_slice.result.now c.as_slice.ensures.value p.sessions in
-    (r.0, (r.1.0, (r.1.1.0, (r.1.1.1.1.1.0, (stands, (c.session_of.ensures (lived_at g.at) behind, (p.trims, (p.told, sym number))))))))
+    (r.0, (r.1.0, (r.1.1.0, (r.1.1.1.1.1.0, (stands, (c.session_of.ensures (lived_at g.at) behind, (p.trims, subst (λ n. AreToldEvents g.at.j n c.args.passed.now.told.items) (sym p.size) p.told)))))))
 
 pub returns-then-not-lawful-clause-lawful : goal.returns-then-not-lawful-clause-lawful
 returns-then-not-lawful-clause-lawful g c = λ l at.
@@ -42,8 +42,7 @@ pass_line-requires g c =
     let r = c.requires in
     let p = r.1.1.1.1.1.1.0 in
     let there : slice_get (lines_at g.at) g.at.place ≡ Some c.index-lines-place.result = line_there (lines_at g.at) c.args.lines.now c.args.place g.at.place c.index-lines-place.result r.1.1.1.1.0 r.1.1.1.1.1.1.1.0 r.1.1.1.1.1.1.1.1 c.index-lines-place.is in
-    let number : c.len-number.result ≡ length c.args.passed.now.told.items = omega (arith, c.args.passed.now.told.ok.0) in
-    let stands : StandsThere g.at c.len-number.result c.index-lines-place.result = stands_there g.at c.len-number.result c.index-lines-place.result c.args.passed.now r.1.1.1.0 there p number in
+    let stands : StandsThere g.at c.args.passed.now.lines c.index-lines-place.result = stands_there g.at c.args.passed.now.lines c.index-lines-place.result c.args.passed.now r.1.1.1.0 there p refl in
     (r.0, (r.1.1.0, (stands, (p.sessions.size, p.sessions))))
 
 pub returns-clause-lawful : goal.returns-clause-lawful
@@ -60,6 +59,5 @@ returns-clause-passed g c = λ l at t.
     let p = r.1.1.1.1.1.1.0 in
     let there : slice_get (lines_at g.at) g.at.place ≡ Some c.index-lines-place.result = line_there (lines_at g.at) c.args.lines.now c.args.place g.at.place c.index-lines-place.result r.1.1.1.1.0 r.1.1.1.1.1.1.1.0 r.1.1.1.1.1.1.1.1 c.index-lines-place.is in
     let same : c.index-lines-place.result ≡ l = same_line (lines_at g.at) g.at.place c.index-lines-place.result l there at in
-    let number : c.len-number.result ≡ length c.args.passed.now.told.items = omega (arith, c.args.passed.now.told.ok.0) in
-    subst (λ (x : Line). IsPassed g.at.j (before_at g.at ++ x ∷ []) (record { sessions = c.pass_line.new.sessions; told = c.is_lawful_command.new.told; trims = c.in_ok-passed.field-0 })) same
-    (passed_more g.at c.index-lines-place.result c.args.passed.now (record { sessions = c.pass_line.new.sessions; told = c.is_lawful_command.new.told; trims = c.in_ok-passed.field-0 }) c.len-number.result p number c.in_ok-pass_line.ensures c.in_ok-lawful.ensures.told c.in_ok-lawful.ensures.size c.in_ok-passed.ensures)
+    subst (λ (x : Line). IsPassed g.at.j (before_at g.at ++ x ∷ []) (record { sessions = c.pass_line.new.sessions; told = c.is_lawful_command.new.told; lines = c.in_ok-next.next; trims = c.in_ok-trims.trims })) same
+    (passed_more g.at c.index-lines-place.result c.args.passed.now (record { sessions = c.pass_line.new.sessions; told = c.is_lawful_command.new.told; lines = c.in_ok-next.next; trims = c.in_ok-trims.trims }) c.args.passed.now.lines p refl c.in_ok-pass_line.ensures c.in_ok-lawful.ensures.told c.in_ok-next.ensures c.in_ok-trims.ensures)

@@ -19,9 +19,9 @@ round_at-round-requires g c =
     let lines : List Line = lines_in g.of.step in
     let told = r.1.1.1.0 in
     let p = r.1.1.1.1.1 in
-    let start : c.len-start.result ≡ length before = let z : c.len-start.result ≡ length c.args.passed.now.told.items = omega (arith, c.args.passed.now.told.ok.0) in z ∙ p.size in
+    let start : c.args.passed.now.lines ≡ length before = p.size in
     let many : length c.args.lines.now ≡ length lines = ap length r.1.1.1.1.0 in
-    let end : c.in_ok-plus.field-0 ≡ length before + length lines = let z : c.in_ok-plus.field-0 ≡ c.len-start.result + length c.args.lines.now = c.in_ok-plus.ensures in omega arith in
+    let end : c.in_ok-plus.field-0 ≡ length before + length lines = let z : c.in_ok-plus.field-0 ≡ c.args.passed.now.lines + length c.args.lines.now = c.in_ok-plus.ensures in omega arith in
     let within = round_within g.of.j g.of.round g.of.step told in (
       r.1.1.0,
       (

@@ -1,6 +1,6 @@
 -- A row of volumes, of which one after another is changed in its place.
-use Rattle.std.proofs.Common.{List, None, Ok, Option, Result, Some, [], ap, arith, inl, inr, insert, length, refl, remove, slice_index_or, subst, suc, sym, zero, ℕ, ⊎_elim, ◌+◌, ◌<◌, ◌∙◌, ◌∷◌, ◌≡◌, ◌≢◌, ◌≤◌, ◌⊎◌}
-use Rattle.std.specs.List.{slice_get}
+use Rattle.std.proofs.Common.{List, None, Ok, Option, Result, Some, [], ap, arith, inl, inr, length, refl, slice_index_or, subst, suc, sym, zero, ℕ, ⊎_elim, ◌++◌, ◌+◌, ◌-◌, ◌<◌, ◌∙◌, ◌∷◌, ◌≡◌, ◌≢◌, ◌≤◌, ◌⊎◌}
+use Rattle.std.specs.List.{SwappedAt, slice_get}
 use Rattle.replay_core.specs.Banks.{ChangesAt}
 use Rattle.replay_core.specs.declared.refusal.RecoverRefusal.{RecoverRefusal}
 
@@ -19,37 +19,59 @@ module _ {P : Type 0} where
   get_here (y ∷ ys) zero x l e = ap (λ (z : P). Some z) (sym e)
   get_here (y ∷ ys) (suc n) x l e = get_here ys n x (omega arith) e
 
-  put_here : (xs : List P) (n : ℕ) (x : P) → n < length xs → slice_get (insert (remove xs n) n x) n ≡ Some x
-  put_here [] n x l = absurd (omega arith)
-  put_here (y ∷ ys) zero x l = refl
-  put_here (y ∷ ys) (suc n) x l = put_here ys n x (omega arith)
+  get_is : (xs : List P) (n : ℕ) (d : P) → n < length xs → slice_get xs n ≡ Some (slice_index_or xs n d)
+  get_is [] n d l = absurd (omega arith)
+  get_is (y ∷ ys) zero d l = refl
+  get_is (y ∷ ys) (suc n) d l = get_is ys n d (omega arith)
 
-  put_long : (xs : List P) (n : ℕ) (x : P) → n < length xs → length (insert (remove xs n) n x) ≡ length xs
-  put_long [] n x l = absurd (omega arith)
-  put_long (y ∷ ys) zero x l = refl
-  put_long (y ∷ ys) (suc n) x l = ap suc (put_long ys n x (omega arith))
+  get_none : (xs : List P) (n : ℕ) → length xs ≤ n → slice_get xs n ≡ None
+  get_none [] zero l = refl
+  get_none [] (suc n) l = refl
+  get_none (y ∷ ys) zero l = absurd (omega arith)
+  get_none (y ∷ ys) (suc n) l = get_none ys n (omega arith)
 
-  put_others : (xs : List P) (n : ℕ) (x : P) → n < length xs → (m : ℕ) → m ≢ n → slice_get (insert (remove xs n) n x) m ≡ slice_get xs m
-  put_others [] n x l m differs = absurd (omega arith)
-  put_others (y ∷ ys) zero x l zero differs = absurd (differs refl)
-  put_others (y ∷ ys) zero x l (suc m) differs = refl
-  put_others (y ∷ ys) (suc n) x l zero differs = refl
-  put_others (y ∷ ys) (suc n) x l (suc m) differs = put_others ys n x (omega arith) m (λ e. differs (ap suc e))
+  push_last : (xs : List P) (x d : P) → slice_index_or (xs ++ x ∷ []) (length xs) d ≡ x
+  push_last [] x d = refl
+  push_last (y ∷ ys) x d = push_last ys x d
 
-  -- one was taken out, and another put in its place
-  pub changed_at : (R : P → P → Type 0) (old mid new : List P) (at : ℕ) (before now : P) → at < length old → before ≡ slice_index_or old at before → mid ≡ remove old at → new ≡ insert mid at now
+  push_before : (xs : List P) (x d : P) (n : ℕ) → n < length xs → slice_index_or (xs ++ x ∷ []) n d ≡ slice_index_or xs n d
+  push_before [] x d n l = absurd (omega arith)
+  push_before (y ∷ ys) x d zero l = refl
+  push_before (y ∷ ys) x d (suc n) l = push_before ys x d n (omega arith)
+
+  -- One was taken out, and the last one put in its place; then another was put there, and that one last again.
+  pub changed_at : (R : P → P → Type 0) (old mid new : List P) (long at : ℕ) (before now : P) → long ≡ length old → at < length old → before ≡ slice_index_or old at before → length mid + 1 ≡ length old
+      → ((d : P) → at + 1 < long → slice_index_or mid at d ≡ slice_index_or old (long - 1) d) × ((k : ℕ) (d : P) → k ≢ at → k + 1 < long → slice_index_or mid k d ≡ slice_index_or old k d)
+      → length new ≡ length mid + 1 → SwappedAt (mid ++ now ∷ []) new at (length mid)
       → R before now → ChangesAt R at old new
-  changed_at R old mid new at before now inside was out put r =
-      let is : new ≡ insert (remove old at) at now = put ∙ ap (λ (l : List P). insert l at now) out in
+  changed_at R old mid new long at before now size inside was less moved more swapped r =
+      let last : ℕ = length mid in
       record {
-        count = ap length is ∙ put_long old at now inside;
+        count = more ∙ less;
         before = before;
         now = now;
         was = get_here old at before inside was;
-        is = ap (λ (l : List P). slice_get l at) is ∙ put_here old at now inside;
+        is = get_is new at now (omega (arith, inside, less, more)) ∙ ap (λ (x : P). Some x) (swapped.0 now ∙ push_last mid now now);
         changed = r;
-        others = λ n differs. ap (λ (l : List P). slice_get l n) is ∙ put_others old at now inside n differs;
+        others = λ n differs. ⊎_elim
+            (λ (below : n < last). same n (omega (arith, below, less, more)) (omega (arith, below, less))
+            (swapped.2 n now differs (λ e. absurd (omega (arith, below, e))) ∙ (push_before mid now now n below ∙ moved.1 n now differs (omega (arith, below, less, size)))))
+            (λ rest. ⊎_elim
+            (λ (here : n ≡ last).
+            let far : at < last = (let le : at ≤ last = omega (arith, inside, less) in let other : at ≢ last = λ e. differs (here ∙ sym e) in above at last le other) in
+            let end : long - 1 ≡ n = omega (arith, here, less, size) in
+            same n (omega (arith, here, more)) (omega (arith, here, less))
+            (ap (λ k. slice_index_or new k now) here ∙ (swapped.1 now ∙ (push_before mid now now at far ∙ (moved.0 now (omega (arith, far, less, size)) ∙ ap (λ k. slice_index_or old k now) end)))))
+            (λ (past : last < n). get_none new n (omega (arith, past, more)) ∙ sym (get_none old n (omega (arith, past, less))))
+            rest)
+            (lower_here_higher n last);
       }
+    where
+      same : (n : ℕ) → n < length new → n < length old → slice_index_or new n now ≡ slice_index_or old n now → slice_get new n ≡ slice_get old n
+      same n a b e = get_is new n now a ∙ (ap (λ (x : P). Some x) e ∙ sym (get_is old n now b))
+
+      above : (m n : ℕ) → m ≤ n → m ≢ n → m < n
+      above m n le other = ⊎_elim (λ l. l) (λ h. ⊎_elim (λ e. absurd (other e)) (λ over. absurd (omega (arith, le, over))) h) (lower_here_higher m n)
 
   -- rows of one length have volumes at the same places
   pub had : (xs ys : List P) → length ys ≡ length xs → (m : ℕ) (y : P) → slice_get ys m ≡ Some y → (x : P) × (slice_get xs m ≡ Some x)

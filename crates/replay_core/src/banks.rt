@@ -1,5 +1,6 @@
 // The volumes of the banks, one after another, each in its place.
-ghost use Rattle.std.specs.Prelude.{◌≡◌, ◌+◌, ◌<◌, ◌≤◌, ◌^◌, insert, length, vec_capacity};
+ghost use Rattle.std.specs.Prelude.{◌≡◌, ◌+◌, ◌<◌, ◌≤◌, ◌^◌, ◌++◌, ◌∷◌, [], length, vec_capacity};
+ghost use Rattle.std.specs.List.{SwappedAt};
 ghost use Rattle.tx_events.specs.declared.refusal.Lock.TheVariants as locks;
 ghost use Rattle.tx_events.specs.LifeBase.{committed_in};
 ghost use Rattle.replay_multis.specs.Named.{AreMembersBelow, AreMultisNear};
@@ -17,14 +18,16 @@ use slru_bank::BankRooms;
 use store_pages::{SubtransPages, subtrans_page};
 use tx_events::{Counters, Lock, Rec};
 
-// Puts a volume back in its place.
+// Puts a volume back in its place, which the last one took meanwhile.
 fn put_back<P: PageDisk + Drop>(volumes: &mut Vec<P>, at: usize, disk: P)
     requires within { at ≤ length volumes.old.items }
     requires room { length volumes.old.items < vec_capacity volumes.old }
-    ensures items { volumes.new.items ≡ insert volumes.old.items at disk }
+    ensures count { length volumes.new.items ≡ length volumes.old.items + 1 }
+    ensures swapped { SwappedAt (volumes.old.items ++ disk ∷ []) volumes.new.items at (length volumes.old.items) }
 {
-    let inserted = volumes.insert(at, disk);
-    let Ok(()) = inserted else { unreachable!() };
+    let last = volumes.len();
+    volumes.push_reserved(disk);
+    volumes.swap(at, last);
 }
 
 // What a refusal of the bank behind a lock means.
@@ -53,7 +56,7 @@ fn restore_states_at<P: PageDisk + Drop>(
         share.now.bank volumes.old.items volumes.new.items }
 {
     let at = share.bank as usize;
-    let disk = volumes.remove(at);
+    let disk = volumes.swap_remove(at);
     let (disk, outcome) = restore_states(rooms, disk, recs, base, share);
     put_back(volumes, at, disk);
     match outcome {
@@ -96,7 +99,7 @@ fn restore_offsets_at<P: PageDisk + Drop>(
         share.now.bank volumes.old.items volumes.new.items }
 {
     let at = share.bank as usize;
-    let disk = volumes.remove(at);
+    let disk = volumes.swap_remove(at);
     let (disk, outcome) = restore_offsets(rooms, disk, recs, span, share);
     put_back(volumes, at, disk);
     match outcome {
@@ -140,7 +143,7 @@ fn restore_members_at<P: PageDisk + Drop>(
         share.now.bank volumes.old.items volumes.new.items }
 {
     let at = share.bank as usize;
-    let disk = volumes.remove(at);
+    let disk = volumes.swap_remove(at);
     let (disk, outcome) = restore_members(rooms, disk, recs, span, share);
     put_back(volumes, at, disk);
     match outcome {
@@ -220,7 +223,7 @@ fn empty_at<P: PageDisk + Drop>(
     ensures { ChangesAt (Emptying P.PageDisk (locks.Subtrans bank) result) bank volumes.old.items volumes.new.items }
 {
     let at = bank as usize;
-    let disk = volumes.remove(at);
+    let disk = volumes.swap_remove(at);
     let (disk, outcome) = empty(rooms, disk, base, Lock::Subtrans(bank));
     put_back(volumes, at, disk);
     outcome

@@ -1,4 +1,4 @@
-use Rattle.std.proofs.Common.{Err, Ok, OnOk, ap, subst, ◌∙◌}
+use Rattle.std.proofs.Common.{Err, Ok, OnOk, ap, subst, ◌∙◌, arith, vec_len}
 use Rattle.tx_events.specs.declared.refusal.Lock.TheVariants as locks
 use Rattle.replay_core.specs.Restore.{HasBytesOnDisk, bytes_on}
 use Rattle.replay_core.specs.Banks.{Restoring, offsets_become, offsets_leave}
@@ -8,10 +8,10 @@ use Rattle.replay_core.proofs.banks.restore_offsets_at.Goals as goal
 
 pub returns-in-Ok : goal.returns-in-Ok
 returns-in-Ok g c =
-    let p = g.P.PageDisk in let disk = c.remove-disk.result in let now = c.restore_offsets-disk.result.0 in
+    let p = g.P.PageDisk in let disk = c.swap_remove-disk.result in let now = c.restore_offsets-disk.result.0 in
     let arg = c.args.span.now in let recs = c.args.recs.now in let share = c.args.share.now in let e = c.restore_offsets-disk.ensures in
-    changed_at (Restoring p (locks.Offsets share.bank) (offsets_leave share.banks recs arg share.bank) (offsets_become share.banks recs arg share.bank) (Ok (tt {0}))) c.args.volumes.now.items c.remove-disk.new.self.items c.put_back.new.volumes.items share.bank disk now
-    c.requires.inside c.remove-disk.ensures.value c.remove-disk.ensures.items c.put_back.ensures.items
+    changed_at (Restoring p (locks.Offsets share.bank) (offsets_leave share.banks recs arg share.bank) (offsets_become share.banks recs arg share.bank) (Ok (tt {0}))) c.args.volumes.now.items c.swap_remove-disk.new.self.items c.put_back.new.volumes.items (vec_len c.args.volumes.now) share.bank disk now
+    (omega arith) c.requires.inside c.swap_remove-disk.ensures.value (let less = c.swap_remove-disk.ensures.len in omega arith) c.swap_remove-disk.ensures.by_index c.put_back.ensures.count c.put_back.ensures.swapped
     (record {
       moments = e.moments;
       shows = λ told. subst (λ r. OnOk r (offsets_become share.banks recs arg share.bank (bytes_on p disk) (bytes_on p now))) c.in-Ok.is (e.shows told);
@@ -22,10 +22,10 @@ returns-in-Ok g c =
 
 pub returns-in-Err : goal.returns-in-Err
 returns-in-Err g c =
-    let p = g.P.PageDisk in let disk = c.remove-disk.result in let now = c.restore_offsets-disk.result.0 in
+    let p = g.P.PageDisk in let disk = c.swap_remove-disk.result in let now = c.restore_offsets-disk.result.0 in
     let arg = c.args.span.now in let recs = c.args.recs.now in let share = c.args.share.now in let e = c.restore_offsets-disk.ensures in
-    changed_at (Restoring p (locks.Offsets share.bank) (offsets_leave share.banks recs arg share.bank) (offsets_become share.banks recs arg share.bank) (Err c.refusal_at.result)) c.args.volumes.now.items c.remove-disk.new.self.items c.put_back.new.volumes.items share.bank disk now
-    c.requires.inside c.remove-disk.ensures.value c.remove-disk.ensures.items c.put_back.ensures.items
+    changed_at (Restoring p (locks.Offsets share.bank) (offsets_leave share.banks recs arg share.bank) (offsets_become share.banks recs arg share.bank) (Err c.refusal_at.result)) c.args.volumes.now.items c.swap_remove-disk.new.self.items c.put_back.new.volumes.items (vec_len c.args.volumes.now) share.bank disk now
+    (omega arith) c.requires.inside c.swap_remove-disk.ensures.value (let less = c.swap_remove-disk.ensures.len in omega arith) c.swap_remove-disk.ensures.by_index c.put_back.ensures.count c.put_back.ensures.swapped
     (record {
       moments = e.moments;
       shows = λ told. tt;

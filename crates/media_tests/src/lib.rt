@@ -19,6 +19,8 @@ mod folder_help;
 #[cfg(test)]
 mod log_tests;
 #[cfg(test)]
+mod mount_tests;
+#[cfg(test)]
 mod rows;
 #[cfg(test)]
 mod runs;

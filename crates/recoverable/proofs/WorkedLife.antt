@@ -1,5 +1,5 @@
 -- The worked life fits, and the wrong volumes don't.
-use Rattle.std.proofs.Common.{◌-◌, Contains, List, Ok, Err, Result, Some, [], ap, arith, inl, length, refl, replicate, subst, suc, sym, zero, ℕ, ⊎_elim, ◌++◌, ◌+◌, ◌/◌, ◌%◌, ◌<◌, ◌∙◌, ◌∷◌, ◌≡◌, ◌≤◌, ◌⊎◌}
+use Rattle.std.proofs.Common.{◌-◌, Contains, List, None, Ok, Err, Option, Result, Some, [], ap, arith, inl, length, refl, replicate, subst, suc, sym, zero, ℕ, ⊎_elim, ◌++◌, ◌+◌, ◌/◌, ◌%◌, ◌<◌, ◌∙◌, ◌∷◌, ◌≡◌, ◌≤◌, ◌⊎◌}
 use Rattle.std.specs.List.{slice_get, slice_index}
 use Rattle.tx_events.specs.Ids.{low_half, next_multi}
 use Rattle.disk_core.specs.Pages.{page_bytes, zero_page}
@@ -12,7 +12,7 @@ use Rattle.tx_events.specs.declared.multi.Member.{Member}
 use Rattle.tx_events.specs.declared.multi.Mode.TheVariants.{ForUpd, Sh}
 use Rattle.tx_events.specs.declared.record.Rec.TheVariants as records
 use Rattle.wal_core.specs.BaseTest.{is_base_of}
-use Rattle.wal_core.specs.Opening.{Opened, batch_at, judged, opened, recs_in, walk}
+use Rattle.wal_core.specs.Opening.{History, Opened, batch_at, judged, opened, recs_in, walk}
 use Rattle.wal_records.specs.Numbers.{le_number}
 use Rattle.wal_records.specs.Reading.{checkpoint_at, counters_at, id_at, multi_at, rec_at}
 use Rattle.recoverable.specs.Bytes.{ImageHasZeroTails, byte_of, offset_byte, slot_byte, slot_bytes}
@@ -21,7 +21,7 @@ use Rattle.recoverable.specs.FitMultis.{MembersFit, OffsetsFit}
 use Rattle.tx_events.specs.LifeBase.{AreInOrder, IsLifeBase}
 use Rattle.recoverable.specs.Volumes.{ImageFits, IsWholeAt, ListFits, LogFits}
 use Rattle.recoverable.proofs.Stretches.{get_inside}
-use Rattle.recoverable.specs.WorkedLife.{recs, AreRefused, IsWorked, counters_at_3, cut_volume, left, log, log_volume, members, offsets, slots, states}
+use Rattle.recoverable.specs.WorkedLife.{recs, AreRefused, IsWorked, counters_at_3, cut_volume, left, log, log_volume, members, offsets, page_with, slots, states}
 use Rattle.recoverable.specs.XactImages.{code_at}
 
 -- ---- the log
@@ -263,15 +263,45 @@ is_worked = record { list = list; fits = image_fits }
 among_recorded : Contains (records.Multi 1 1 members ∷ []) (records.Multi 1 1 members)
 among_recorded = has_contains (records.Multi 1 1 members ∷ []) (records.Multi 1 1 members) (inl refl)
 
+apart : (m n : ℕ) → m < n → m ≡ n → ⊥
+apart m n less same = omega arith
+
+lost_state : XactFits 1 0 log 3 (page_with []) → ⊥
+lost_state fits = apart 0 1 (omega arith) (fits.committed 3 (has_contains (3 ∷ []) 3 (inl refl)) (omega arith) refl)
+
+lost_offset : OffsetsFit 1 0 log 3 (page_with []) → ⊥
+lost_offset fits = apart 0 1 (omega arith) (fits.recorded 1 1 members among_recorded (omega arith) refl 0 (omega arith))
+
+torn_mode : MembersFit 1 0 log 3 (slots 2) → ⊥
+torn_mode fits = apart 2 3 (omega arith) (fits.recorded 1 1 0 members (record { id = 3; mode = ForUpd }) among_recorded (omega arith) refl refl 4 (omega arith))
+
+-- the log begins at 3
+abbrev first_of : Option History → ℕ
+first_of (Some h) = h.first
+first_of None = 0
+
+abbrev first_in : Result Opened ℕ → ℕ
+first_in (Ok o) = first_of o.history
+first_in (Err at) = at
+
+begins_at : (n : ℕ) → LogFits log n (log_volume 0) → n ≡ 3
+begins_at n fits =
+    let q : Ok from_3 ≡ Ok (record { history = Some fits.history; gate = fits.gate }) = sym opens ∙ fits.opens in
+    let three : 3 ≡ fits.history.first = ap first_in q in
+    sym fits.first ∙ sym three
+
 pub are_refused : AreRefused
 are_refused = record {
-  lost_state = λ fits. let q : 0 ≡ 1 = fits.committed 3 (has_contains (3 ∷ []) 3 (inl refl)) (omega arith) refl in omega arith;
+  lost_state = lost_state;
   early_state = λ fits.
       let found = fits.no_other.place 4 refl (inl refl) in
       let q : low_half found.0 ≡ 4 = found.2 in
       ⊎_elim (λ (e : 3 ≡ found.0). omega arith) (λ none. none) (contains_has (3 ∷ []) found.0 found.1);
-  lost_offset = λ fits. let q : 0 ≡ 1 = fits.recorded 1 1 members among_recorded (omega arith) refl 0 (omega arith) in omega arith;
-  torn_mode = λ fits. let q : 2 ≡ 3 = fits.recorded 1 1 0 members (record { id = 3; mode = ForUpd }) among_recorded (omega arith) refl refl 4 (omega arith) in omega arith;
+  lost_offset = lost_offset;
+  torn_mode = torn_mode;
   open_gate = λ fits. let q : Err 222 ≡ Ok (record { history = Some fits.history; gate = fits.gate }) = sym stays_open ∙ fits.opens in absurd cc;
   cut = cut;
+  lost_states = λ fits. lost_state (subst (λ n. XactFits 1 0 log n (page_with [])) (begins_at fits.begins fits.opens) (fits.xact 0 (omega arith)));
+  lost_offsets = λ fits. lost_offset (subst (λ n. OffsetsFit 1 0 log n (page_with [])) (begins_at fits.begins fits.opens) (fits.offsets 0 (omega arith)));
+  torn_modes = λ fits. torn_mode (subst (λ n. MembersFit 1 0 log n (slots 2)) (begins_at fits.begins fits.opens) (fits.members 0 (omega arith)));
 }

@@ -84,7 +84,8 @@ pub record IsWorked : Type 0 where
   pub fits : ImageFits 1 log left
 
 -- What doesn't fit: the state of 3 was lost though the log was forgotten behind its commit; 4 shows committed though its
--- commit isn't on disk; the offset was lost; a mode is torn; the log's last gate is open; its volume was cut there.
+-- commit isn't on disk; the offset was lost; a mode is torn; the log's last gate is open; its volume was cut there. And
+-- where one of these pages is among what was left of all volumes, this doesn't fit.
 pub record AreRefused : Type 0 where
   pub lost_state : XactFits 1 0 log 3 (page_with []) → ⊥
   pub early_state : XactFits 1 0 log 3 (page_with (64 ∷ 1 ∷ [])) → ⊥
@@ -92,6 +93,9 @@ pub record AreRefused : Type 0 where
   pub torn_mode : MembersFit 1 0 log 3 (slots 2) → ⊥
   pub open_gate : LogFits log 3 (log_volume 1) → ⊥
   pub cut : LogFits log 3 cut_volume → ⊥
+  pub lost_states : ImageFits 1 log (record left { xact = λ bank. page_with [] }) → ⊥
+  pub lost_offsets : ImageFits 1 log (record left { offsets = λ bank. page_with [] }) → ⊥
+  pub torn_modes : ImageFits 1 log (record left { members = λ bank. slots 2 }) → ⊥
 
 -- ---- what a recovery leaves
 

@@ -114,12 +114,15 @@ module _ {L P : Type 0} (l : logs.Ghosts L) (p : disks.Ghosts P) (v : L) (old ne
         let leaves = unmoved found.log log' (ap (λ (z : WalLog L l). log_disk z) same) is.is_open.flushed (only_now (log_disk found.log)) first found.recs (is.keeps told) in
         subst (λ n. HasFlushed first found.recs first n c) is.next (leaves.each was.at c was.from was.upto was.left)
 
-    settling_at : (c : Volume) → WasLeft l.moment l.left_at (log_disk found.log) (log_disk log') c → MayHaveSettled first found.recs first past found.base c
-    settling_at c was =
-        let settles : SettlesThroughout l found.base found.log log' = ⊎_elim
+    settles : SettlesThroughout l found.base found.log log'
+    settles =
+        ⊎_elim
         (λ (same : log' ≡ found.log). settles_unmoved found.base found.log log' (ap (λ (z : WalLog L l). log_disk z) same) is.is_open.flushed (only_now (log_disk found.log)))
         (λ (h : ArePagesRestored p found.recs found.base old new × SettlesThroughout l found.base found.log log'). h.1)
-        (r.moments told told').1 in
+        (r.moments told told').1
+
+    settling_at : (c : Volume) → WasLeft l.moment l.left_at (log_disk found.log) (log_disk log') c → MayHaveSettled first found.recs first past found.base c
+    settling_at c was =
         let leaves = settles first found.recs (is.keeps told) in
         subst (λ n. MayHaveSettled first found.recs first n found.base c) is.next (leaves.each was.at c was.from was.upto was.left)
 
@@ -162,4 +165,11 @@ module _ {L P : Type 0} (l : logs.Ghosts L) (p : disks.Ghosts P) (v : L) (old ne
         (r.moments told told').1
 
     pub throughout : FitThroughout l p (volumes_of (log_disk found.log) old.xact old.subtrans old.offsets old.members) (volumes_of (log_disk log') new.xact new.subtrans new.offsets new.members) first log
-    throughout = record { as_before = as_before; as_left = as_left }
+    throughout = record {
+      log_later = (settles first found.recs (is.keeps told)).later;
+      states_later = λ bank before now b n. ((r.moments told told').0.xact bank before now b n).each.later;
+      offsets_later = λ bank before now b n. ((r.moments told told').0.offsets bank before now b n).each.later;
+      members_later = λ bank before now b n. ((r.moments told told').0.members bank before now b n).each.later;
+      as_before = as_before;
+      as_left = as_left;
+    }

@@ -16,7 +16,6 @@ use Rattle.recoverable.specs.Clusters.{AreLeft}
 use Rattle.recoverable.specs.Fit.{KeptLog}
 use Rattle.recoverable.specs.Volumes.{ImageFits, Left, ListFits, Recovers}
 use Rattle.replay_core.specs.declared.cluster.Recovered.{Recovered}
-use Rattle.replay_core.specs.declared.found.Found.{Found}
 use Rattle.replay_core.specs.declared.found.FoundLog.{FoundLog}
 use Rattle.replay_core.specs.declared.found.FoundLog.TheVariants as found_logs
 use Rattle.replay_core.specs.declared.refusal.RecoverRefusal.{RecoverRefusal}
@@ -77,9 +76,17 @@ module _ {L P : Type 0} (l : logs.Ghosts L) (p : disks.Ghosts P) where
     pub offsets : AreLeft l p new.offsets.items left.offsets
     pub members : AreLeft l p new.members.items left.members
 
+  -- no bank's volume goes back to an earlier moment
+  abbrev pub AreLater : List P → List P → Type 0
+  AreLater old new = (bank : ℕ) (before now : P) → slice_get old bank ≡ Some before → slice_get new bank ≡ Some now → p.moment before ≤ p.moment now
+
   -- At every moment of each volume a crash left what fits: while the log begins as it did, with the pages of any moments;
-  -- and however it begins, with the pages as the call leaves them.
+  -- and however it begins, with the pages as the call leaves them. Each volume has its moments in turn.
   pub record FitThroughout (old new : Volumes L P) (first : ℕ) (log : KeptLog) : Type 0 where
+    pub log_later : l.moment old.log ≤ l.moment new.log
+    pub states_later : AreLater old.xact.items new.xact.items
+    pub offsets_later : AreLater old.offsets.items new.offsets.items
+    pub members_later : AreLater old.members.items new.members.items
     pub as_before : (left : Left) → WereAllLeft old new left → first_on left.log ≡ first → StillFits (length old.xact.items) log left
     pub as_left : (left : Left) → WasLogLeft old new left → StillFits (length old.xact.items) log left
 

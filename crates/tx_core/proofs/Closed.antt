@@ -4,6 +4,7 @@ use Rattle.std.proofs.lemmas.Option.{same_Some}
 use Rattle.std.specs.List.{cons_option, filter_map, slice_get}
 use Rattle.tx_events.specs.declared.event.By.{By}
 use Rattle.tx_events.specs.declared.event.Event.{Event}
+use Rattle.tx_events.specs.declared.event.Event.TheVariants as events
 use Rattle.tx_events.specs.declared.record.Rec.TheVariants as records
 use Rattle.tx_events.proofs.Membership.{contains_has, has_contains, has_flat_map}
 use Rattle.tx_core.specs.declared.entry.Entry.{Entry}
@@ -40,11 +41,17 @@ module _ {A B : Type 0} (f : A → Option B) (y : B) where
   come_from [] p k = absurd cc
   come_from (x ∷ xs) p k = from_next x xs (f x) p refl k (come_from xs)
 
-pub closed_aborted : ClosedAborted
-closed_aborted start lists event p k stands =
+aborts_of : (start : Start) (lists : List (List Entry)) (event : Event) (p : ℕ) → EngineInvariant start lists → slice_get (history lists) p ≡ Some event → AbortsOf start lists (take p (history lists)) (kinds.Event event)
+aborts_of start lists event p k stands =
     let r = come_from event_of event (at lists proc_lock) p stands in
     let need : AbortsOf start lists (filter_map event_of (take r.0 (at lists proc_lock))) r.1.kind = k.aborts.closed.each proc_lock r.0 r.1 r.2 in
     subst (λ before. AbortsOf start lists before (kinds.Event event)) r.4 (subst (AbortsOf start lists (filter_map event_of (take r.0 (at lists proc_lock)))) (event_kind r.1.kind event r.3) need)
+
+pub closed_aborted : ClosedAborted
+closed_aborted start lists by id x p k has = (
+  λ stands inside. aborts_of start lists (events.Undo by id) p k stands x has inside,
+  λ stands. aborts_of start lists (events.Abort by id) p k stands x has,
+)
 
 -- the top and the subtransactions that a commit record names
 abbrev top_of : Kind → ℕ → ℕ

@@ -7,11 +7,12 @@ use Rattle.tx_events.specs.Base.{IsBase}
 use Rattle.tx_events.specs.Events.{given_to}
 use Rattle.tx_events.specs.History.{next_given}
 use Rattle.tx_events.specs.Horizon.{LiveSnap, live_snaps, oldest_id, oldest_xmin}
+use Rattle.tx_events.specs.Families.{enclosing}
 use Rattle.tx_events.specs.Running.{open_ids}
 use Rattle.tx_core.specs.declared.entry.Entry.{Entry}
 use Rattle.tx_core.specs.declared.entry.Start.{Start}
 use Rattle.tx_core.specs.declared.entry.State.{State}
-use Rattle.tx_core.specs.AbortRule.{AbortsOf, Asks}
+use Rattle.tx_core.specs.AbortRule.{Asks}
 use Rattle.tx_core.specs.CommitRecordsExact.{HasNoRecord}
 use Rattle.tx_core.specs.EngineInvariant.{EngineInvariant}
 use Rattle.tx_core.specs.Entries.{IsAppended, IsMarked, history, Stands, cut_in, flushed_to, records_of}
@@ -187,10 +188,13 @@ RecordsShown = (start : Start) (lists : List (List Entry)) (session top : ℕ) (
     EngineInvariant start lists → HasNoRecord lists session → IsAppended lists session (records.Commit top subs) → Contains (top ∷ subs) id
     → IsMarked start lists id states.Committed
 
--- What an undo or an abort of the history closes was set aborted before.
+-- What an undo of the history closes was set aborted before: what its session has open and the undone id encloses. So was
+-- what an abort closes, all that its session has open.
 abbrev pub ClosedAborted : Type 0
-ClosedAborted = (start : Start) (lists : List (List Entry)) (event : Event) (p : ℕ) →
-    EngineInvariant start lists → slice_get (history lists) p ≡ Some event → AbortsOf start lists (take p (history lists)) (kinds.Event event)
+ClosedAborted = (start : Start) (lists : List (List Entry)) (by : By) (id x p : ℕ) →
+    EngineInvariant start lists → Contains (open_ids by.session (take p (history lists))) x
+    → (slice_get (history lists) p ≡ Some (events.Undo by id) → Contains (enclosing (take p (history lists)) x) id → IsMarked start lists x states.Aborted)
+    × (slice_get (history lists) p ≡ Some (events.Abort by id) → IsMarked start lists x states.Aborted)
 
 -- Where a top was set committed, each of its subtransactions on another page was set sub-committed.
 abbrev pub SubsBefore : Type 0

@@ -7,7 +7,7 @@ use Rattle.tx_events.specs.declared.record.Rec.{Rec}
 use Rattle.tx_events.specs.declared.record.Rec.TheVariants as records
 use Rattle.tx_events.proofs.BaseSteps.{checkpoint_settles}
 use Rattle.wal_core.specs.Log.{counters_or_none}
-use Rattle.wal_core.specs.LogViews.{log_counters, log_next, log_pending}
+use Rattle.wal_core.specs.LogViews.{log_next, log_pending}
 use Rattle.replay_core.proofs.settle.append_checkpoint.Goals as goal
 
 pub returns-in-Ok-clause-done : goal.returns-in-Ok-clause-done

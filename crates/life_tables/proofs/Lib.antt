@@ -1,3 +1,4 @@
 pub mod Lining
 pub mod Turning
 pub mod Logging
+pub mod Snapped

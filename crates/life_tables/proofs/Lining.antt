@@ -22,6 +22,7 @@ use Rattle.multi_rules.proofs.GenPlaces.{bound_at}
 use Rattle.report_law.specs.Steps.{Judged, gave_multi, lines_of}
 use Rattle.event_rules.specs.SnapsTold.{told_by, told_lists}
 use Rattle.life_tables.specs.Lives.{is_multi_reply}
+use Rattle.life_tables.specs.Told.{AreToldLists}
 
 -- ---- results, fronts and lives under other names
 
@@ -83,10 +84,10 @@ number_at lines (x ∷ h) (suc p) e s = number_at lines h p e s
 told_is : (j : Judged) (by : By) → told_at (slice_get (lines_of j) (number_of (lines_from 0 j.steps) by)) ≡ told_by j by
 told_is j by = refl
 
-pub are_told : (j : Judged) (h : List Event) (numbers : List ℕ) (lists : List (Option SnapData)) → numbers ≡ map (number_of (lines_from 0 j.steps)) (map by_of h) → lists ≡ map (λ (l : Line). told_lists l.reply) (lines_of j) → AreTold (told_by j) h numbers lists
+pub are_told : (j : Judged) (h : List Event) (numbers : List ℕ) (lists : List (Option SnapData)) → numbers ≡ map (number_of (lines_from 0 j.steps)) (map by_of h) → AreToldLists (lines_of j) lists → AreTold (told_by j) h numbers lists
 are_told j h numbers lists numbers_are lists_are p e s =
     let n : get_or numbers p 0 ≡ number_of (lines_from 0 j.steps) (by_of e) = ap (λ (ks : List ℕ). get_or ks p 0) numbers_are ∙ number_at (lines_from 0 j.steps) h p e s in
-    ap (λ (ls : List (Option SnapData)). list_at ls (get_or numbers p 0)) lists_are
+    lists_are (get_or numbers p 0)
     ∙ list_of (lines_of j) (get_or numbers p 0)
     ∙ ap (λ k. told_at (slice_get (lines_of j) k)) n
     ∙ told_is j (by_of e)

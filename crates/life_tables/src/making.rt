@@ -10,7 +10,6 @@ ghost use Rattle.tx_events.specs.declared.event.Event.{Event};
 ghost use Rattle.tx_events.specs.declared.multi.MultiEvent.{MultiEvent};
 ghost use Rattle.tx_events.specs.Events.{by_of};
 ghost use Rattle.tx_events.specs.Multis.{multi_by};
-ghost use Rattle.tx_model.specs.declared.report.Line.{Line};
 ghost use Rattle.life_tables.specs.Numbered.{IsNumbered};
 ghost use Rattle.life_law.specs.DidCommit.{IsRecorded};
 ghost use Rattle.history_places.specs.SnapMarks.{AreSnapMarks};
@@ -26,8 +25,9 @@ ghost use Rattle.place_columns.specs.Owned.{AreAllOwn, AreInTurn};
 ghost use Rattle.reply_rules.specs.Ends.{IsLogEnd};
 ghost use Rattle.reply_rules.specs.Logs.{AreLogs};
 ghost use Rattle.report_law.specs.Steps.{Judged, gave_multi, lines_of};
-ghost use Rattle.event_rules.specs.SnapsTold.{told_by, told_lists};
+ghost use Rattle.event_rules.specs.SnapsTold.{told_by};
 ghost use Rattle.life_tables.specs.Lives.{LifeAt, RisesFrom, judged_life};
+ghost use Rattle.life_tables.specs.Told.{AreToldLists};
 
 use crate::committed::all_committed;
 use event_rules::{HistoryFront, history_front, multi_front};
@@ -84,7 +84,7 @@ pub fn front_of(
     requires base { IsBase report.now.life.base }
     requires few { All (λ e. (by_of e).session < 64) report.now.life.events }
     requires own { own.now ≡ numbered (lines_from 0 report.now.steps) (map by_of report.now.life.events) }
-    requires lists { lists.now ≡ map (λ (l : Line). told_lists l.reply) (lines_of (judged_life at)) }
+    requires lists { AreToldLists (lines_of (judged_life at)) lists.now }
     ensures front { IfOk result (λ f. IsFront report.now.life.base report.now.life.events f.places) }
     ensures snaps { IfOk result (λ f. AreSnapMarks report.now.life.base.next f.places.events (told_by (judged_life at)) f.snaps.items) }
     ensures opened { IfOk result (λ f. AreOpenCounts f.places.events f.opened.items) }

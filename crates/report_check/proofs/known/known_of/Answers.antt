@@ -11,6 +11,7 @@ use Rattle.tx_events.specs.declared.multi.Member.{Member}
 use Rattle.tx_events.specs.declared.multi.MultiEvent.{MultiEvent}
 use Rattle.tx_events.specs.declared.record.Counters.{Counters}
 use Rattle.tx_events.specs.declared.record.Rec.{Rec}
+use Rattle.tx_events.specs.declared.snapshot.SnapData.{SnapData}
 use Rattle.tx_events.specs.Events.{by_of}
 use Rattle.tx_events.specs.Multis.{multi_by}
 use Rattle.tx_model.specs.declared.report.LifeReport.{LifeReport}
@@ -38,12 +39,22 @@ use Rattle.place_columns.specs.Owned.{AreAllOwn}
 use Rattle.report_law.specs.Steps.{gave_multi, lines_of}
 use Rattle.event_rules.specs.SnapsTold.{told_by}
 use Rattle.life_tables.specs.Lives.{LifeAt, is_multi_reply, judged_life}
+use Rattle.life_tables.specs.Told.{AreToldLists}
 use Rattle.life_tables.proofs.Lining.{few_from, few_front, few_map, lines_order, oks_are, take_self}
 use Rattle.report_check.proofs.Knowing.{known_at}
 use Rattle.report_check.proofs.known.known_of.Goals as goal
 
 abbrev life_at : LifeAt → LifeReport → LifeAt
 life_at at r = record { begun = at.begun; report = r }
+
+pub front_of-requires : goal.front_of-requires
+front_of-requires g c =
+    let r = c.args.report.now in
+    let table = c.in_ok-table.table in
+    let own = c.in_ok-own.ensures ∙ ap (λ (es : List Event). numbered table (map by_of es)) c.items-events.ensures ∙ ap (λ (t : List LineAt). numbered t (map by_of r.life.events)) c.in_ok-table.ensures in
+    let steps = c.items.ensures ∙ ap (λ (x : LifeReport). x.steps) c.requires.0 in
+    let lists = subst (λ (t : List Step). AreToldLists (flat_map lines_in t) c.in_ok-lists.lists.items) steps c.in_ok-lists.ensures in
+    (c.requires.0, (c.requires.1.1.0.1, (few_from by_of r.life.events c.requires.1.0.events, (own, subst (λ (t : List (Option SnapData)). AreToldLists (lines_of (judged_life g.at)) t) (sym c.as_slice.ensures.value) lists))))
 
 pub taken_of-requires : goal.taken_of-requires
 taken_of-requires g c =

@@ -1,4 +1,4 @@
--- A page that one cutoff cuts a later one cuts too, where both are less than half a ring past the oldest id.
+-- A page that one cutoff cuts a later one cuts too, where both are less than half a ring past the segment of the oldest id.
 use Rattle.std.proofs.Common.{◌≡◌, ◌⊎◌, ⊎_elim, ℕ, ◌+◌, ◌-◌, ◌*◌, ◌/◌, ◌%◌, ◌^◌, ◌<◌, ◌≤◌, Bool, true, false, ◌&&◌, refl, sym, subst, arith, ◌∙◌}
 use Rattle.std.proofs.lemmas.Bool.{false≢true, le-leb, le-ltb, lt-leb}
 use Rattle.store_pages.specs.Layouts.{word_page_of, xact_page_of}
@@ -35,7 +35,7 @@ not_true false f = refl
 
 -- ---- pages of pg_xact
 
-xact_before : (p q : ℕ) → p < q → q ≤ p + 65503 → page_precedes Ids 32768 (p % 2 ^ 17) (q % 2 ^ 17) ≡ true
+xact_before : (p q : ℕ) → p < q → q ≤ p + 65535 → page_precedes Ids 32768 (p % 2 ^ 17) (q % 2 ^ 17) ≡ true
 xact_before p q lt near =
     let at_p : page_number Ids 32768 (p % 2 ^ 17) ≡ (p * 32768 + 4) % 2 ^ 32 = omega arith in
     let at_q : page_number Ids 32768 (q % 2 ^ 17) ≡ (q * 32768 + 4) % 2 ^ 32 = omega arith in
@@ -47,7 +47,7 @@ xact_before p q lt near =
     ∙ ((λ j. ring_before (at_p j) (past_q j)) ∙ ring_before_by (p * 32768 + 4) (q * 32768 + 4 + (32768 - 1)) ((q - p) * 32768 + (32768 - 1)) (omega arith) (omega arith) (omega arith)) in
     (λ j. one j && two j)
 
-pub xact_not_before : (p q : ℕ) → q ≤ p → p ≤ q + 65503 → page_precedes Ids 32768 (p % 2 ^ 17) (q % 2 ^ 17) ≡ false
+pub xact_not_before : (p q : ℕ) → q ≤ p → p ≤ q + 65535 → page_precedes Ids 32768 (p % 2 ^ 17) (q % 2 ^ 17) ≡ false
 xact_not_before p q ge near =
     let at_p : page_number Ids 32768 (p % 2 ^ 17) ≡ (p * 32768 + 4) % 2 ^ 32 = omega arith in
     let at_q : page_number Ids 32768 (q % 2 ^ 17) ≡ (q * 32768 + 4) % 2 ^ 32 = omega arith in
@@ -74,7 +74,7 @@ xact_first q = omega arith
 xact_last : (q : ℕ) → q % 2 ^ 17 / 32 * 32 + 31 ≡ (q / 32 * 32 + 31) % 2 ^ 17
 xact_last q = omega arith
 
-pub xact_cut_later : (c page x oldest : ℕ) → c < page → xact_page oldest ≤ c → page + 64 ≤ xact_page oldest + 2 ^ 16 → oldest ≤ x → x + 49990 < oldest + 2 ^ 31 → is_cut Ids 32768 (c % 2 ^ 17) (xact_page_of x) ≡ true → is_cut Ids 32768 (page % 2 ^ 17) (xact_page_of x) ≡ true
+pub xact_cut_later : (c page x oldest : ℕ) → c < page → xact_page oldest ≤ c → page < xact_page oldest / 32 * 32 + 2 ^ 16 → oldest ≤ x → x + 49990 < oldest + 2 ^ 31 → is_cut Ids 32768 (c % 2 ^ 17) (xact_page_of x) ≡ true → is_cut Ids 32768 (page % 2 ^ 17) (xact_page_of x) ≡ true
 xact_cut_later c page x oldest lt from to old near cut = ⊎_elim
     (λ (ge : c ≤ xact_page x). absurd (false≢true (sym (xact_kept c x oldest from ge near) ∙ cut)))
     (λ (below : xact_page x < c).
@@ -94,7 +94,7 @@ xact_cut_later c page x oldest lt from to old near cut = ⊎_elim
 
 -- ---- pages of pg_subtrans
 
-parent_before : (p q : ℕ) → p < q → q ≤ p + 1048543 → page_precedes Ids 2048 (p % 2 ^ 21) (q % 2 ^ 21) ≡ true
+parent_before : (p q : ℕ) → p < q → q ≤ p + 1048575 → page_precedes Ids 2048 (p % 2 ^ 21) (q % 2 ^ 21) ≡ true
 parent_before p q lt near =
     let at_p : page_number Ids 2048 (p % 2 ^ 21) ≡ (p * 2048 + 4) % 2 ^ 32 = omega arith in
     let at_q : page_number Ids 2048 (q % 2 ^ 21) ≡ (q * 2048 + 4) % 2 ^ 32 = omega arith in
@@ -106,7 +106,7 @@ parent_before p q lt near =
     ∙ ((λ j. ring_before (at_p j) (past_q j)) ∙ ring_before_by (p * 2048 + 4) (q * 2048 + 4 + (2048 - 1)) ((q - p) * 2048 + (2048 - 1)) (omega arith) (omega arith) (omega arith)) in
     (λ j. one j && two j)
 
-pub parent_not_before : (p q : ℕ) → q ≤ p → p ≤ q + 1048543 → page_precedes Ids 2048 (p % 2 ^ 21) (q % 2 ^ 21) ≡ false
+pub parent_not_before : (p q : ℕ) → q ≤ p → p ≤ q + 1048575 → page_precedes Ids 2048 (p % 2 ^ 21) (q % 2 ^ 21) ≡ false
 parent_not_before p q ge near =
     let at_p : page_number Ids 2048 (p % 2 ^ 21) ≡ (p * 2048 + 4) % 2 ^ 32 = omega arith in
     let at_q : page_number Ids 2048 (q % 2 ^ 21) ≡ (q * 2048 + 4) % 2 ^ 32 = omega arith in
@@ -133,7 +133,7 @@ parent_first q = omega arith
 parent_last : (q : ℕ) → q % 2 ^ 21 / 32 * 32 + 31 ≡ (q / 32 * 32 + 31) % 2 ^ 21
 parent_last q = omega arith
 
-pub parent_cut_later : (c page x oldest : ℕ) → c < page → subtrans_page oldest ≤ c + 1 → page + 64 ≤ subtrans_page oldest + 2 ^ 20 → oldest ≤ x → x + 49990 < oldest + 2 ^ 31 → is_cut Ids 2048 (c % 2 ^ 21) (word_page_of x) ≡ true → is_cut Ids 2048 (page % 2 ^ 21) (word_page_of x) ≡ true
+pub parent_cut_later : (c page x oldest : ℕ) → c < page → subtrans_page oldest ≤ c + 1 → page + 2 ≤ subtrans_page oldest / 32 * 32 + 2 ^ 20 → oldest ≤ x → x + 49990 < oldest + 2 ^ 31 → is_cut Ids 2048 (c % 2 ^ 21) (word_page_of x) ≡ true → is_cut Ids 2048 (page % 2 ^ 21) (word_page_of x) ≡ true
 parent_cut_later c page x oldest lt from to old near cut = ⊎_elim
     (λ (ge : c ≤ subtrans_page x). absurd (false≢true (sym (parent_kept c x oldest from ge near) ∙ cut)))
     (λ (below : subtrans_page x < c).

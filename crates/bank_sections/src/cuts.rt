@@ -26,8 +26,8 @@ use store_pages::xact_page_in_full;
 use tx_events::FullXid;
 
 /// Removes the states of the ids before the oldest one of a truncation that is on disk (`TruncateCLOG` of
-/// `src/backend/access/transam/clog.c`), by whole segments of 32 pages. The oldest id is less than half a ring, by two
-/// segments, past the one with which the life began. Where the volume fails the cut stands all the same, and some pages
+/// `src/backend/access/transam/clog.c`), by whole segments of 32 pages. Its page is less than half a ring past the
+/// segment of the oldest id with which the life began. Where the volume fails the cut stands all the same, and some pages
 /// may still be there.
 pub fn cut_states<R: Passing, L: LogDisk, P: PageDisk>(
     rt: &R,
@@ -74,8 +74,8 @@ pub fn cut_states<R: Passing, L: LogDisk, P: PageDisk>(
 }
 
 /// Removes the parents of the ids before the one before an oldest xmin (`TruncateSUBTRANS` of
-/// `src/backend/access/transam/subtrans.c`), by whole segments of 32 pages. That one is less than half a ring, by two
-/// segments, past the oldest id with which the life began. Where the volume fails the cut stands all the same, and some
+/// `src/backend/access/transam/subtrans.c`), by whole segments of 32 pages. The page is less than half a ring past the
+/// segment of the oldest id with which the life began. Where the volume fails the cut stands all the same, and some
 /// pages may still be there.
 pub fn cut_parents<R: Passing, L: LogDisk, P: PageDisk>(
     rt: &R,

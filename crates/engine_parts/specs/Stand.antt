@@ -1,6 +1,6 @@
 -- What a value behind a lock says, where the lock's list is this one. A record for each kind of value, over plain
 -- numbers, lists and maps.
-use Rattle.std.specs.Prelude.{◌≡◌, ℕ, ◌+◌, ◌-◌, ◌*◌, ◌^◌, ◌%◌, ◌<◌, ◌≤◌, ◌⊎◌, Bool, false, IsTrue, List, [], ◌∷◌, ◌++◌, length, Option, Some, None, Contains, max, slice_get, take, true}
+use Rattle.std.specs.Prelude.{◌≡◌, ℕ, ◌+◌, ◌-◌, ◌*◌, ◌/◌, ◌^◌, ◌%◌, ◌<◌, ◌≤◌, ◌⊎◌, Bool, false, IsTrue, List, [], ◌∷◌, ◌++◌, length, Option, Some, None, Contains, max, slice_get, take, true}
 use Rattle.std.specs.List.{filter_map, fold}
 use Rattle.disk_core.specs.Volume.{Volume}
 use Rattle.tx_events.specs.declared.event.By.{By}
@@ -182,15 +182,16 @@ IsInUse start x = IsFullId x × (start.base.oldest ≤ x) × (x < start.base.nex
 abbrev pub HasPlace : Start → ℕ → Type 0
 HasPlace start x = IsFullId x × (start.base.oldest ≤ x) × (x < start.base.next + 2 ^ 30)
 
--- A page up to which a bank may be cut: one less than half a ring, by two segments, past that of the oldest id with which
--- the life began. What a cutoff there cuts each later one cuts too. pg_subtrans may begin one page before.
+-- A page up to which a bank may be cut. By the order of stored pages a cutoff counts the whole segments of the half ring
+-- before it as cut, so from the segment of the oldest id on, with which the life began: what a cutoff there cuts each later
+-- one cuts too. pg_subtrans may begin one page before.
 abbrev pub IsXactReach : Start → ℕ → Type 0
 IsXactReach start page =
-    (xact_page start.base.oldest ≤ page) × (page + 64 ≤ xact_page start.base.oldest + 2 ^ 16)
+    (xact_page start.base.oldest ≤ page) × (page < xact_page start.base.oldest / 32 * 32 + 2 ^ 16)
 
 abbrev pub IsSubtransReach : Start → ℕ → Type 0
 IsSubtransReach start page =
-    (subtrans_page start.base.oldest ≤ page + 1) × (page + 64 ≤ subtrans_page start.base.oldest + 2 ^ 20)
+    (subtrans_page start.base.oldest ≤ page + 1) × (page + 2 ≤ subtrans_page start.base.oldest / 32 * 32 + 2 ^ 20)
 
 -- the two bits of a state
 abbrev pub number_of_state : Option State → ℕ

@@ -71,8 +71,8 @@ module _ (start : Start) (lists : List (List Entry)) (k : EngineInvariant start 
   abbrev now : Counters
   now = counters_after start (at lists log_lock)
 
-  -- an announced oldest id is one in full
-  announced_from : (oldest : ℕ) → IsOldestAnnounced start lists oldest → start.base.oldest ≤ oldest
+  -- an announced oldest id isn't before the first one
+  pub announced_from : (oldest : ℕ) → IsOldestAnnounced start lists oldest → start.base.oldest ≤ oldest
   announced_from oldest a = ⊎_elim
       (λ (q : oldest ≡ start.base.oldest). omega arith)
       (λ (z : (by : By) × Contains (history lists) (events.Oldest by oldest)).
@@ -86,6 +86,7 @@ module _ (start : Start) (lists : List (List Entry)) (k : EngineInvariant start 
   least : (n : ℕ) → IsFullId n → 3 ≤ n
   least n full = omega arith
 
+  -- so it is one in full
   announced_full : (oldest : ℕ) → IsOldestAnnounced start lists oldest → IsXidNumber oldest → IsFullId oldest
   announced_full oldest a form =
       let from = announced_from oldest a in

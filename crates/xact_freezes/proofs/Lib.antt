@@ -10,3 +10,4 @@ pub mod Letting
 pub mod Rising
 pub mod Looks
 pub mod Holding
+pub mod Reached

@@ -2,3 +2,4 @@ pub mod Visits
 pub mod Freezes
 pub mod Trims
 pub mod Members
+pub mod Reached

@@ -1,5 +1,5 @@
 //! The banks of the four stores are cut.
-ghost use Rattle.std.specs.Prelude.{◌≡◌, ℕ, ◌+◌, ◌^◌, ◌<◌, ◌≤◌, [], IfErr, IfOk, IsTrue, ◌↔◌};
+ghost use Rattle.std.specs.Prelude.{◌≡◌, ℕ, ◌+◌, ◌*◌, ◌/◌, ◌^◌, ◌<◌, ◌≤◌, [], IfErr, IfOk, IsTrue, ◌↔◌};
 ghost use Rattle.hall.specs.Calls.{view, start_of};
 ghost use Rattle.store_pages.specs.Layouts.{multi_before};
 ghost use Rattle.tx_events.specs.Ids.{id_before};
@@ -23,14 +23,14 @@ use slru_bank::BankRefusal;
 use store_pages::xact_page_in_full;
 use tx_events::{Counters, FullMulti, FullXid, Lock, Refusal, subtrans_page_in_full};
 
-/// Whether a life that began with these counters cuts pg_xact up to this page. A page that is nearly half a ring past
-/// the first one is left to a later life.
+/// Whether a life that began with these counters cuts pg_xact up to this page. One that is half a ring past the segment
+/// of the first one is left to a later life.
 fn cuts_states(base: &Counters, page: u64) -> bool
     requires { page < 2 ^ 63 }
-    ensures { IsTrue result ↔ ((xact_page base.now.oldest ≤ page) × (page + 64 ≤ xact_page base.now.oldest + 2 ^ 16)) }
+    ensures { IsTrue result ↔ ((xact_page base.now.oldest ≤ page) × (page < xact_page base.now.oldest / 32 * 32 + 2 ^ 16)) }
 {
     let first = xact_page_in_full(base.oldest);
-    first <= page && page + 64 <= first + 65_536
+    first <= page && page < first / 32 * 32 + 65_536
 }
 
 /// So of pg_subtrans, which begins with the page of the id before the next one.
@@ -38,12 +38,12 @@ fn cuts_parents(base: &Counters, page: u64) -> bool
     requires small { page < 2 ^ 63 }
     requires some { 1 ≤ base.now.next }
     ensures { IsTrue result ↔ ((subtrans_page (id_before base.now.next) ≤ page)
-        × ((subtrans_page base.now.oldest ≤ page + 1) × (page + 64 ≤ subtrans_page base.now.oldest + 2 ^ 20))) }
+        × ((subtrans_page base.now.oldest ≤ page + 1) × (page + 2 ≤ subtrans_page base.now.oldest / 32 * 32 + 2 ^ 20))) }
 {
     let first = subtrans_page_in_full(base.oldest);
     subtrans_page_in_full(base.next.retreat()) <= page
         && first <= page + 1
-        && page + 64 <= first + 1_048_576
+        && page + 2 <= first / 32 * 32 + 1_048_576
 }
 
 /// Cuts a bank of pg_xact.

@@ -6,7 +6,7 @@
 mod cutting;
 mod freezing;
 mod ids;
-/// What no truncation removes. The function does nothing; its contract is the law.
+/// What no truncation removes, and what each does. The functions do nothing; their contracts are the laws.
 pub mod laws;
 mod logging;
 mod looking;

@@ -1,4 +1,4 @@
-use Rattle.std.proofs.Common.{rules, ◌≡◌, ℕ, ◌+◌, ◌^◌, ◌<◌, ◌≤◌, [], Ok, Err, ap, refl, subst, ◌∙◌, arith}
+use Rattle.std.proofs.Common.{rules, ◌≡◌, ℕ, ◌+◌, ◌*◌, ◌/◌, ◌^◌, ◌<◌, ◌≤◌, [], Ok, Err, ap, refl, subst, ◌∙◌, arith}
 use Rattle.tx_events.specs.declared.record.Counters.{Counters}
 use Rattle.hall.specs.Calls.{view, start_of}
 use Rattle.tx_events.specs.declared.refusal.Lock.TheVariants as locks
@@ -65,7 +65,7 @@ cut_parents-requires-clause-reach g c =
     let page : ℕ = subtrans_page (id_before c.args.xmin) in
     let is : c.subtrans_page_in_full.result ≡ page = c.subtrans_page_in_full.ensures.page ∙ ap subtrans_page c.retreat.ensures.value in
     let base = c.requires.base in
-    (subst (λ (b : Counters). subtrans_page b.oldest ≤ page + 1) base (subst (λ z. subtrans_page c.args.base.now.oldest ≤ z + 1) is k.1.0), subst (λ (b : Counters). page + 64 ≤ subtrans_page b.oldest + 2 ^ 20) base (subst (λ z. z + 64 ≤ subtrans_page c.args.base.now.oldest + 2 ^ 20) is k.1.1))
+    (subst (λ (b : Counters). subtrans_page b.oldest ≤ page + 1) base (subst (λ z. subtrans_page c.args.base.now.oldest ≤ z + 1) is k.1.0), subst (λ (b : Counters). page + 2 ≤ subtrans_page b.oldest / 32 * 32 + 2 ^ 20) base (subst (λ z. z + 2 ≤ subtrans_page c.args.base.now.oldest / 32 * 32 + 2 ^ 20) is k.1.1))
 
 pub returns-in-Err-DiskFault-clause-met : goal.returns-in-Err-DiskFault-clause-met
 returns-in-Err-DiskFault-clause-met g c = (tt, c.in-Err-DiskFault.ensures.fault (ap (λ z. Err z) c.in-Err-DiskFault.field-0-is))

@@ -90,7 +90,7 @@ module _ (start : Start) (lists : List (List Entry)) (bank : ℕ) (k : EngineInv
       let e : Entry = record { by = a.0; kind = kinds.Append (records.Truncate oldest multi offset) } in
       (upheld_has (NeedsCounters start) lists log_lock e k.log.counters (contains_has (at lists log_lock) e a.2)).1.1.1
 
-  announced_from : (oldest : ℕ) → IsOldestAnnounced start lists oldest → start.base.oldest ≤ oldest
+  pub announced_from : (oldest : ℕ) → IsOldestAnnounced start lists oldest → start.base.oldest ≤ oldest
   announced_from oldest a = ⊎_elim
       (λ (q : oldest ≡ start.base.oldest). omega arith)
       (λ (z : (by : By) × Contains (history lists) (events.Oldest by oldest)).
@@ -102,7 +102,7 @@ module _ (start : Start) (lists : List (List Entry)) (bank : ℕ) (k : EngineInv
       a
 
   -- the oldest xmin is never before the base's next id
-  xmin_from : (h : List Event) → IsLegal start.base h → start.base.next ≤ oldest_xmin start.base.next h
+  pub xmin_from : (h : List Event) → IsLegal start.base h → start.base.next ≤ oldest_xmin start.base.next h
   xmin_from h legal =
       let up = xmin_at start.base [] h legal is.full (positive start.base.next is.full) in
       let a = next_of_before start.base.next is.full in

@@ -48,8 +48,6 @@ pub fn trim<R: Passing, L: LogDisk, P: PageDisk>(
         multi: multis.oldest_multi,
         offset: multis.oldest_offset,
     };
-    match log_trim(rt, hall, caller, banks, &rec) {
-        Ok(()) => cut_all(rt, hall, caller, banks, &base, &found, &multis),
-        Err(refusal) => Err(refusal),
-    }
+    log_trim(rt, hall, caller, banks, &rec)?;
+    cut_all(rt, hall, caller, banks, &base, &found, &multis)
 }

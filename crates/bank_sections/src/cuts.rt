@@ -25,8 +25,8 @@ use store_pages::{subtrans_cut_page, xact_cut_page};
 use tx_events::FullXid;
 
 /// Removes the states of the ids before the oldest one of a truncation that is on disk (`TruncateCLOG` of
-/// `src/backend/access/transam/clog.c`), by whole segments of 32 pages, up to the last page that a life cuts which began
-/// with the oldest id `first`. Where the volume fails the cut stands all the same, and some pages may still be there.
+/// `src/backend/access/transam/clog.c`), by whole segments of 32 pages, as far as a life cuts that began with the oldest
+/// id `first` (`xact_cut_page`). Where the volume fails the cut stands all the same, and some pages may still be there.
 pub fn cut_states<R: Passing, L: LogDisk, P: PageDisk>(
     rt: &R,
     hall: &Hall<EngineLaw<L, P>>,
@@ -73,9 +73,9 @@ pub fn cut_states<R: Passing, L: LogDisk, P: PageDisk>(
 }
 
 /// Removes the parents of the ids before the one before an oldest xmin (`TruncateSUBTRANS` of
-/// `src/backend/access/transam/subtrans.c`), by whole segments of 32 pages, up to the last page that a life cuts which
-/// began with the oldest id `first`. Where the volume fails the cut stands all the same, and some pages may still be
-/// there.
+/// `src/backend/access/transam/subtrans.c`), by whole segments of 32 pages, as far as a life cuts that began with the
+/// oldest id `first` (`subtrans_cut_page`). Where the volume fails the cut stands all the same, and some pages may still
+/// be there.
 pub fn cut_parents<R: Passing, L: LogDisk, P: PageDisk>(
     rt: &R,
     hall: &Hall<EngineLaw<L, P>>,

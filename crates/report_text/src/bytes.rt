@@ -258,6 +258,8 @@ impl Bytes {
         ensures ok { OnOk result (self.new ≡ self.old ++ piece.now) }
     {
         self.laid.truncate(self.used);
+        // Memory for both is asked for once. Without it there may still be some for the piece.
+        let _ = self.laid.reserve(piece.len() + room_behind(self.used));
         self.laid.extend_from_slice(piece)?;
         self.used = self.laid.len();
         lay_out(&mut self.laid);

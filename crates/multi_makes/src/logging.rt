@@ -70,10 +70,12 @@ fn log_behind<R: Passing, L: LogDisk, P: PageDisk>(
     ensures number { caller.new.number ≡ caller.old.number }
 {
     tell_forms(rec);
-    log_truncation(rt, hall, caller)?;
-    match append_multi(rt, hall, caller, rec) {
-        Ok(Appended::At { .. }) => Ok(()),
-        Ok(Appended::NoBase) => unreachable!(),
+    match log_truncation(rt, hall, caller) {
+        Ok(_) => match append_multi(rt, hall, caller, rec) {
+            Ok(Appended::At { .. }) => Ok(()),
+            Ok(Appended::NoBase) => unreachable!(),
+            Err(refusal) => Err(refusal),
+        },
         Err(refusal) => Err(refusal),
     }
 }

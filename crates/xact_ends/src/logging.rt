@@ -65,8 +65,10 @@ fn log_commit_behind<R: Passing, L: LogDisk, P: PageDisk>(
     ensures numbered { IsNumbered result }
     ensures number { caller.new.number ≡ caller.old.number }
 {
-    log_truncation(rt, hall, caller)?;
-    append_commit(rt, hall, caller, rec)
+    match log_truncation(rt, hall, caller) {
+        Ok(_) => append_commit(rt, hall, caller, rec),
+        Err(refusal) => Err(refusal),
+    }
 }
 
 /// Appends the commit record of what the session has open. Where the counters behind it would be no base, since the
@@ -130,8 +132,10 @@ fn log_abort_behind<R: Passing, L: LogDisk, P: PageDisk>(
     ensures numbered { IsNumbered result }
     ensures number { caller.new.number ≡ caller.old.number }
 {
-    log_truncation(rt, hall, caller)?;
-    append_abort(rt, hall, caller, rec)
+    match log_truncation(rt, hall, caller) {
+        Ok(_) => append_abort(rt, hall, caller, rec),
+        Err(refusal) => Err(refusal),
+    }
 }
 
 /// Appends the abort record of what the session has open. Where the counters behind it would be no base, since the

@@ -164,9 +164,18 @@ fn cut_bank<R: Passing, L: LogDisk, P: PageDisk>(
     ensures met { IfErr result (IsTrimMet (start_of hall.now) (view caller.new.pass).seen
         (by_at caller.old.number caller.old.session.levels.commands)) }
 {
-    let_states(rt, hall, caller, banks, base, bank, found.oldest)?;
-    let_parents(rt, hall, caller, banks, base, bank, found.oldest_xmin)?;
-    let_offsets(rt, hall, caller, banks, bank, multis.oldest_multi)?;
+    match let_states(rt, hall, caller, banks, base, bank, found.oldest) {
+        Ok(()) => {}
+        Err(refusal) => return Err(refusal),
+    }
+    match let_parents(rt, hall, caller, banks, base, bank, found.oldest_xmin) {
+        Ok(()) => {}
+        Err(refusal) => return Err(refusal),
+    }
+    match let_offsets(rt, hall, caller, banks, bank, multis.oldest_multi) {
+        Ok(()) => {}
+        Err(refusal) => return Err(refusal),
+    }
     let_members(rt, hall, caller, banks, bank, multis.oldest_offset)
 }
 
@@ -194,7 +203,10 @@ pub(crate) fn cut_all<R: Passing, L: LogDisk, P: PageDisk>(
         (by_at caller.old.number caller.old.session.levels.commands)) }
 {
     for bank in 0..banks {
-        cut_bank(rt, hall, caller, banks, base, found, multis, bank)?;
+        match cut_bank(rt, hall, caller, banks, base, found, multis, bank) {
+            Ok(()) => {}
+            Err(refusal) => return Err(refusal),
+        }
     }
     Ok(())
 }

@@ -29,6 +29,8 @@ pub(crate) fn log_trim<R: Passing, L: LogDisk, P: PageDisk>(
     ensures met { IfErr result (IsTrimMet (start_of hall.now) (view caller.new.pass).seen
         (by_at caller.old.number caller.old.session.levels.commands)) }
 {
-    let number = append_truncation(rt, hall, caller, rec)?;
-    flush_log(rt, hall, caller, number)
+    match append_truncation(rt, hall, caller, rec) {
+        Ok(number) => flush_log(rt, hall, caller, number),
+        Err(refusal) => Err(refusal),
+    }
 }

@@ -48,6 +48,8 @@ pub fn trim<R: Passing, L: LogDisk, P: PageDisk>(
         multi: multis.oldest_multi,
         offset: multis.oldest_offset,
     };
-    log_trim(rt, hall, caller, banks, &rec)?;
-    cut_all(rt, hall, caller, banks, &base, &found, &multis)
+    match log_trim(rt, hall, caller, banks, &rec) {
+        Ok(()) => cut_all(rt, hall, caller, banks, &base, &found, &multis),
+        Err(refusal) => Err(refusal),
+    }
 }

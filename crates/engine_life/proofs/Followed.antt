@@ -167,7 +167,7 @@ module _ {P : Type 0} (g : disks.Ghosts P) (start : Start) (bank : ℕ) (told : 
     stepped : (old new : SlruBank P O g r) (before es : List Entry) → Holds old before → Step start old new before es → Holds new es
     stepped old new before es h = ⊎_elim (looked old new before es h) (⊎_elim (noted old new before es h) (⊎_elim (made old new before es h) (⊎_elim (marked old new before es h) (⊎_elim (synced old new before es h) (removed old new before es h)))))
 
-    holds : (steps : ℕ) (store : SlruBank P O g r) (es : List Entry) → Went start bank steps store es → Holds store es
+    pub holds : (steps : ℕ) (store : SlruBank P O g r) (es : List Entry) → Went start bank steps store es → Holds store es
     holds zero store es k = subst (λ (l : List Entry). Holds store l) (sym k.0) (opened store k.1)
     holds (suc n) store es k = stepped k.0 store k.1 es (holds n k.0 k.1 k.2) k.3
 

@@ -1,14 +1,16 @@
 mod Living
 pub mod Counts
-mod Followed
+pub mod Followed
 mod Reopened
 pub mod GoingOn
-mod LogEnds
+pub mod LogEnds
 mod Fitting
 mod SetsInRoom
 mod MembersTails
-mod MultisFollowed
+pub mod MultisFollowed
 mod Finding
 pub mod Sections
 pub mod Through
 pub mod MultisThrough
+pub mod Flushed
+pub mod Standing

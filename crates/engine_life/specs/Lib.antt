@@ -5,3 +5,4 @@ pub mod NextLives
 pub mod FirstLives
 pub mod Sections
 pub mod Courses
+pub mod Standing

@@ -40,7 +40,7 @@ short_still lists lock e asks short = record {
 }
 
 -- a forget appends and flushes nothing
-pub no_record : (e : Entry) (kind : Kind) → e.kind ≡ kind → IsForget kind → (appended e ≡ None) × ((to : ℕ) → e.kind ≡ kinds.Flush to → ⊥)
+no_record : (e : Entry) (kind : Kind) → e.kind ≡ kind → IsForget kind → (appended e ≡ None) × ((to : ℕ) → e.kind ≡ kinds.Flush to → ⊥)
 no_record e (kinds.Forget number) is forgets = (ap (λ (k : Kind). appended_in e.by k) is, λ to other. let two : kinds.Forget number ≡ kinds.Flush to = sym is ∙ other in absurd cc)
 no_record e (kinds.LogFault asked count) is forgets = (ap (λ (k : Kind). appended_in e.by k) is, λ to other. let two : kinds.LogFault asked count ≡ kinds.Flush to = sym is ∙ other in absurd cc)
 no_record e (kinds.Append rec) is forgets = absurd forgets

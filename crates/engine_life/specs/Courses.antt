@@ -6,7 +6,7 @@ use Rattle.disk_core.specs.declared.page_disk.PageDisk as disks
 use Rattle.notes.specs.Lists.{at}
 use Rattle.store_pages.specs.declared.page_rule.PageRule as rules
 use Rattle.slru_bank.specs.declared.bank.SlruBank.{SlruBank}
-use Rattle.slru_bank.specs.Calls.{CrashKeeps, volume_of}
+use Rattle.slru_bank.specs.Calls.{volume_of}
 use Rattle.tx_events.specs.Base.{IsBase}
 use Rattle.tx_core.specs.declared.entry.Entry.{Entry}
 use Rattle.tx_core.specs.declared.entry.Start.{Start}
@@ -17,7 +17,6 @@ use Rattle.tx_core.specs.Locks.{members_lock, offsets_lock, xact_lock}
 use Rattle.tx_core.specs.MultiEntries.{AreFewMultis}
 use Rattle.tx_core.specs.StoredBytes.{HasZeroTails}
 use Rattle.recoverable.specs.Whole.{MembersLeft, OffsetsLeft, StatesLeft}
-use Rattle.bank_follows.specs.Moments.{Throughout}
 use Rattle.engine_parts.specs.BankCourse.{IsMemberOn, IsOffsetOn, IsOpenedOn, MembersCame, OffsetsCame, member_rack, offset_rack}
 use Rattle.engine_parts.specs.Course.{HasCourse, IsOpened}
 
@@ -52,21 +51,3 @@ module _ {P O : Type 0} (g : disks.Ghosts P) (r : rules.Ghosts O) where
       → EngineInvariant start lists → IsBase start.base → AreFewMultis lists → MembersCame start bank store (at lists (members_lock bank))
       → FollowsThroughout (λ opened. IsOpenedOn (member_rack start) (IsMemberOn start bank) (CleanMembers start) HasZeroTails opened)
       (MembersLeft start bank) (at lists (members_lock bank)) store
-
-  -- While its pages are put on disk, and behind it, a crash leaves what follows the bank's list of before: also where that
-  -- fails. So of pg_xact,
-  abbrev pub StatesFlushed : Type 0
-  StatesFlushed = (start : Start) (bank : ℕ) (lists : List (List Entry)) (found left : SlruBank P O g r) → IsTrue g.tells
-      → EngineInvariant start lists → AreFewIds lists → HasCourse start bank found (at lists (xact_lock bank)) → CrashKeeps found left
-      → Throughout g.images g.moment g.left_at (StatesLeft start bank (at lists (xact_lock bank))) (volume_of found) (volume_of left)
-
-  -- of offsets, and of members.
-  abbrev pub OffsetsFlushed : Type 0
-  OffsetsFlushed = (start : Start) (bank : ℕ) (lists : List (List Entry)) (found left : SlruBank P O g r) → IsTrue g.tells
-      → EngineInvariant start lists → IsBase start.base → AreFewMultis lists → OffsetsCame start bank found (at lists (offsets_lock bank)) → CrashKeeps found left
-      → Throughout g.images g.moment g.left_at (OffsetsLeft start bank (at lists (offsets_lock bank))) (volume_of found) (volume_of left)
-
-  abbrev pub MembersFlushed : Type 0
-  MembersFlushed = (start : Start) (bank : ℕ) (lists : List (List Entry)) (found left : SlruBank P O g r) → IsTrue g.tells
-      → EngineInvariant start lists → IsBase start.base → AreFewMultis lists → MembersCame start bank found (at lists (members_lock bank)) → CrashKeeps found left
-      → Throughout g.images g.moment g.left_at (MembersLeft start bank (at lists (members_lock bank))) (volume_of found) (volume_of left)

@@ -5,4 +5,3 @@ pub mod NextLives
 pub mod FirstLives
 pub mod Sections
 pub mod Courses
-pub mod Standing

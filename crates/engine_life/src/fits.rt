@@ -1,8 +1,7 @@
-ghost use Rattle.engine_life.specs.Courses.{CourseFollows, MembersCourseFollows, MembersFlushed, OffsetsCourseFollows, OffsetsFlushed, StatesFlushed};
+ghost use Rattle.engine_life.specs.Courses.{CourseFollows, MembersCourseFollows, OffsetsCourseFollows};
 ghost use Rattle.engine_life.specs.Sections.{MembersMoments, OffsetsMoments, SectionsFit, StatesMoments};
-ghost use Rattle.engine_life.specs.Standing.{PartsFitLaw};
 
-use disk_core::{LogDisk, PageDisk};
+use disk_core::PageDisk;
 use store_pages::PageRule;
 
 /// While a critical section runs that asks a bank's volume, or forgets the log, each combination of images fits the log, of
@@ -26,19 +25,4 @@ pub fn course_follows<P: PageDisk, O: PageRule>()
     ensures states { CourseFollows P.PageDisk O.PageRule }
     ensures offsets { OffsetsCourseFollows P.PageDisk O.PageRule }
     ensures members { MembersCourseFollows P.PageDisk O.PageRule }
-{}
-
-/// While a bank of pg_xact, of offsets or of members puts its pages on disk (`SimpleLruWriteAll` of `slru.c`), at each moment
-/// and behind it, whatever it answers, what a crash leaves of its volume follows the list of before. So in lives as above.
-pub fn flushes_follow<P: PageDisk, O: PageRule>()
-    ensures states { StatesFlushed P.PageDisk O.PageRule }
-    ensures offsets { OffsetsFlushed P.PageDisk O.PageRule }
-    ensures members { MembersFlushed P.PageDisk O.PageRule }
-{}
-
-/// The volumes of an engine whose parts stand for the lists of their locks fit a log that follows these, on disk just as far
-/// as they say: so they do between two critical sections, and while the host is at home behind whatever was answered. In a
-/// short life that began with a base from which one may start.
-pub fn parts_fit<L: LogDisk, P: PageDisk>()
-    ensures { PartsFitLaw L.LogDisk P.PageDisk }
 {}

@@ -31,10 +31,10 @@ use Rattle.bank_follows.proofs.Tails.{keeps_tails}
 use Rattle.engine_parts.specs.BankCourse.{IsMemberOn, IsOffsetOn, MembersCame, OffsetsCame}
 use Rattle.engine_parts.specs.Course.{HasCourse}
 use Rattle.engine_parts.specs.Shelves.{member_shelf, offset_shelf}
-use Rattle.engine_life.proofs.Followed as states
-use Rattle.engine_life.proofs.MembersTails.{tails_hold}
-use Rattle.engine_life.proofs.MultisFollowed as multis
-use Rattle.engine_life.proofs.SetsInRoom.{offsets_in_room, slots_in_room}
+use Rattle.bank_follows.proofs.Followed as states
+use Rattle.bank_follows.proofs.MembersTails.{tails_hold}
+use Rattle.bank_follows.proofs.MultisFollowed as multis
+use Rattle.bank_follows.proofs.SetsInRoom.{offsets_in_room, slots_in_room}
 
 module _ {P O : Type 0} (g : disks.Ghosts P) {r : rules.Ghosts O} (told : IsTrue g.tells) (only_now : (d : P) (c : Pages) → g.left_at d (g.moment d) c → g.images d c) (start : Start) (lists : List (List Entry)) (kept : EngineInvariant start lists) (bank : ℕ) (found left : SlruBank P O g r) (crash : CrashKeeps found left) where
   -- at each moment from the one to the other

@@ -1,5 +1,5 @@
-use Rattle.engine_life.proofs.Flushed.{members_flushed, offsets_flushed, states_flushed}
-use Rattle.engine_life.proofs.fits.flushes_follow.Goals as goal
+use Rattle.bank_follows.proofs.Flushed.{members_flushed, offsets_flushed, states_flushed}
+use Rattle.bank_follows.proofs.laws.flushes_follow.Goals as goal
 
 pub returns-clause-states : goal.returns-clause-states
 returns-clause-states g c start bank lists found left told kept few course crash = states_flushed g.P.PageDisk told (λ d x now. g.met.P.PageDisk.only_now d x told now) start lists kept bank found left crash few course

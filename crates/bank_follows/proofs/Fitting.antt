@@ -22,10 +22,10 @@ use Rattle.engine_parts.specs.declared.part.Part.TheVariants as parts
 use Rattle.engine_parts.specs.BankCourse.{MembersCame, OffsetsCame}
 use Rattle.engine_parts.specs.Course.{HasCourse}
 use Rattle.engine_parts.specs.Parts.{IsLogOf, PartStands}
-use Rattle.engine_life.specs.Standing.{AllStand, FitSoFar, LeavesLog, LeavesPages, LeftBehind, PartsFitLaw}
-use Rattle.engine_life.proofs.Followed.{states_follow}
-use Rattle.engine_life.proofs.LogEnds.{log_held}
-use Rattle.engine_life.proofs.MultisFollowed.{members_follow, offsets_follow}
+use Rattle.bank_follows.specs.Fitting.{AllStand, FitSoFar, LeavesLog, LeavesPages, LeftBehind, PartsFitLaw}
+use Rattle.bank_follows.proofs.Followed.{states_follow}
+use Rattle.bank_follows.proofs.LogEnds.{log_held}
+use Rattle.bank_follows.proofs.MultisFollowed.{members_follow, offsets_follow}
 
 module _ {L P : Type 0} (l : logs.Ghosts L) (p : disks.Ghosts P) (only_now : (d : P) (c : Pages) → p.left_at d (p.moment d) c → p.images d c) (start : Start) (lists : List (List Entry)) (kept : EngineInvariant start lists) (right : BeganRight start) (short : IsShort lists) (tells : IsTrue l.tells) (told : IsTrue p.tells) where
   -- what the log's value holds

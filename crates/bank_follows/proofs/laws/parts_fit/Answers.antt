@@ -1,5 +1,5 @@
-use Rattle.engine_life.proofs.Standing.{parts_fit}
-use Rattle.engine_life.proofs.fits.parts_fit.Goals as goal
+use Rattle.bank_follows.proofs.Fitting.{parts_fit}
+use Rattle.bank_follows.proofs.laws.parts_fit.Goals as goal
 
 pub returns : goal.returns
 returns g c = parts_fit g.L.LogDisk g.P.PageDisk (λ told d x now. g.met.P.PageDisk.only_now d x told now)

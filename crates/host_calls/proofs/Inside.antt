@@ -1,6 +1,6 @@
 -- At every moment of a section's volume what a crash leaves fits, with whatever it leaves of the others.
 use Rattle.std.specs.Global.{Box}
-use Rattle.std.proofs.Common.{◌≡◌, ◌≢◌, inl, inr, ⊎_elim, ℕ, ◌+◌, ◌*◌, ◌<◌, ◌⊎◌, IsTrue, List, [], ◌∷◌, ◌++◌, Option, Some, None, arith, ap, length, refl, subst, sym, ◌∙◌}
+use Rattle.std.proofs.Common.{◌≡◌, ◌≢◌, inl, inr, ⊎_elim, ℕ, ◌<◌, ◌⊎◌, IsTrue, List, [], ◌∷◌, ◌++◌, Option, Some, None, arith, ap, length, refl, subst, sym, ◌∙◌}
 use Rattle.disk_core.specs.Pages.{Pages}
 use Rattle.disk_core.specs.Volume.{Volume}
 use Rattle.disk_core.specs.declared.log_disk.LogDisk as logs
@@ -8,7 +8,7 @@ use Rattle.disk_core.specs.declared.page_disk.PageDisk as disks
 use Rattle.notes.specs.Lists.{add, at}
 use Rattle.notes.proofs.Growing.{at_else, at_here}
 use Rattle.wal_core.specs.Kept.{HasFlushed, KeepsRecords}
-use Rattle.wal_core.specs.LogViews.{KeepsAll, log_disk, log_first, log_flushed, log_next, log_recs}
+use Rattle.wal_core.specs.LogViews.{KeepsAll, log_disk, log_first, log_next, log_recs}
 use Rattle.wal_core.specs.declared.wal_log.WalLog.{WalLog}
 use Rattle.tx_events.proofs.Membership.{Has, contains_has, has_cases, has_contains}
 use Rattle.tx_events.specs.Events.{given}

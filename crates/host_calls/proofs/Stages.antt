@@ -1,5 +1,5 @@
 -- The stages of a checkpoint: the engine invariant holds behind each section, so what follows its lists fits, and so do volumes.
-use Rattle.std.proofs.Common.{◌≡◌, ◌≢◌, ℕ, ◌<◌, IsTrue, List, [], ◌∷◌, ◌++◌, Err, Ok, None, Option, Result, Some, arith, subst, sym}
+use Rattle.std.proofs.Common.{◌≡◌, ◌≢◌, ℕ, ◌<◌, IsTrue, List, [], ◌∷◌, ◌++◌, Err, Ok, None, Option, Result, Some, arith, subst}
 use Rattle.disk_core.specs.Pages.{Pages}
 use Rattle.disk_core.specs.declared.log_disk.LogDisk as logs
 use Rattle.disk_core.specs.declared.page_disk.PageDisk as disks

@@ -1,5 +1,5 @@
 -- What a section asked the volume behind its lock, from what it found there and what it left.
-use Rattle.std.proofs.Common.{◌≡◌, ℕ, ◌<◌, IsTrue, List, [], ◌∷◌, ◌++◌, length, subst, sym, ◌∙◌}
+use Rattle.std.proofs.Common.{◌≡◌, ℕ, ◌<◌, IsTrue, List, [], ◌∷◌, ◌++◌, length, subst, sym}
 use Rattle.disk_core.specs.Images.{LeavesOnly}
 use Rattle.disk_core.specs.Moments.{started}
 use Rattle.disk_core.specs.Volume.{Volume}

@@ -17,3 +17,10 @@ pub mod LifeBegins
 pub mod Standing
 pub mod Holding
 pub mod Ended
+pub mod SetsInRoom
+pub mod MembersTails
+pub mod Followed
+pub mod MultisFollowed
+pub mod LogEnds
+pub mod Flushed
+pub mod Fitting

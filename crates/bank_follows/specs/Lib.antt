@@ -13,3 +13,5 @@ pub mod Restored
 pub mod Standing
 pub mod Holding
 pub mod Ends
+pub mod Flushed
+pub mod Fitting

@@ -11,8 +11,11 @@ ghost use Rattle.bank_follows.specs.Restored.{LifeBegins, RestoredBegins};
 ghost use Rattle.bank_follows.specs.Standing.{BanksStand};
 ghost use Rattle.bank_follows.specs.Holding.{EngineFits};
 ghost use Rattle.bank_follows.specs.Ends.{ClusterFits};
+ghost use Rattle.bank_follows.specs.Flushed.{MembersFlushed, OffsetsFlushed, StatesFlushed};
+ghost use Rattle.bank_follows.specs.Fitting.{PartsFitLaw};
 
 use disk_core::{LogDisk, PageDisk};
+use store_pages::PageRule;
 
 /// What a bank's calls do keeps what its map and its images stand for, one entry of its lock's list more
 /// (`SimpleLruReadPage`, `SimpleLruZeroPage`, `SimpleLruWriteAll` and `SimpleLruTruncate` in
@@ -118,4 +121,19 @@ pub fn engine_fits<L: LogDisk, P: PageDisk>()
 /// members follows its bank's list, in a short life that began right, the volumes fit the life's log.
 pub fn cluster_fits<L: LogDisk, P: PageDisk>()
     ensures { ClusterFits L.LogDisk P.PageDisk }
+{}
+
+/// While a bank of pg_xact, of offsets or of members puts its pages on disk (`SimpleLruWriteAll` of `slru.c`), at each moment
+/// and behind it, whatever it answers, what a crash leaves of its volume follows the list of before.
+pub fn flushes_follow<P: PageDisk, O: PageRule>()
+    ensures states { StatesFlushed P.PageDisk O.PageRule }
+    ensures offsets { OffsetsFlushed P.PageDisk O.PageRule }
+    ensures members { MembersFlushed P.PageDisk O.PageRule }
+{}
+
+/// The volumes of an engine whose parts stand for the lists of their locks fit a log that follows these, on disk just as far
+/// as they say: so they do between two critical sections, and while the host is at home behind whatever was answered. In a
+/// short life that began with a base from which one may start.
+pub fn parts_fit<L: LogDisk, P: PageDisk>()
+    ensures { PartsFitLaw L.LogDisk P.PageDisk }
 {}

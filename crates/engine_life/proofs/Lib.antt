@@ -3,10 +3,7 @@ pub mod Counts
 mod Followed
 mod Reopened
 pub mod GoingOn
-mod LogEnds
 mod Fitting
-mod SetsInRoom
-mod MembersTails
 mod MultisFollowed
 mod Finding
 pub mod Sections

@@ -45,8 +45,8 @@ use Rattle.bank_follows.proofs.Tails.{keeps_tails}
 use Rattle.engine_parts.specs.BankCourse.{CameTo, CutBefore, HasRoom, IsMemberOn, IsOffsetOn, IsOpenedOn, LookedAt, MadePage, MembersCame, NotedOnly, OffsetsCame, Rack, SetThem, StepsTo, SyncedAll, cuts_page, member_rack, offset_rack, set_of}
 use Rattle.engine_parts.specs.Shelf.{Shelf}
 use Rattle.engine_parts.specs.Shelves.{member_shelf, offset_shelf}
-use Rattle.engine_life.proofs.MembersTails.{TailsHold, tails_hold}
-use Rattle.engine_life.proofs.SetsInRoom.{offsets_in_room, slots_in_room}
+use Rattle.bank_follows.proofs.MembersTails.{TailsHold, tails_hold}
+use Rattle.bank_follows.proofs.SetsInRoom.{offsets_in_room, slots_in_room}
 use Rattle.engine_life.specs.Courses.{FollowsBeginning, FollowsThroughout}
 
 -- ---- a store whose numbers are kept byte by byte: as its course tells of it, and as its pieces are watched

@@ -1,4 +1,5 @@
 pub mod Adding
+pub mod Inside
 pub mod Stages
 pub mod Counting
 pub mod Wrote

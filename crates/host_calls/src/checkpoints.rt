@@ -47,10 +47,11 @@ pub fn checkpoint<R: Wait, L: LogDisk, P: PageDisk>(
     ensures fault { (lock : Lock) → failed_volume result ≡ Some lock
         → HasFailed (start_of hall.now) (view host.old.pass).seen (view host.new.pass).seen lock }
     ensures up { IsOfUpLog (view host.old.pass).seen result }
-    // Whatever is answered, and over every disk: before and behind each entry what follows the lists fits, so that a
-    // recovery may begin from it, in a short life that began with a base from which one may start.
+    // Whatever is answered, in a short life that began with a base from which one may start: before and behind each section
+    // what follows the lists fits, and so do the volumes of whatever stands for them; and at every moment of a section's
+    // volume they do, whatever a crash leaves of the others. So a recovery may begin from any of it.
     ensures fit { BeganRight (start_of hall.now) → IsShort (view host.old.pass).seen
-        → FitThroughout (start_of hall.now) (view host.old.pass).seen (view host.new.pass).seen }
+        → FitThroughout L.LogDisk P.PageDisk (start_of hall.now) (view host.old.pass).seen (view host.new.pass).seen }
     ensures untouched { IsUntouched (view host.old.pass).seen (view host.new.pass).seen result }
 {
     match first_committing(sessions) {

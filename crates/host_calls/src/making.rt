@@ -43,7 +43,7 @@ pub(crate) fn make_checkpoint<R: Wait, L: LogDisk, P: PageDisk>(
     ensures holds { (view pass.new).holds ≡ (view pass.old).holds }
     ensures kept { EngineInvariant (start_of hall.now) (view pass.new).seen }
     ensures was_kept { EngineInvariant (start_of hall.now) (view pass.old).seen }
-    ensures stages { KeptThroughout (start_of hall.now) (view pass.old).seen (view pass.new).seen }
+    ensures stages { KeptThroughout L.LogDisk P.PageDisk (start_of hall.now) (view pass.old).seen (view pass.new).seen }
     ensures tried { IsTried result }
     ensures went { Went (start_of hall.now) (view pass.old).seen (view pass.new).seen result }
     ensures whole { result ≡ replies.Done

@@ -28,7 +28,7 @@ fn sync_states<R: Wait, L: LogDisk, P: PageDisk>(
     ensures alone { IsAlone hall.now pass.new }
     ensures holds { (view pass.new).holds ≡ (view pass.old).holds }
     ensures kept { EngineInvariant (start_of hall.now) (view pass.new).seen }
-    ensures stages { KeptThroughout (start_of hall.now) (view pass.old).seen (view pass.new).seen }
+    ensures stages { KeptThroughout L.LogDisk P.PageDisk (start_of hall.now) (view pass.old).seen (view pass.new).seen }
     ensures adds { SyncsBanks (start_of hall.now) by (3 + 4 * bank) (4 + 4 * bank) (view pass.old).seen
         (view pass.new).seen result }
 {
@@ -52,7 +52,7 @@ fn sync_parents<R: Wait, L: LogDisk, P: PageDisk>(
     ensures alone { IsAlone hall.now pass.new }
     ensures holds { (view pass.new).holds ≡ (view pass.old).holds }
     ensures kept { EngineInvariant (start_of hall.now) (view pass.new).seen }
-    ensures stages { KeptThroughout (start_of hall.now) (view pass.old).seen (view pass.new).seen }
+    ensures stages { KeptThroughout L.LogDisk P.PageDisk (start_of hall.now) (view pass.old).seen (view pass.new).seen }
     ensures adds { SyncsBanks (start_of hall.now) by (4 + 4 * bank) (5 + 4 * bank) (view pass.old).seen
         (view pass.new).seen result }
 {
@@ -76,7 +76,7 @@ fn sync_starts<R: Wait, L: LogDisk, P: PageDisk>(
     ensures alone { IsAlone hall.now pass.new }
     ensures holds { (view pass.new).holds ≡ (view pass.old).holds }
     ensures kept { EngineInvariant (start_of hall.now) (view pass.new).seen }
-    ensures stages { KeptThroughout (start_of hall.now) (view pass.old).seen (view pass.new).seen }
+    ensures stages { KeptThroughout L.LogDisk P.PageDisk (start_of hall.now) (view pass.old).seen (view pass.new).seen }
     ensures adds { SyncsBanks (start_of hall.now) by (5 + 4 * bank) (6 + 4 * bank) (view pass.old).seen
         (view pass.new).seen result }
 {
@@ -100,7 +100,7 @@ fn sync_slots<R: Wait, L: LogDisk, P: PageDisk>(
     ensures alone { IsAlone hall.now pass.new }
     ensures holds { (view pass.new).holds ≡ (view pass.old).holds }
     ensures kept { EngineInvariant (start_of hall.now) (view pass.new).seen }
-    ensures stages { KeptThroughout (start_of hall.now) (view pass.old).seen (view pass.new).seen }
+    ensures stages { KeptThroughout L.LogDisk P.PageDisk (start_of hall.now) (view pass.old).seen (view pass.new).seen }
     ensures adds { SyncsBanks (start_of hall.now) by (6 + 4 * bank) (7 + 4 * bank) (view pass.old).seen
         (view pass.new).seen result }
 {
@@ -124,7 +124,7 @@ fn sync_bank<R: Wait, L: LogDisk, P: PageDisk>(
     ensures alone { IsAlone hall.now pass.new }
     ensures holds { (view pass.new).holds ≡ (view pass.old).holds }
     ensures kept { EngineInvariant (start_of hall.now) (view pass.new).seen }
-    ensures stages { KeptThroughout (start_of hall.now) (view pass.old).seen (view pass.new).seen }
+    ensures stages { KeptThroughout L.LogDisk P.PageDisk (start_of hall.now) (view pass.old).seen (view pass.new).seen }
     ensures adds { SyncsBanks (start_of hall.now) by (3 + 4 * bank) (7 + 4 * bank) (view pass.old).seen
         (view pass.new).seen result }
 {
@@ -150,7 +150,7 @@ pub(crate) fn sync_all<R: Wait, L: LogDisk, P: PageDisk>(
     ensures alone { IsAlone hall.now pass.new }
     ensures holds { (view pass.new).holds ≡ (view pass.old).holds }
     ensures kept { EngineInvariant (start_of hall.now) (view pass.new).seen }
-    ensures stages { KeptThroughout (start_of hall.now) (view pass.old).seen (view pass.new).seen }
+    ensures stages { KeptThroughout L.LogDisk P.PageDisk (start_of hall.now) (view pass.old).seen (view pass.new).seen }
     ensures adds { SyncsBanks (start_of hall.now) by 3 (3 + 4 * banks) (view pass.old).seen (view pass.new).seen
         result }
 {

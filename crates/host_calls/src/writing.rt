@@ -41,7 +41,7 @@ pub(crate) fn write_checkpoint<R: Wait, L: LogDisk, P: PageDisk>(
     ensures alone { IsAlone hall.now pass.new }
     ensures holds { (view pass.new).holds ≡ (view pass.old).holds }
     ensures kept { EngineInvariant (start_of hall.now) (view pass.new).seen }
-    ensures stages { KeptThroughout (start_of hall.now) (view pass.old).seen (view pass.new).seen }
+    ensures stages { KeptThroughout L.LogDisk P.PageDisk (start_of hall.now) (view pass.old).seen (view pass.new).seen }
     ensures adds { WritesCheckpoint (start_of hall.now) by (view pass.old).seen (view pass.new).seen result }
 {
     let counters = read_counters(rt, hall, pass);

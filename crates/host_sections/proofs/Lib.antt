@@ -2,3 +2,4 @@ pub mod Aloneness
 pub mod LogSteps
 pub mod BankSteps
 pub mod Refusals
+pub mod Asking

@@ -5,6 +5,7 @@ ghost use Rattle.tx_core.specs.EngineInvariant.{EngineInvariant};
 ghost use Rattle.tx_core.specs.Locks.{members_lock, offsets_lock, subtrans_lock, xact_lock};
 ghost use Rattle.tx_core.specs.ProgramOrder.{IsHostsTurn};
 ghost use Rattle.engine_parts.specs.Alone.{IsAlone};
+ghost use Rattle.host_sections.specs.Asked.{AsksVolume};
 ghost use Rattle.host_sections.specs.HostEntries.{AddsSync, sync_by};
 
 use crate::home::{take_members, take_offsets, take_subtrans, take_xact};
@@ -39,6 +40,8 @@ pub fn sync_xact<R: Wait, L: LogDisk, P: PageDisk>(
     ensures holds { (view pass.new).holds ≡ (view pass.old).holds }
     ensures kept { EngineInvariant (start_of hall.now) (view pass.new).seen }
     ensures adds { AddsSync (start_of hall.now) by (xact_lock bank) (view pass.old).seen (view pass.new).seen result }
+    ensures asks { AsksVolume L.LogDisk P.PageDisk (start_of hall.now) (xact_lock bank) (view pass.old).seen
+        (view pass.new).seen }
 {
     let mut held = take_xact(rt, hall, pass, bank);
     let store = &mut *held;
@@ -72,6 +75,8 @@ pub fn sync_subtrans<R: Wait, L: LogDisk, P: PageDisk>(
     ensures kept { EngineInvariant (start_of hall.now) (view pass.new).seen }
     ensures adds { AddsSync (start_of hall.now) by (subtrans_lock bank) (view pass.old).seen (view pass.new).seen
         result }
+    ensures asks { AsksVolume L.LogDisk P.PageDisk (start_of hall.now) (subtrans_lock bank) (view pass.old).seen
+        (view pass.new).seen }
 {
     let mut held = take_subtrans(rt, hall, pass, bank);
     let store = &mut *held;
@@ -105,6 +110,8 @@ pub fn sync_offsets<R: Wait, L: LogDisk, P: PageDisk>(
     ensures kept { EngineInvariant (start_of hall.now) (view pass.new).seen }
     ensures adds { AddsSync (start_of hall.now) by (offsets_lock bank) (view pass.old).seen (view pass.new).seen
         result }
+    ensures asks { AsksVolume L.LogDisk P.PageDisk (start_of hall.now) (offsets_lock bank) (view pass.old).seen
+        (view pass.new).seen }
 {
     let mut held = take_offsets(rt, hall, pass, bank);
     let store = &mut *held;
@@ -138,6 +145,8 @@ pub fn sync_members<R: Wait, L: LogDisk, P: PageDisk>(
     ensures kept { EngineInvariant (start_of hall.now) (view pass.new).seen }
     ensures adds { AddsSync (start_of hall.now) by (members_lock bank) (view pass.old).seen (view pass.new).seen
         result }
+    ensures asks { AsksVolume L.LogDisk P.PageDisk (start_of hall.now) (members_lock bank) (view pass.old).seen
+        (view pass.new).seen }
 {
     let mut held = take_members(rt, hall, pass, bank);
     let store = &mut *held;

@@ -13,6 +13,7 @@ ghost use Rattle.wal_core.specs.LogViews.{log_disk};
 ghost use Rattle.wal_records.specs.Spelling.{AreCounters};
 ghost use Rattle.engine_parts.specs.Alone.{IsAlone};
 ghost use Rattle.engine_parts.specs.Stand.{EndsInCheckpoint};
+ghost use Rattle.host_sections.specs.Asked.{AsksVolume};
 ghost use Rattle.host_sections.specs.HostEntries.{AddsCheckpoint, AddsFlush, AddsForget, append_by, flush_by, forget_by, forget_fault_by, next_number};
 
 use crate::home::take_log;
@@ -68,6 +69,7 @@ pub fn flush_records<R: Wait, L: LogDisk, P: PageDisk>(
     ensures kept { EngineInvariant (start_of hall.now) (view pass.new).seen }
     ensures was_kept { EngineInvariant (start_of hall.now) (view pass.old).seen }
     ensures adds { AddsFlush (start_of hall.now) by (view pass.old).seen (view pass.new).seen result }
+    ensures asks { AsksVolume L.LogDisk P.PageDisk (start_of hall.now) log_lock (view pass.old).seen (view pass.new).seen }
 {
     let mut held = take_log(rt, hall, pass);
     let log = &mut *held;
@@ -111,6 +113,7 @@ pub fn append_checkpoint<R: Wait, L: LogDisk, P: PageDisk>(
     ensures holds { (view pass.new).holds ≡ (view pass.old).holds }
     ensures kept { EngineInvariant (start_of hall.now) (view pass.new).seen }
     ensures adds { AddsCheckpoint (start_of hall.now) by counters.now (view pass.old).seen (view pass.new).seen result }
+    ensures asks { AsksVolume L.LogDisk P.PageDisk (start_of hall.now) log_lock (view pass.old).seen (view pass.new).seen }
 {
     let mut held = take_log(rt, hall, pass);
     let log = &mut *held;
@@ -149,6 +152,7 @@ pub fn forget_log<R: Wait, L: LogDisk, P: PageDisk>(
     ensures holds { (view pass.new).holds ≡ (view pass.old).holds }
     ensures kept { EngineInvariant (start_of hall.now) (view pass.new).seen }
     ensures adds { AddsForget (start_of hall.now) by number (view pass.old).seen (view pass.new).seen result }
+    ensures asks { AsksVolume L.LogDisk P.PageDisk (start_of hall.now) log_lock (view pass.old).seen (view pass.new).seen }
 {
     let mut held = take_log(rt, hall, pass);
     let log = &mut *held;

@@ -16,7 +16,7 @@ use Rattle.engine_life.proofs.Followed.{follows_here}
 use Rattle.engine_life.proofs.MultisFollowed.{members_here, offsets_here}
 use Rattle.engine_life.specs.Lives.{FollowsList}
 use Rattle.wal_core.specs.LogViews.{log_checkpoint, log_counters, log_disk, log_down, log_first, log_flushed, log_next, log_recs}
-use Rattle.engine_life.proofs.LogEnds.{log_held}
+use Rattle.bank_follows.proofs.LogEnds.{log_held}
 use Rattle.engine_life.proofs.closed.close_life.Goals as goal
 
 pub take_apart-log-requires-clause-stand : goal.take_apart-log-requires-clause-stand

@@ -24,22 +24,22 @@ returns-in-None-first_making-clause-parked g c n s q =
     let long = m.alone.own.wide ∙ sym h.own.wide in
     stays_parked c.args.hall.now c.args.host.now _ c.requires.home m.alone.own m.alone.free (m.alone.name ∙ (h.sessions ∙ sym h.name)) m.holds refl refl m.kept long n s (m.went.idle n (omega (arith, q.below, h.sessions))) q
 
--- nothing is done, and what follows the lists fits
+-- nothing is done, and all fits
 pub returns-in-Some-clause-fit : goal.returns-in-Some-clause-fit
 returns-in-Some-clause-fit g c right short =
     let start = start_of c.args.hall.now in
     let seen = (view c.args.host.now.pass).seen in
     let first = c.in-Some.ensures.0 in
-    all_fit start seen seen (c.requires.parked c.in-Some.session first.0 first.1).may.ready.at.kept (stays start seen seen refl) right short
+    all_fit g.L.LogDisk g.P.PageDisk start (λ told d x now. g.met.P.PageDisk.only_now d x told now) right seen seen (c.requires.parked c.in-Some.session first.0 first.1).may.ready.at.kept (stays start seen seen refl) short
 
 pub returns-in-Some-first_making-clause-fit : goal.returns-in-Some-first_making-clause-fit
 returns-in-Some-first_making-clause-fit g c right short =
     let start = start_of c.args.hall.now in
     let seen = (view c.args.host.now.pass).seen in
     let first = c.in-Some-first_making.ensures.0 in
-    all_fit start seen seen (c.requires.parked c.in-Some-first_making.session first.0 first.1).may.ready.at.kept (stays start seen seen refl) right short
+    all_fit g.L.LogDisk g.P.PageDisk start (λ told d x now. g.met.P.PageDisk.only_now d x told now) right seen seen (c.requires.parked c.in-Some-first_making.session first.0 first.1).may.ready.at.kept (stays start seen seen refl) short
 
 pub returns-in-None-first_making-clause-fit : goal.returns-in-None-first_making-clause-fit
 returns-in-None-first_making-clause-fit g c right short =
     let m = c.make_checkpoint.ensures in
-    all_fit (start_of c.args.hall.now) (view c.args.host.now.pass).seen (view c.make_checkpoint.new.pass).seen m.was_kept m.stages right short
+    all_fit g.L.LogDisk g.P.PageDisk (start_of c.args.hall.now) (λ told d x now. g.met.P.PageDisk.only_now d x told now) right (view c.args.host.now.pass).seen (view c.make_checkpoint.new.pass).seen m.was_kept m.stages short

@@ -3,11 +3,10 @@ use Rattle.hall.specs.Calls.{start_of, view}
 use Rattle.tx_core.specs.Locks.{log_lock}
 use Rattle.host_sections.specs.HostEntries.{flush_by, next_number}
 use Rattle.host_calls.specs.Added.{AddsSyncs}
-use Rattle.host_calls.specs.Moments.{KeptThroughout}
 use Rattle.host_calls.proofs.Adding.{adds_one}
 use Rattle.host_calls.proofs.Forgetting.{all_made, all_synced, made_behind, none_waits}
 use Rattle.host_calls.proofs.Outcomes.{done_told, done_whole, flush_told, flushed_late, sync_told, up_late, was_up, write_told}
-use Rattle.host_calls.proofs.Stages.{flushed, followed}
+use Rattle.host_calls.proofs.Stages.{flushed, flushed_first, followed}
 use Rattle.host_calls.proofs.making.make_checkpoint.Goals as goal
 
 pub write_checkpoint-requires-clause-up : goal.write_checkpoint-requires-clause-up
@@ -261,38 +260,31 @@ write_checkpoint-requires-clause-made g c =
     let s = subst (λ b. AddsSyncs by 3 (3 + 4 * b) mid late) c.requires.banks c.in-Ok-sync_all.ensures.adds in
     made_behind start by mid late his c.sync_all.ensures.kept s (all_made start by old mid (next_number start old) his kept f c.requires.made)
 
+-- each section is a stage
 pub returns-in-Ok-write_checkpoint-clause-stages : goal.returns-in-Ok-write_checkpoint-clause-stages
 returns-in-Ok-write_checkpoint-clause-stages g c =
     let start = start_of c.args.hall.now in
-    let old = (view c.args.pass.now).seen in
     let mid = (view c.flush_records.new.pass).seen in
-    let first : KeptThroughout start old mid = flushed start c.args.by old mid c.flush_records.result c.flush_records.ensures.adds c.flush_records.ensures.kept in
-    let late = (view c.sync_all.new.pass).seen in
     let last = (view c.write_checkpoint.new.pass).seen in
-    followed start old mid last first (followed start mid late last c.sync_all.ensures.stages c.write_checkpoint.ensures.stages)
+    let f = c.flush_records.ensures in
+    flushed_first start c.args.by (view c.args.pass.now).seen mid last c.flush_records.result f.asks f.adds f.kept
+    (followed start mid (view c.sync_all.new.pass).seen last c.sync_all.ensures.stages c.write_checkpoint.ensures.stages)
 
 pub returns-in-Err-write_checkpoint-clause-stages : goal.returns-in-Err-write_checkpoint-clause-stages
 returns-in-Err-write_checkpoint-clause-stages g c =
     let start = start_of c.args.hall.now in
-    let old = (view c.args.pass.now).seen in
     let mid = (view c.flush_records.new.pass).seen in
-    let first : KeptThroughout start old mid = flushed start c.args.by old mid c.flush_records.result c.flush_records.ensures.adds c.flush_records.ensures.kept in
-    let late = (view c.sync_all.new.pass).seen in
     let last = (view c.write_checkpoint.new.pass).seen in
-    followed start old mid last first (followed start mid late last c.sync_all.ensures.stages c.write_checkpoint.ensures.stages)
+    let f = c.flush_records.ensures in
+    flushed_first start c.args.by (view c.args.pass.now).seen mid last c.flush_records.result f.asks f.adds f.kept
+    (followed start mid (view c.sync_all.new.pass).seen last c.sync_all.ensures.stages c.write_checkpoint.ensures.stages)
 
 pub returns-in-Err-sync_all-clause-stages : goal.returns-in-Err-sync_all-clause-stages
 returns-in-Err-sync_all-clause-stages g c =
-    let start = start_of c.args.hall.now in
-    let old = (view c.args.pass.now).seen in
-    let mid = (view c.flush_records.new.pass).seen in
-    let first : KeptThroughout start old mid = flushed start c.args.by old mid c.flush_records.result c.flush_records.ensures.adds c.flush_records.ensures.kept in
-    followed start old mid (view c.sync_all.new.pass).seen first c.sync_all.ensures.stages
+    let f = c.flush_records.ensures in
+    flushed_first (start_of c.args.hall.now) c.args.by (view c.args.pass.now).seen (view c.flush_records.new.pass).seen (view c.sync_all.new.pass).seen c.flush_records.result f.asks f.adds f.kept c.sync_all.ensures.stages
 
 pub returns-in-Err-clause-stages : goal.returns-in-Err-clause-stages
 returns-in-Err-clause-stages g c =
-    let start = start_of c.args.hall.now in
-    let old = (view c.args.pass.now).seen in
-    let mid = (view c.flush_records.new.pass).seen in
-    let first : KeptThroughout start old mid = flushed start c.args.by old mid c.flush_records.result c.flush_records.ensures.adds c.flush_records.ensures.kept in
-    first
+    let f = c.flush_records.ensures in
+    flushed (start_of c.args.hall.now) c.args.by (view c.args.pass.now).seen (view c.flush_records.new.pass).seen c.flush_records.result f.asks f.adds f.kept

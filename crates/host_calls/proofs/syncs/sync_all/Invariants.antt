@@ -11,6 +11,6 @@ invariant-loop-bank g l = record {
   alone : IsAlone l.hall l.pass;
   holds : (view l.pass).holds ≡ (view l.fn.pass).holds;
   kept : EngineInvariant (start_of l.hall) (view l.pass).seen;
-  stages : KeptThroughout (start_of l.hall) (view l.fn.pass).seen (view l.pass).seen;
+  stages : KeptThroughout g.L.LogDisk g.P.PageDisk (start_of l.hall) (view l.fn.pass).seen (view l.pass).seen;
   synced : AddsSyncs l.by 3 (3 + 4 * l.bank) (view l.fn.pass).seen (view l.pass).seen;
 }

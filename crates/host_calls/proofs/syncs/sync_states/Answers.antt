@@ -6,8 +6,8 @@ use Rattle.host_calls.proofs.syncs.sync_states.Goals as goal
 
 pub returns-in-Ok-clause-stages : goal.returns-in-Ok-clause-stages
 returns-in-Ok-clause-stages g c =
-    synced (start_of c.args.hall.now) c.args.by (xact_lock c.args.bank) (view c.args.pass.now).seen (view c.sync_xact.new.pass).seen c.sync_xact.result (omega arith) c.sync_xact.ensures.adds c.sync_xact.ensures.kept
+    synced (start_of c.args.hall.now) c.args.by (xact_lock c.args.bank) (view c.args.pass.now).seen (view c.sync_xact.new.pass).seen c.sync_xact.result (omega arith) c.sync_xact.ensures.asks c.sync_xact.ensures.adds c.sync_xact.ensures.kept
 
 pub returns-in-Err-clause-stages : goal.returns-in-Err-clause-stages
 returns-in-Err-clause-stages g c =
-    synced (start_of c.args.hall.now) c.args.by (xact_lock c.args.bank) (view c.args.pass.now).seen (view c.sync_xact.new.pass).seen c.sync_xact.result (omega arith) c.sync_xact.ensures.adds c.sync_xact.ensures.kept
+    synced (start_of c.args.hall.now) c.args.by (xact_lock c.args.bank) (view c.args.pass.now).seen (view c.sync_xact.new.pass).seen c.sync_xact.result (omega arith) c.sync_xact.ensures.asks c.sync_xact.ensures.adds c.sync_xact.ensures.kept

@@ -16,9 +16,8 @@ use Rattle.wal_records.specs.Spelling.{AreCounters}
 use Rattle.engine_parts.specs.Stand.{EndsInCheckpoint}
 use Rattle.host_sections.specs.HostEntries.{AddsCheckpoint, HaveForms, next_number}
 use Rattle.host_calls.proofs.Counting.{now_follows, now_lawful, now_stays}
-use Rattle.host_calls.specs.Moments.{KeptThroughout}
 use Rattle.host_calls.proofs.Forgetting.{may_forget}
-use Rattle.host_calls.proofs.Stages.{appended, flushed, followed, forgotten, stays}
+use Rattle.host_calls.proofs.Stages.{appended_first, flushed, flushed_first, followed, forgotten}
 use Rattle.host_calls.proofs.Wrote.{append_refused, ends, flush_refused, forgot, marked, put_down}
 use Rattle.host_calls.proofs.writing.write_checkpoint.Goals as goal
 
@@ -125,7 +124,7 @@ returns-in-Err-clause-adds g c =
     append_refused start by old inside (Unit {0}) counters mid c.in-Err.refusal c.requires.up
     (subst (λ (z : List (List Entry)). AddsCheckpoint start by counters z mid (Err c.in-Err.refusal)) r.stays.seen c.in-Err.ensures.adds)
 
--- each step is a stage
+-- each section is a stage
 pub returns-in-Ok-flush_records-clause-stages : goal.returns-in-Ok-flush_records-clause-stages
 returns-in-Ok-flush_records-clause-stages g c =
     let start = start_of c.args.hall.now in
@@ -133,13 +132,13 @@ returns-in-Ok-flush_records-clause-stages g c =
     let old = (view c.args.pass.now).seen in
     let read = (view c.read_counters-counters.new.pass).seen in
     let mid = (view c.append_checkpoint.new.pass).seen in
-    let a = c.append_checkpoint.ensures in
-    let marked : KeptThroughout start old mid = followed start old read mid (stays start old read c.read_counters-counters.ensures.stays.seen) (appended start by c.read_counters-counters.result read mid c.append_checkpoint.result a.adds a.kept) in
     let late = (view c.flush_records.new.pass).seen in
     let last = (view c.forget_log.new.pass).seen in
+    let a = c.append_checkpoint.ensures in
     let f = c.flush_records.ensures in
-    followed start old mid last marked
-    (followed start mid late last (flushed start by mid late c.flush_records.result f.adds f.kept) (forgotten start by c.in-Ok.number late last c.forget_log.result c.forget_log.ensures.adds c.forget_log.ensures.kept))
+    let w = c.forget_log.ensures in
+    followed start old mid last (appended_first start by c.read_counters-counters.result old read mid c.append_checkpoint.result c.read_counters-counters.ensures.stays.seen a.asks a.adds a.kept)
+    (flushed_first start by mid late last c.flush_records.result f.asks f.adds f.kept (forgotten start by c.in-Ok.number late last c.forget_log.result w.asks w.adds w.kept))
 
 pub returns-in-Err-flush_records-clause-stages : goal.returns-in-Err-flush_records-clause-stages
 returns-in-Err-flush_records-clause-stages g c =
@@ -148,19 +147,14 @@ returns-in-Err-flush_records-clause-stages g c =
     let old = (view c.args.pass.now).seen in
     let read = (view c.read_counters-counters.new.pass).seen in
     let mid = (view c.append_checkpoint.new.pass).seen in
-    let a = c.append_checkpoint.ensures in
-    let marked : KeptThroughout start old mid = followed start old read mid (stays start old read c.read_counters-counters.ensures.stays.seen) (appended start by c.read_counters-counters.result read mid c.append_checkpoint.result a.adds a.kept) in
     let late = (view c.flush_records.new.pass).seen in
+    let a = c.append_checkpoint.ensures in
     let f = c.flush_records.ensures in
-    followed start old mid late marked (flushed start by mid late c.flush_records.result f.adds f.kept)
+    followed start old mid late (appended_first start by c.read_counters-counters.result old read mid c.append_checkpoint.result c.read_counters-counters.ensures.stays.seen a.asks a.adds a.kept)
+    (flushed start by mid late c.flush_records.result f.asks f.adds f.kept)
 
 pub returns-in-Err-clause-stages : goal.returns-in-Err-clause-stages
 returns-in-Err-clause-stages g c =
-    let start = start_of c.args.hall.now in
-    let by = c.args.by in
-    let old = (view c.args.pass.now).seen in
-    let read = (view c.read_counters-counters.new.pass).seen in
-    let mid = (view c.append_checkpoint.new.pass).seen in
     let a = c.append_checkpoint.ensures in
-    let marked : KeptThroughout start old mid = followed start old read mid (stays start old read c.read_counters-counters.ensures.stays.seen) (appended start by c.read_counters-counters.result read mid c.append_checkpoint.result a.adds a.kept) in
-    marked
+    appended_first (start_of c.args.hall.now) c.args.by c.read_counters-counters.result (view c.args.pass.now).seen (view c.read_counters-counters.new.pass).seen (view c.append_checkpoint.new.pass).seen c.append_checkpoint.result
+    c.read_counters-counters.ensures.stays.seen a.asks a.adds a.kept

@@ -2,7 +2,7 @@ use Rattle.std.proofs.Common.{Err, None, ◌≡◌, ◌+◌, ℕ, arith, ap, ◌
 use Rattle.hall.specs.Calls.{start_of, view}
 use Rattle.hall.specs.declared.view.Stage.TheVariants.{Inside}
 use Rattle.notes.specs.Lists.{add, at}
-use Rattle.slru_bank.specs.Calls.{faults_of}
+use Rattle.slru_bank.specs.Calls.{CrashKeeps, faults_of}
 use Rattle.slru_bank.specs.declared.refusal.BankRefusal.{BankRefusal}
 use Rattle.tx_events.proofs.Membership.{has_contains}
 use Rattle.tx_core.specs.declared.entry.Entry.{Entry}
@@ -12,11 +12,13 @@ use Rattle.tx_core.specs.FaultsRise.{faults_told}
 use Rattle.tx_core.specs.Locks.{offsets_lock}
 use Rattle.tx_core.proofs.FaultCounts.{risen_past}
 use Rattle.tx_core.proofs.Quiet.{hosts_keep}
+use Rattle.engine_parts.specs.declared.part.Part.TheVariants as parts
 use Rattle.engine_parts.specs.Faults.{fault_by}
 use Rattle.engine_parts.specs.Holds.{Leaves}
 use Rattle.engine_parts.specs.Law.{MayKeep}
 use Rattle.engine_parts.specs.Parts.{IsOffsetsOf}
-use Rattle.host_sections.specs.HostEntries.{AddsSync}
+use Rattle.host_sections.specs.HostEntries.{AddsSync, sync_by}
+use Rattle.host_sections.proofs.Asking.{asks_with}
 use Rattle.host_sections.proofs.Aloneness.{may_add, went_out}
 use Rattle.host_sections.proofs.BankSteps.{offsets_failed, offsets_synced}
 use Rattle.host_sections.proofs.Refusals.{same_bank_err}
@@ -159,3 +161,39 @@ returns-in-Err-clause-adds g c =
       risen = risen_past (faults_told start (offsets_lock bank) (at old (offsets_lock bank))) (faults_of o) (faults_of n) s.stands.count why.1;
       adds = c.leave-in-Err.ensures.left.seen ∙ (λ j. add (i.seen j) (i.cell j) (noted j));
     })
+
+-- what was asked of the volume
+pub returns-in-Ok-clause-asks : goal.returns-in-Ok-clause-asks
+returns-in-Ok-clause-asks g c =
+    let start = start_of c.args.hall.now in
+    let bank = c.args.bank in
+    let i = c.take_offsets-held.ensures.inside in
+    let old = (view c.args.pass.now).seen in
+    let held = c.take_offsets-held.result in
+    let o = c.deref_mut-store.result.now in
+    let n = c.flush_all.new.self in
+    let wide = c.requires.alone.own.wide in
+    let s = subst (λ b. IsOffsetsOf start bank b (at old (offsets_lock bank))) (sym c.deref_mut-store.ensures.value) c.take_offsets-held.ensures.stands in
+    let f = c.in-Ok.ensures in
+    asks_with g.L.LogDisk g.P.PageDisk start (offsets_lock bank) old (view c.leave.new.pass).seen (omega (arith, wide, c.requires.alone.laid, c.requires.bank)) (parts.Offsets held) (parts.Offsets (record held { value = n }))
+    (bank, refl, c.take_offsets-held.ensures.stands) (subst (λ b. CrashKeeps b n) c.deref_mut-store.ensures.value f.crash) (sync_by c.args.by)
+    (bank, refl, offsets_synced start bank o n (at old (offsets_lock bank)) c.args.by f.bank.last f.cutoff f.bank.count f.same f.crash f.durable s)
+    (c.leave.ensures.left.seen ∙ (λ j. add (i.seen j) (i.cell j) (c.sync_note-sync.ensures j)))
+
+pub returns-in-Err-clause-asks : goal.returns-in-Err-clause-asks
+returns-in-Err-clause-asks g c =
+    let start = start_of c.args.hall.now in
+    let bank = c.args.bank in
+    let i = c.take_offsets-held.ensures.inside in
+    let old = (view c.args.pass.now).seen in
+    let held = c.take_offsets-held.result in
+    let o = c.deref_mut-store.result.now in
+    let n = c.flush_all.new.self in
+    let wide = c.requires.alone.own.wide in
+    let s = subst (λ b. IsOffsetsOf start bank b (at old (offsets_lock bank))) (sym c.deref_mut-store.ensures.value) c.take_offsets-held.ensures.stands in
+    let f = c.in-Err.ensures in
+    let noted = c.fault_note-fault.ensures ∙ ap (λ b. fault_by c.args.by (faults_of b)) c.deref.ensures in
+    asks_with g.L.LogDisk g.P.PageDisk start (offsets_lock bank) old (view c.leave-in-Err.new.pass).seen (omega (arith, wide, c.requires.alone.laid, c.requires.bank)) (parts.Offsets held) (parts.Offsets (record held { value = n }))
+    (bank, refl, c.take_offsets-held.ensures.stands) (subst (λ b. CrashKeeps b n) c.deref_mut-store.ensures.value f.crash) (fault_by c.args.by (faults_of n))
+    (bank, refl, offsets_failed start bank o n (at old (offsets_lock bank)) c.args.by f.bank.last f.cutoff f.bank.count f.same f.crash s)
+    (c.leave-in-Err.ensures.left.seen ∙ (λ j. add (i.seen j) (i.cell j) (noted j)))

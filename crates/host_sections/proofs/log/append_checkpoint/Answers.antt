@@ -17,11 +17,14 @@ use Rattle.tx_core.specs.StaysDown.{IsUp}
 use Rattle.tx_core.proofs.Quiet.{hosts_keep}
 use Rattle.wal_core.specs.Log.{MayAppend, counters_or_none}
 use Rattle.wal_core.specs.LogViews.{log_checkpoint, log_counters, log_disk, log_down, log_first, log_flushed, log_next, log_recs}
+use Rattle.engine_parts.specs.declared.part.Part.TheVariants as parts
 use Rattle.engine_parts.specs.Holds.{Knowledge, Leaves}
 use Rattle.engine_parts.specs.Law.{MayKeep}
 use Rattle.engine_parts.specs.Parts.{IsLogOf}
 use Rattle.engine_parts.proofs.Logging.{appends, begins_untouched}
-use Rattle.host_sections.specs.HostEntries.{checkpoint_by, next_number}
+use Rattle.host_sections.specs.Asked.{LogMoments}
+use Rattle.host_sections.specs.HostEntries.{append_by, checkpoint_by, next_number}
+use Rattle.host_sections.proofs.Asking.{append_moments, asks_with, asks_without}
 use Rattle.host_sections.proofs.Aloneness.{came_out, may_add, went_out}
 use Rattle.host_sections.proofs.LogSteps.{log_untouched, may_append}
 use Rattle.host_sections.proofs.Refusals.{append_refused, not_down, same_err}
@@ -148,3 +151,45 @@ returns-clause-adds g c =
 
 pub returns-clause-kept : goal.returns-clause-kept
 returns-clause-kept g c = subst (EngineInvariant (start_of c.args.hall.now)) (sym (ap (λ (z : Knowledge). z.seen) c.put_back.ensures.view)) c.take_log-held.ensures.inside.kept
+
+-- the volume wasn't asked
+pub returns-in-Ok-clause-asks : goal.returns-in-Ok-clause-asks
+returns-in-Ok-clause-asks g c =
+    let start = start_of c.args.hall.now in
+    let d = g.L.LogDisk in
+    let i = c.take_log-held.ensures.inside in
+    let old = (view c.args.pass.now).seen in
+    let held = c.take_log-held.result in
+    let o = c.deref_mut-log.result.now in
+    let n = c.append.new.self in
+    let wide = c.requires.alone.own.wide in
+    let s = subst (λ l. IsLogOf start l (at old log_lock)) (sym c.deref_mut-log.ensures.value) c.take_log-held.ensures.stands in
+    let a = c.in-Ok.ensures in
+    let es = at old log_lock in
+    let rec : Rec = records.Checkpoint c.next.result c.same.result in
+    asks_with g.L.LogDisk g.P.PageDisk start log_lock old (view c.leave.new.pass).seen (omega (arith, wide, c.requires.alone.laid)) (parts.Log held) (parts.Log (record held { value = n }))
+    (refl, c.take_log-held.ensures.stands) (subst (λ z. LogMoments z n) c.deref_mut-log.ensures.value (append_moments o n (λ told e x now. g.met.L.LogDisk.only_now e x told now) a.disk a.first))
+    (append_by c.args.by rec) (
+      refl,
+      appends start d.tells (d.faults (log_disk o)) (d.faults (log_disk n)) (d.images (log_disk o)) (d.images (log_disk n)) (log_recs o) (log_recs n) (log_next o) (log_next n) (log_first o) (log_first n) (log_flushed o) (log_flushed n) (log_counters o) (log_counters n) (log_down o) (log_down n) (log_checkpoint o) (log_checkpoint n) es c.args.by s rec
+          a.recs a.next a.flushed (a.counters ∙ ap (λ (l : Option Counters). Some (after_record (counters_or_none l) rec)) s.counters_are) a.stays (ap d.faults a.disk) a.first a.keeps (begins_untouched o n a.disk a.first),
+    )
+    (c.leave.ensures.left.seen ∙ (λ j. add (i.seen j) (i.cell j) (c.append_note-mark.ensures j)))
+
+pub returns-clause-asks : goal.returns-clause-asks
+returns-clause-asks g c =
+    let start = start_of c.args.hall.now in
+    let d = g.L.LogDisk in
+    let i = c.take_log-held.ensures.inside in
+    let old = (view c.args.pass.now).seen in
+    let held = c.take_log-held.result in
+    let o = c.deref_mut-log.result.now in
+    let n = c.append.new.self in
+    let wide = c.requires.alone.own.wide in
+    let s = subst (λ l. IsLogOf start l (at old log_lock)) (sym c.deref_mut-log.ensures.value) c.take_log-held.ensures.stands in
+    let a = c.in-Err.ensures in
+    let out = came_out c.args.hall.now log_lock c.args.pass.now c.take_log-held.new.pass c.put_back.new.pass c.requires.alone c.take_log-held.ensures.inside c.put_back.ensures.own.0 c.put_back.ensures.view in
+    asks_without g.L.LogDisk g.P.PageDisk start log_lock old (view c.put_back.new.pass).seen (omega (arith, wide, c.requires.alone.laid)) (parts.Log held) (parts.Log (record held { value = n }))
+    (refl, c.take_log-held.ensures.stands) (subst (λ z. LogMoments z n) c.deref_mut-log.ensures.value (append_moments o n (λ told e x now. g.met.L.LogDisk.only_now e x told now) a.disk a.first))
+    (refl, log_untouched start o n (at old log_lock) a.disk a.err_recs.0 a.err_counters.1 a.first a.flushed a.err_counters.0 a.stays a.checkpoint s)
+    out.seen

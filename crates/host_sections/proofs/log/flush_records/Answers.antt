@@ -16,12 +16,15 @@ use Rattle.tx_core.proofs.FaultCounts.{risen_past}
 use Rattle.tx_core.proofs.LogLaws.{flushes_rise}
 use Rattle.tx_core.proofs.Quiet.{hosts_keep}
 use Rattle.wal_core.specs.LogViews.{log_disk, log_down}
+use Rattle.engine_parts.specs.declared.part.Part.TheVariants as parts
 use Rattle.engine_parts.specs.Faults.{flush_fault_by}
 use Rattle.wal_core.specs.declared.refusal.LogRefusal.{LogRefusal}
 use Rattle.engine_parts.specs.Holds.{Knowledge, Leaves}
 use Rattle.engine_parts.specs.Law.{MayKeep}
 use Rattle.engine_parts.specs.Parts.{IsLogOf}
+use Rattle.host_sections.specs.Asked.{LogMoments}
 use Rattle.host_sections.specs.HostEntries.{AddsFlush, flush_by, next_number}
+use Rattle.host_sections.proofs.Asking.{asks_with, asks_without, flush_moments}
 use Rattle.host_sections.proofs.Aloneness.{came_out, may_add, went_out}
 use Rattle.host_sections.proofs.LogSteps.{flush_fails, flushed_stands, log_untouched}
 use Rattle.host_sections.proofs.Refusals.{not_down, refused_down, same_err}
@@ -218,3 +221,61 @@ returns-in-LogFault-clause-was_kept g c = let i = c.take_log-held.ensures.inside
 
 pub returns-in_default-clause-was_kept : goal.returns-in_default-clause-was_kept
 returns-in_default-clause-was_kept g c = let i = c.take_log-held.ensures.inside in subst (EngineInvariant (start_of c.args.hall.now)) i.seen i.kept
+
+-- what was asked of the volume
+pub returns-in-Ok-clause-asks : goal.returns-in-Ok-clause-asks
+returns-in-Ok-clause-asks g c =
+    let start = start_of c.args.hall.now in
+    let d = g.L.LogDisk in
+    let i = c.take_log-held.ensures.inside in
+    let old = (view c.args.pass.now).seen in
+    let held = c.take_log-held.result in
+    let o = c.deref_mut-log.result.now in
+    let n = c.flush.new.self in
+    let wide = c.requires.alone.own.wide in
+    let s = subst (λ l. IsLogOf start l (at old log_lock)) (sym c.deref_mut-log.ensures.value) c.take_log-held.ensures.stands in
+    let f = c.in-Ok.ensures in
+    let up = not_down (log_down o) (λ m put. let refused = f.is_down m put in cc) in
+    asks_with g.L.LogDisk g.P.PageDisk start log_lock old (view c.leave.new.pass).seen (omega (arith, wide, c.requires.alone.laid)) (parts.Log held) (parts.Log (record held { value = n }))
+    (refl, c.take_log-held.ensures.stands) (subst (λ z. LogMoments z n) c.deref_mut-log.ensures.value (flush_moments o n f.first f.keeps_at_each_moment))
+    (flush_by c.args.by c.next-next.result)
+    (refl, flushed_stands start o n (at old log_lock) c.args.by s c.next-next.result c.next-next.ensures f.recs f.next f.counters f.ok (f.stays (λ q. cc)) up f.faults f.first f.checkpoint f.keeps f.begins_same)
+    (c.leave.ensures.left.seen ∙ (λ j. add (i.seen j) (i.cell j) (c.flush_note-flush.ensures j)))
+
+pub returns-in-LogFault-clause-asks : goal.returns-in-LogFault-clause-asks
+returns-in-LogFault-clause-asks g c =
+    let start = start_of c.args.hall.now in
+    let d = g.L.LogDisk in
+    let i = c.take_log-held.ensures.inside in
+    let old = (view c.args.pass.now).seen in
+    let held = c.take_log-held.result in
+    let o = c.deref_mut-log.result.now in
+    let n = c.flush.new.self in
+    let wide = c.requires.alone.own.wide in
+    let s = subst (λ l. IsLogOf start l (at old log_lock)) (sym c.deref_mut-log.ensures.value) c.take_log-held.ensures.stands in
+    let f = c.in-Err.ensures in
+    let noted = c.flush_fault_note-fault.ensures ∙ ap (λ l. flush_fault_by c.args.by (d.faults (log_disk l))) c.deref.ensures in
+    asks_with g.L.LogDisk g.P.PageDisk start log_lock old (view c.leave-in-LogFault.new.pass).seen (omega (arith, wide, c.requires.alone.laid)) (parts.Log held) (parts.Log (record held { value = n }))
+    (refl, c.take_log-held.ensures.stands) (subst (λ z. LogMoments z n) c.deref_mut-log.ensures.value (flush_moments o n f.first f.keeps_at_each_moment))
+    (flush_fault_by c.args.by (d.faults (log_disk n)))
+    (refl, flush_fails start o n (at old log_lock) c.args.by s f.recs f.next f.counters f.err (f.put_down (ap Err c.in-LogFault.is)) f.first f.keeps f.begins_same)
+    (c.leave-in-LogFault.ensures.left.seen ∙ (λ j. add (i.seen j) (i.cell j) (noted j)))
+
+pub returns-in_default-clause-asks : goal.returns-in_default-clause-asks
+returns-in_default-clause-asks g c =
+    let start = start_of c.args.hall.now in
+    let d = g.L.LogDisk in
+    let i = c.take_log-held.ensures.inside in
+    let old = (view c.args.pass.now).seen in
+    let held = c.take_log-held.result in
+    let o = c.deref_mut-log.result.now in
+    let n = c.flush.new.self in
+    let wide = c.requires.alone.own.wide in
+    let s = subst (λ l. IsLogOf start l (at old log_lock)) (sym c.deref_mut-log.ensures.value) c.take_log-held.ensures.stands in
+    let f = c.in-Err.ensures in
+    let down = refused_down c.in-Err.refusal c.in_default.not-LogFault (λ q. f.no_other.0 (ap Err q)) (λ q. f.no_other.1 (ap Err q)) (λ place q. f.no_other.2 place (ap Err q)) in
+    let out = came_out c.args.hall.now log_lock c.args.pass.now c.take_log-held.new.pass c.put_back.new.pass c.requires.alone c.take_log-held.ensures.inside c.put_back.ensures.own.0 c.put_back.ensures.view in
+    asks_without g.L.LogDisk g.P.PageDisk start log_lock old (view c.put_back.new.pass).seen (omega (arith, wide, c.requires.alone.laid)) (parts.Log held) (parts.Log (record held { value = n }))
+    (refl, c.take_log-held.ensures.stands) (subst (λ z. LogMoments z n) c.deref_mut-log.ensures.value (flush_moments o n f.first f.keeps_at_each_moment))
+    (refl, log_untouched start o n (at old log_lock) (f.down_asks_nothing down.0 (f.down down.0 (ap Err down.1))) f.recs f.next f.first f.err f.counters (f.stays (λ q. c.in_default.not-LogFault (same_err q))) f.err_checkpoint s)
+    out.seen

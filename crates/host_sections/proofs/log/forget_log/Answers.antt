@@ -15,10 +15,13 @@ use Rattle.tx_core.proofs.Quiet.{hosts_keep}
 use Rattle.wal_core.specs.LogViews.{log_checkpoint, log_disk, log_down, log_first}
 use Rattle.wal_core.specs.declared.checkpoint.LastCheckpoint.{LastCheckpoint}
 use Rattle.wal_core.specs.declared.refusal.LogRefusal.{LogRefusal}
+use Rattle.engine_parts.specs.declared.part.Part.TheVariants as parts
 use Rattle.engine_parts.specs.Holds.{Knowledge, Leaves}
 use Rattle.engine_parts.specs.Law.{MayKeep}
 use Rattle.engine_parts.specs.Parts.{IsLogOf}
-use Rattle.host_sections.specs.HostEntries.{AddsForget, forget_fault_by}
+use Rattle.host_sections.specs.Asked.{LogMoments}
+use Rattle.host_sections.specs.HostEntries.{AddsForget, forget_by, forget_fault_by}
+use Rattle.host_sections.proofs.Asking.{asks_with, asks_without}
 use Rattle.host_sections.proofs.Aloneness.{came_out, may_add, went_out}
 use Rattle.host_sections.proofs.LogSteps.{forget_fails, forgotten_stands, log_untouched}
 use Rattle.host_sections.proofs.Refusals.{first_is, not_down, refused_down, same_err}
@@ -211,3 +214,65 @@ returns-in_default-clause-adds g c =
 
 pub returns-in_default-clause-kept : goal.returns-in_default-clause-kept
 returns-in_default-clause-kept g c = subst (EngineInvariant (start_of c.args.hall.now)) (sym (ap (λ (z : Knowledge). z.seen) c.put_back.ensures.view)) c.take_log-held.ensures.inside.kept
+
+-- what was asked of the volume
+pub returns-in-Ok-clause-asks : goal.returns-in-Ok-clause-asks
+returns-in-Ok-clause-asks g c =
+    let start = start_of c.args.hall.now in
+    let d = g.L.LogDisk in
+    let i = c.take_log-held.ensures.inside in
+    let old = (view c.args.pass.now).seen in
+    let held = c.take_log-held.result in
+    let o = c.deref_mut-log.result.now in
+    let n = c.forget_before_checkpoint.new.self in
+    let wide = c.requires.alone.own.wide in
+    let s = subst (λ l. IsLogOf start l (at old log_lock)) (sym c.deref_mut-log.ensures.value) c.take_log-held.ensures.stands in
+    let f = c.in-Ok.ensures in
+    let up = not_down (log_down o) (λ m put. let refused = f.is_down m put in cc) in
+    asks_with g.L.LogDisk g.P.PageDisk start log_lock old (view c.leave.new.pass).seen (omega (arith, wide, c.requires.alone.laid)) (parts.Log held) (parts.Log (record held { value = n }))
+    (refl, c.take_log-held.ensures.stands) (subst (λ z. LogMoments z n) c.deref_mut-log.ensures.value f.keeps_at_each_moment)
+    (forget_by c.args.by c.args.number)
+    (refl, forgotten_stands start o n (at old log_lock) c.args.by s c.args.number f.recs f.next f.counters f.flushed (f.stays (λ q. cc)) up f.faults (first_is c.args.number (log_checkpoint o) (log_first n) (s.alone c.args.number c.requires.ends) (f.first (λ place q. cc))) f.keeps f.begins)
+    (c.leave.ensures.left.seen ∙ (λ j. add (i.seen j) (i.cell j) (c.forget_note-forget.ensures j)))
+
+pub returns-in-LogFault-clause-asks : goal.returns-in-LogFault-clause-asks
+returns-in-LogFault-clause-asks g c =
+    let start = start_of c.args.hall.now in
+    let d = g.L.LogDisk in
+    let i = c.take_log-held.ensures.inside in
+    let old = (view c.args.pass.now).seen in
+    let held = c.take_log-held.result in
+    let o = c.deref_mut-log.result.now in
+    let n = c.forget_before_checkpoint.new.self in
+    let wide = c.requires.alone.own.wide in
+    let s = subst (λ l. IsLogOf start l (at old log_lock)) (sym c.deref_mut-log.ensures.value) c.take_log-held.ensures.stands in
+    let f = c.in-Err.ensures in
+    let noted = c.forget_fault_note-fault.ensures ∙ ap (λ l. forget_fault_by c.args.by c.args.number (d.faults (log_disk l))) c.deref.ensures in
+    let up = not_down (log_down o) (λ m put. let refused = same_err (f.is_down m put) in let failed = c.in-LogFault.is in cc) in
+    asks_with g.L.LogDisk g.P.PageDisk start log_lock old (view c.leave-in-LogFault.new.pass).seen (omega (arith, wide, c.requires.alone.laid)) (parts.Log held) (parts.Log (record held { value = n }))
+    (refl, c.take_log-held.ensures.stands) (subst (λ z. LogMoments z n) c.deref_mut-log.ensures.value f.keeps_at_each_moment)
+    (forget_fault_by c.args.by c.args.number (d.faults (log_disk n))) (
+      refl,
+      forget_fails start o n (at old log_lock) c.args.by s c.args.number f.recs f.next f.counters f.flushed (f.put_down (ap Err c.in-LogFault.is)) up
+          (first_is c.args.number (log_checkpoint o) (log_first n) (s.alone c.args.number c.requires.ends) (f.first (λ place q. let failed = c.in-LogFault.is in let other = same_err q in cc))) f.keeps f.begins,
+    )
+    (c.leave-in-LogFault.ensures.left.seen ∙ (λ j. add (i.seen j) (i.cell j) (noted j)))
+
+pub returns-in_default-clause-asks : goal.returns-in_default-clause-asks
+returns-in_default-clause-asks g c =
+    let start = start_of c.args.hall.now in
+    let d = g.L.LogDisk in
+    let i = c.take_log-held.ensures.inside in
+    let old = (view c.args.pass.now).seen in
+    let held = c.take_log-held.result in
+    let o = c.deref_mut-log.result.now in
+    let n = c.forget_before_checkpoint.new.self in
+    let wide = c.requires.alone.own.wide in
+    let s = subst (λ l. IsLogOf start l (at old log_lock)) (sym c.deref_mut-log.ensures.value) c.take_log-held.ensures.stands in
+    let f = c.in-Err.ensures in
+    let down = refused_down c.in-Err.refusal c.in_default.not-LogFault (λ q. f.no_other.0 (ap Err q)) (λ q. f.no_other.1 (ap Err q)) (λ place q. f.no_other.2 place (ap Err q)) in
+    let out = came_out c.args.hall.now log_lock c.args.pass.now c.take_log-held.new.pass c.put_back.new.pass c.requires.alone c.take_log-held.ensures.inside c.put_back.ensures.own.0 c.put_back.ensures.view in
+    asks_without g.L.LogDisk g.P.PageDisk start log_lock old (view c.put_back.new.pass).seen (omega (arith, wide, c.requires.alone.laid)) (parts.Log held) (parts.Log (record held { value = n }))
+    (refl, c.take_log-held.ensures.stands) (subst (λ z. LogMoments z n) c.deref_mut-log.ensures.value f.keeps_at_each_moment)
+    (refl, log_untouched start o n (at old log_lock) (f.down_asks_nothing down.0 (f.down down.0 (ap Err down.1))) f.recs f.next (f.first_down down.0 (ap Err down.1)) f.flushed f.counters (f.stays (λ q. c.in_default.not-LogFault (same_err q))) f.checkpoint s)
+    out.seen

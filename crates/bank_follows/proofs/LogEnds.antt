@@ -52,7 +52,7 @@ module _ (start : Start) (number : ℕ) (past : List Rec) (g : GivesStart start 
       }
 
 -- what the log says of its first record
-may_begin : (start : Start) (es : List Entry) (n : ℕ) → IsFirstKept start es n → IsBeginningOf start es n
+pub may_begin : (start : Start) (es : List Entry) (n : ℕ) → IsFirstKept start es n → IsBeginningOf start es n
 may_begin start es n kept = ⊎_elim inl (λ (later : ((by : By) × Contains es (record { by = by; kind = kinds.Forget n })) ⊎ ((count : ℕ) × (by : By) × Contains es (record { by = by; kind = kinds.LogFault (calls.Forget n) count }))).
     inr (⊎_elim inl (λ (failed : (count : ℕ) × (by : By) × Contains es (record { by = by; kind = kinds.LogFault (calls.Forget n) count })). inr (failed.0, (failed.1, failed.2))) later)) kept.one
 

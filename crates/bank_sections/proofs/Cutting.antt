@@ -1,34 +1,43 @@
 -- What one critical section that cuts a bank leaves of the lists.
 use Rattle.std.proofs.Common.{None, Some, inl, ◌≡◌, ℕ, ◌+◌, ◌≤◌, ◌<◌, Contains, List, [], ◌∷◌, ◌++◌, append-nil, refl, ap, subst, sym, ◌∙◌, length, take, arith}
+use Rattle.std.proofs.lemmas.Bool.Decides.{nat_tests}
 use Rattle.std.specs.List.{filter}
 use Rattle.notes.specs.Lists.{Grows, at}
 use Rattle.disk_core.specs.Faults.{HasRisen}
 use Rattle.tx_events.specs.declared.event.By.{By}
 use Rattle.tx_events.specs.declared.record.Rec.TheVariants as records
+use Rattle.store_pages.specs.Layouts.{subtrans_cut_page, xact_cut_page}
+use Rattle.tx_events.specs.Base.{IsBase}
 use Rattle.tx_events.specs.Events.{is_of}
 use Rattle.tx_events.specs.Horizon.{oldest_xmin}
 use Rattle.tx_events.specs.Ids.{id_before}
+use Rattle.tx_events.proofs.GivenIds.{legal_take}
 use Rattle.tx_events.proofs.Membership.{contains_has, has_contains}
 use Rattle.tx_core.specs.declared.entry.Entry.{Entry}
 use Rattle.tx_core.specs.declared.entry.Kind.TheVariants as kinds
 use Rattle.tx_core.specs.declared.entry.Start.{Start}
 use Rattle.tx_core.specs.CutsFollow.{CutBy, IsTruncated}
+use Rattle.tx_core.specs.EngineInvariant.{EngineInvariant}
 use Rattle.tx_core.specs.Entries.{asks_in, event_of, history}
 use Rattle.tx_core.specs.FaultsRise.{count_in, faults_at, faults_told}
-use Rattle.tx_core.specs.Locks.{IsPageLock, subtrans_lock, subtrans_page, xact_lock, xact_page}
+use Rattle.tx_core.specs.Locks.{IsPageLock, subtrans_lock, xact_lock}
 use Rattle.tx_core.specs.MultiEntries.{multi_of}
 use Rattle.tx_core.specs.OwnMultis.{own_multis}
 use Rattle.tx_core.specs.ProgramOrder.{IsInTurn}
 use Rattle.tx_core.proofs.ChangeLaws.{fault_law}
+use Rattle.tx_core.proofs.Cutting.{truncated_announced}
+use Rattle.tx_core.proofs.Holding.{announced_from, xmin_from}
 use Rattle.tx_core.proofs.LastNumbers.{number_push, number_same}
 use Rattle.tx_core.proofs.Lasting.{flushed_grows, history_grows}
 use Rattle.tx_core.proofs.Quiet.{cut_law}
+use Rattle.tx_core.proofs.Reading.{flushed_appended}
 use Rattle.tx_core.proofs.Rising.{taken_begins}
 use Rattle.engine_parts.specs.declared.session.Session.{Session}
 use Rattle.engine_parts.specs.Answers.{MetFault}
 use Rattle.engine_parts.specs.Holds.{Enters, Knowledge, Leaves}
 use Rattle.engine_parts.specs.Law.{MayKeep}
 use Rattle.engine_parts.specs.Sessions.{IsAt, by_at}
+use Rattle.engine_parts.specs.Stand.{IsSubtransReach, IsXactReach, first_subtrans_page}
 use Rattle.engine_parts.specs.Steps.{WentMulti}
 use Rattle.engine_parts.proofs.Leaving.{stands_left}
 use Rattle.engine_parts.proofs.Stepping.{went_quiet}
@@ -55,13 +64,26 @@ now_told start lock e count es is = let a = number_push count_in (faults_at star
 pub truncated_later : (start : Start) (lists more : List (List Entry)) (oldest multi offset : ℕ) → Grows lists more → IsTruncated start lists oldest multi offset → IsTruncated start more oldest multi offset
 truncated_later start lists more oldest multi offset g t = record { session = t.session; flushed = flushed_grows start lists more t.session (records.Truncate oldest multi offset) g t.flushed }
 
-pub states_cut_by : (start : Start) (lists : List (List Entry)) (bank oldest multi offset : ℕ) → IsTruncated start lists oldest multi offset → CutBy start lists (xact_lock bank) (xact_page oldest)
+-- what a truncation on disk names was announced, so the page at which it cuts is in the life's reach
+pub states_reach : (start : Start) (lists : List (List Entry)) (oldest multi offset : ℕ) → IsBase start.base → EngineInvariant start lists → IsTruncated start lists oldest multi offset → IsXactReach start (xact_cut_page start.base.oldest oldest)
+states_reach start lists oldest multi offset is k t =
+    let a = truncated_announced start lists oldest multi offset t.session k (flushed_appended start lists t.session (records.Truncate oldest multi offset) t.flushed) in
+    let from : start.base.oldest ≤ oldest = announced_from start lists 0 k is oldest a in
+    (omega arith, omega arith)
+
+pub states_cut_by : (start : Start) (lists : List (List Entry)) (bank oldest multi offset : ℕ) → IsTruncated start lists oldest multi offset → CutBy start lists (xact_lock bank) (xact_cut_page start.base.oldest oldest)
 states_cut_by start lists bank oldest multi offset t = record {
   xact = λ other q. (oldest, multi, offset, t, refl);
   offsets = λ other q. absurd (omega (arith, q));
   members = λ other q. absurd (omega (arith, q));
   subtrans = λ other q. absurd (omega (arith, q));
 }
+
+before_rises : (a b : ℕ) → a ≤ b → id_before a ≤ id_before b
+before_rises a b le = grind (arith, nat_tests)
+
+before_near : (n : ℕ) → n ≤ id_before n + 4
+before_near n = grind arith
 
 -- the oldest xmin was so at a place of the history, which stays as others go on
 abbrev pub WasOldestXmin : Start → List (List Entry) → ℕ → Type 0
@@ -72,12 +94,23 @@ xmin_later start lists more xmin g w =
     let t = taken_begins (history lists) (history more) w.0 (history_grows lists more g) w.1 in
     (w.0, t.0, w.2 ∙ ap (oldest_xmin start.base.next) (sym t.1))
 
-pub parents_cut_by : (start : Start) (lists : List (List Entry)) (bank xmin : ℕ) → WasOldestXmin start lists xmin → CutBy start lists (subtrans_lock bank) (subtrans_page (id_before xmin))
+-- it isn't before the next id of the base, so the page at which it cuts is in the life's reach
+pub parents_reach : (start : Start) (lists : List (List Entry)) (xmin : ℕ) → IsBase start.base → EngineInvariant start lists → WasOldestXmin start lists xmin
+    → (first_subtrans_page start ≤ subtrans_cut_page start.base.oldest xmin) × IsSubtransReach start (subtrans_cut_page start.base.oldest xmin)
+parents_reach start lists xmin is k w =
+    let from = xmin_from start lists 0 k is (take w.0 (history lists)) (legal_take start.base (history lists) w.0 k.events.legal) in
+    let up = before_rises start.base.next xmin (subst (λ z. start.base.next ≤ z) (sym w.2) from) in
+    let near = before_near start.base.next in
+    let next = is.next in
+    let oldest = is.oldest in
+    (omega arith, (omega arith, omega arith))
+
+pub parents_cut_by : (start : Start) (lists : List (List Entry)) (bank xmin : ℕ) → WasOldestXmin start lists xmin → CutBy start lists (subtrans_lock bank) (subtrans_cut_page start.base.oldest xmin)
 parents_cut_by start lists bank xmin w = record {
   xact = λ other q. absurd (omega (arith, q));
   offsets = λ other q. absurd (omega (arith, q));
   members = λ other q. absurd (omega (arith, q));
-  subtrans = λ other q. (w.0, w.1, ap (λ z. subtrans_page (id_before z)) w.2);
+  subtrans = λ other q. (w.0, w.1, ap (subtrans_cut_page start.base.oldest) w.2);
 }
 
 pub may_cut : (start : Start) (seen : List (List Entry)) (lock page : ℕ) (by : By) (e : Entry) → IsPageLock start lock → CutBy start seen lock page → e ≡ record { by = by; kind = kinds.Cut page } → IsInTurn start (at seen lock) by → MayKeep start seen lock e

@@ -31,6 +31,8 @@ pub struct MemPages {
     now: BTreeMap<u32, PageBytes>,
     /// Of those that were written or removed since the last sync.
     before: BTreeMap<u32, Option<PageBytes>>,
+    // One that the last sync let go, for the next write.
+    spare: Option<PageBytes>,
     faults: u64,
     past: Note<LinkedList<PageMoment>>,
 }
@@ -68,10 +70,28 @@ fn take_page(map: &mut Map, page: u32) -> Option<PageBytes>
     map.remove(&page)
 }
 
+// A page with these bytes, in the room of the spare one if there is one.
+fn page_of(
+    alloc: Global,
+    spare: &mut Option<PageBytes>,
+    bytes: &[u8; 8192],
+) -> Result<PageBytes, AllocError>
+    ensures { IfOk result (λ p. p ≡ bytes.now) }
+{
+    match spare.take() {
+        Some(mut page) => {
+            page.put(bytes);
+            Ok(page)
+        }
+        None => PageBytes::new(alloc, bytes),
+    }
+}
+
 fn put_page(
     alloc: Global,
     now: &mut Map,
     before: &mut Before,
+    spare: &mut Option<PageBytes>,
     page: u32,
     from: &[u8; 8192],
 ) -> Result<(), AllocError>
@@ -79,7 +99,7 @@ fn put_page(
     ensures err { OnErr result ((q : ℕ) → tree.get nat_cmp now.new q ≡ tree.get nat_cmp now.old q) }
     ensures synced { HaveSame (λ q. tree.get nat_cmp before.old q) (λ q. tree.get nat_cmp now.old q) (λ q. tree.get nat_cmp before.new q) (λ q. tree.get nat_cmp now.new q) }
 {
-    let bytes = PageBytes::new(alloc, from)?;
+    let bytes = page_of(alloc, spare, from)?;
     if before.contains_key(&page) {
         swap_page(now, page, bytes)?;
         return Ok(());
@@ -104,10 +124,13 @@ fn remove_page(now: &mut Map, before: &mut Before, page: u32) -> Result<(), Allo
     note_page(before, page, old)
 }
 
-// Forgets what pages were.
-fn forget_notes(before: &mut Before)
+// Forgets what pages were, and keeps the room of one.
+fn forget_notes(before: &mut Before, spare: &mut Option<PageBytes>)
     ensures { (q : ℕ) → tree.get nat_cmp before.new q ≡ None }
 {
+    if let Some((_, Some(bytes))) = before.pop_first() {
+        *spare = Some(bytes);
+    }
     before.clear();
 }
 
@@ -243,7 +266,14 @@ impl PageDisk for MemPages {
         ensures counted { self.new.faults ≡ counted_by result self.old.faults }
     {
         let past = Note::by(&*self);
-        let outcome = put_page(self.alloc, &mut self.now, &mut self.before, page, from);
+        let outcome = put_page(
+            self.alloc,
+            &mut self.now,
+            &mut self.before,
+            &mut self.spare,
+            page,
+            from,
+        );
         self.past = past;
         count(outcome, &mut self.faults)
     }
@@ -284,7 +314,7 @@ impl PageDisk for MemPages {
     {
         let past = Note::by(&*self);
         self.past = past;
-        forget_notes(&mut self.before);
+        forget_notes(&mut self.before, &mut self.spare);
         Ok(())
     }
 }
@@ -305,6 +335,7 @@ impl MemPages {
             alloc,
             now: BTreeMap::new(alloc),
             before: BTreeMap::new(alloc),
+            spare: None,
             faults: 0,
             past,
         }
@@ -322,7 +353,7 @@ impl MemPages {
                 count(outcome, &mut self.faults)
             }
             Crash::Kept => {
-                forget_notes(&mut self.before);
+                forget_notes(&mut self.before, &mut self.spare);
                 Ok(())
             }
             Crash::Torn => {

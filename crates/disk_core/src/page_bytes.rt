@@ -28,6 +28,13 @@ impl PageBytes {
         })
     }
 
+    // The same in place of what it has.
+    pub fn put(&mut self, bytes: &[u8; 8192])
+        ensures { self.new ≡ bytes.now }
+    {
+        *self.bytes = *bytes;
+    }
+
     pub fn bytes(&self) -> &[u8]
         ensures { result.now ≡ self.now }
     {

@@ -37,12 +37,12 @@ cut_any : (names : ℕ → Rec → Bool) (base : Counters) (recs : List Rec) (k 
     → names k (records.Truncate oldest multi offset) ≡ true → list_any (names k) (first_cut base ∷ recs) ≡ true
 cut_any names base recs k oldest multi offset is t = any_has (names k) (first_cut base ∷ recs) (records.Truncate oldest multi offset) is t
 
-only_xact : Cuts cuts_xact
-only_xact k (records.Truncate oldest multi offset) t = (oldest, multi, offset, refl)
-only_xact k (records.Commit top subs) t = absurd (false≢true t)
-only_xact k (records.Abort top subs) t = absurd (false≢true t)
-only_xact k (records.Multi multi offset members) t = absurd (false≢true t)
-only_xact k (records.Checkpoint number counters) t = absurd (false≢true t)
+only_xact : (first : ℕ) → Cuts (cuts_xact first)
+only_xact first k (records.Truncate oldest multi offset) t = (oldest, multi, offset, refl)
+only_xact first k (records.Commit top subs) t = absurd (false≢true t)
+only_xact first k (records.Abort top subs) t = absurd (false≢true t)
+only_xact first k (records.Multi multi offset members) t = absurd (false≢true t)
+only_xact first k (records.Checkpoint number counters) t = absurd (false≢true t)
 
 only_offset : Cuts cuts_offset
 only_offset k (records.Truncate oldest multi offset) t = (oldest, multi, offset, refl)
@@ -70,16 +70,16 @@ offset_of : Rec → ℕ
 offset_of (records.Truncate oldest multi offset) = offset
 offset_of rec = 0
 
-pub xact_iff : (base : Counters) (recs : List Rec) (k : ℕ) → (list_any (cuts_xact k) (first_cut base ∷ recs) ≡ true) ↔ ((oldest : ℕ) × IsOldest base recs oldest × (k ≡ xact_cutoff oldest))
+pub xact_iff : (base : Counters) (recs : List Rec) (k : ℕ) → (list_any (cuts_xact base.oldest k) (first_cut base ∷ recs) ≡ true) ↔ ((oldest : ℕ) × IsOldest base recs oldest × (k ≡ xact_cutoff base.oldest oldest))
 unfolding id_of
 xact_iff base recs k = (
   λ t.
-      let s = some_cut cuts_xact only_xact base recs k t in
-      (s.0, ⊎_elim (λ f. inl (sym (ap id_of f))) (λ h. inr (s.1, s.2, has_contains recs (records.Truncate s.0 s.1 s.2) h)) s.3.is, sym (eqb-true (xact_cutoff s.0) k s.4)),
+      let s = some_cut (cuts_xact base.oldest) (only_xact base.oldest) base recs k t in
+      (s.0, ⊎_elim (λ f. inl (sym (ap id_of f))) (λ h. inr (s.1, s.2, has_contains recs (records.Truncate s.0 s.1 s.2) h)) s.3.is, sym (eqb-true (xact_cutoff base.oldest s.0) k s.4)),
   λ s. ⊎_elim
-      (λ (e : s.0 ≡ base.oldest). cut_any cuts_xact base recs k base.oldest base.oldest_multi base.oldest_offset (inl refl) (ap (λ n. xact_cutoff base.oldest == n) (s.2 ∙ ap xact_cutoff e) ∙ eqb-refl (xact_cutoff base.oldest)))
+      (λ (e : s.0 ≡ base.oldest). cut_any (cuts_xact base.oldest) base recs k base.oldest base.oldest_multi base.oldest_offset (inl refl) (ap (λ n. xact_cutoff base.oldest base.oldest == n) (s.2 ∙ ap (xact_cutoff base.oldest) e) ∙ eqb-refl (xact_cutoff base.oldest base.oldest)))
       (λ (c : (multi offset : ℕ) × Contains recs (records.Truncate s.0 multi offset)).
-      cut_any cuts_xact base recs k s.0 c.0 c.1 (inr (contains_has recs (records.Truncate s.0 c.0 c.1) c.2)) (ap (λ n. xact_cutoff s.0 == n) s.2 ∙ eqb-refl (xact_cutoff s.0)))
+      cut_any (cuts_xact base.oldest) base recs k s.0 c.0 c.1 (inr (contains_has recs (records.Truncate s.0 c.0 c.1) c.2)) (ap (λ n. xact_cutoff base.oldest s.0 == n) s.2 ∙ eqb-refl (xact_cutoff base.oldest s.0)))
       s.1,
 )
 
@@ -180,12 +180,12 @@ length_front (e ∷ h) (suc place) l = ap suc (length_front h place (omega arith
 module _ (base : Counters) (h : List Event) (m : BTreeMap ℕ ℕ) (place c : ℕ) (f : HasFirsts base h (length h + 1) m) (low : place ≤ length h) where
   pub first_upto : (q : ℕ) → get nat_cmp m c ≡ Some q → (q ≤ place) ↔ IsSubtransCutoff base (take place h) c
   first_upto q e = (
-    λ l. let s = f.sound c q e in (q, (let size = length_front h place low in omega arith), s.1 ∙ ap (λ (t : List Event). subtrans_cutoff (oldest_xmin base.next t)) (sym (take_twice h q place l))),
+    λ l. let s = f.sound c q e in (q, (let size = length_front h place low in omega arith), s.1 ∙ ap (λ (t : List Event). subtrans_cutoff base.oldest (oldest_xmin base.next t)) (sym (take_twice h q place l))),
     λ s.
         let size = length_front h place low in
         let l = s.1 in
         let upto : s.0 ≤ place = omega arith in
-        let is : c ≡ cutoff_at base h s.0 = s.2 ∙ ap (λ (t : List Event). subtrans_cutoff (oldest_xmin base.next t)) (take_twice h s.0 place upto) in
+        let is : c ≡ cutoff_at base h s.0 = s.2 ∙ ap (λ (t : List Event). subtrans_cutoff base.oldest (oldest_xmin base.next t)) (take_twice h s.0 place upto) in
         let a = f.all s.0 (omega arith) in
         let both : Some a.0 ≡ Some q = sym a.2 ∙ ap (get nat_cmp m) (sym is) ∙ e in
         let same : a.0 ≡ q = cc in
@@ -198,7 +198,7 @@ module _ (base : Counters) (h : List Event) (m : BTreeMap ℕ ℕ) (place c : �
       let size = length_front h place low in
       let l = s.1 in
       let upto : s.0 ≤ place = omega arith in
-      let is : c ≡ cutoff_at base h s.0 = s.2 ∙ ap (λ (t : List Event). subtrans_cutoff (oldest_xmin base.next t)) (take_twice h s.0 place upto) in
+      let is : c ≡ cutoff_at base h s.0 = s.2 ∙ ap (λ (t : List Event). subtrans_cutoff base.oldest (oldest_xmin base.next t)) (take_twice h s.0 place upto) in
       let a = f.all s.0 (omega arith) in
       let both : Some a.0 ≡ None = sym a.2 ∙ ap (get nat_cmp m) (sym is) ∙ e in
       absurd cc

@@ -15,10 +15,10 @@ use Rattle.dump_rules.specs.declared.cuts.Cuts.{Cuts}
 abbrev pub first_cut : Counters → Rec
 first_cut base = records.Truncate base.oldest base.oldest_multi base.oldest_offset
 
--- the record cuts a store by this cutoff
-abbrev pub cuts_xact : ℕ → Rec → Bool
-cuts_xact k (records.Truncate oldest multi offset) = xact_cutoff oldest == k
-cuts_xact k rec = false
+-- the record cuts a store by this cutoff, pg_xact in a life that began with this oldest id
+abbrev pub cuts_xact : ℕ → ℕ → Rec → Bool
+cuts_xact first k (records.Truncate oldest multi offset) = xact_cutoff first oldest == k
+cuts_xact first k rec = false
 
 abbrev pub cuts_offset : ℕ → Rec → Bool
 cuts_offset k (records.Truncate oldest multi offset) = offset_cutoff multi == k
@@ -30,7 +30,7 @@ cuts_member k rec = false
 
 -- the cutoff of pg_subtrans at this place of the history
 abbrev pub cutoff_at : Counters → List Event → ℕ → ℕ
-cutoff_at base h p = subtrans_cutoff (oldest_xmin base.next (take p h))
+cutoff_at base h p = subtrans_cutoff base.oldest (oldest_xmin base.next (take p h))
 
 -- each cutoff of a place below this one, with the first of its places
 pub record HasFirsts (base : Counters) (h : List Event) (upto : ℕ) (firsts : BTreeMap ℕ ℕ) : Type 0 where
@@ -38,7 +38,7 @@ pub record HasFirsts (base : Counters) (h : List Event) (upto : ℕ) (firsts : B
   pub all : (p : ℕ) → p < upto → (q : ℕ) × (q ≤ p) × (get nat_cmp firsts (cutoff_at base h p) ≡ Some q)
 
 pub record AreCuts (base : Counters) (recs : List Rec) (h : List Event) (cuts : Cuts) : Type 0 where
-  pub xacts : HasKeys nat_cmp cuts_xact (first_cut base ∷ recs) cuts.xacts
+  pub xacts : HasKeys nat_cmp (cuts_xact base.oldest) (first_cut base ∷ recs) cuts.xacts
   pub parents : HasFirsts base h (length h + 1) cuts.parents
   pub offsets : HasKeys nat_cmp cuts_offset (first_cut base ∷ recs) cuts.offsets
   pub members : HasKeys nat_cmp cuts_member (first_cut base ∷ recs) cuts.members

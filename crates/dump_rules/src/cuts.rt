@@ -12,7 +12,7 @@ ghost use Rattle.dump_rules.specs.Cutting.{AreCuts, HasFirsts, cutoff_at, cuts_m
 use history_places::HistoryPlaces;
 use std::alloc::Global;
 use std::collections::{BTreeMap, BTreeSet};
-use store_pages::{member_page, offset_page, subtrans_page, xact_page};
+use store_pages::{member_page, offset_page, subtrans_cut_page, xact_cut_page};
 use tx_events::{Counters, FullMulti, FullXid, Memory, MultiId, Rec};
 
 /// The cutoffs that the stores may have in a life: of pg_xact and of multixacts those of the oldest numbers that truncations
@@ -26,21 +26,21 @@ pub struct Cuts {
     pub members: BTreeSet<u32>,
 }
 
-/// The page of the oldest id.
-fn xact_cutoff(oldest: FullXid) -> u32
-    ensures { result ≡ xact_cutoff oldest }
+/// The page by which a life that began with the first one cuts pg_xact to this oldest id.
+fn xact_cutoff(first: FullXid, oldest: FullXid) -> u32
+    ensures { result ≡ xact_cutoff first oldest }
 {
-    xact_page(oldest.low())
+    (xact_cut_page(first, oldest) % 131_072) as u32
 }
 
-/// The page of the id before an oldest xmin.
-fn subtrans_cutoff(xmin: FullXid) -> u32
-    ensures { result ≡ subtrans_cutoff xmin }
+/// The page by which it cuts pg_subtrans to this oldest xmin.
+fn subtrans_cutoff(first: FullXid, xmin: FullXid) -> u32
+    ensures { result ≡ subtrans_cutoff first xmin }
 {
     if xmin.number() == 0 {
         return 0;
     }
-    subtrans_page(xmin.retreat().low())
+    (subtrans_cut_page(first, xmin) % 2_097_152) as u32
 }
 
 /// The page of the multixact before the oldest one, page 0 where there is none.
@@ -72,15 +72,15 @@ fn put(cutoffs: &mut BTreeSet<u32>, cutoff: u32) -> Result<(), Memory>
     Ok(())
 }
 
-fn note_xact(xacts: &mut BTreeSet<u32>, rec: &Rec) -> Result<(), Memory>
-    ensures { OnOk result ((recs : List Rec) → HasKeys nat_cmp cuts_xact recs xacts.old → HasKeys nat_cmp cuts_xact (recs ++ rec.now ∷ []) xacts.new) }
+fn note_xact(xacts: &mut BTreeSet<u32>, first: FullXid, rec: &Rec) -> Result<(), Memory>
+    ensures { OnOk result ((recs : List Rec) → HasKeys nat_cmp (cuts_xact first) recs xacts.old → HasKeys nat_cmp (cuts_xact first) (recs ++ rec.now ∷ []) xacts.new) }
 {
     match rec {
         Rec::Commit { .. } => Ok(()),
         Rec::Abort { .. } => Ok(()),
         Rec::Multi { .. } => Ok(()),
         Rec::Checkpoint { .. } => Ok(()),
-        Rec::Truncate { oldest, .. } => put(xacts, xact_cutoff(*oldest)),
+        Rec::Truncate { oldest, .. } => put(xacts, xact_cutoff(first, *oldest)),
     }
 }
 
@@ -109,12 +109,12 @@ fn note_member(members: &mut BTreeSet<u32>, rec: &Rec) -> Result<(), Memory>
 }
 
 fn xacts_of(alloc: Global, base: &Counters, recs: &[Rec]) -> Result<BTreeSet<u32>, Memory>
-    ensures { IfOk result (λ xacts. HasKeys nat_cmp cuts_xact (first_cut base.now ∷ recs.now) xacts) }
+    ensures { IfOk result (λ xacts. HasKeys nat_cmp (cuts_xact base.now.oldest) (first_cut base.now ∷ recs.now) xacts) }
 {
     let mut xacts = BTreeSet::new(alloc);
-    put(&mut xacts, xact_cutoff(base.oldest))?;
+    put(&mut xacts, xact_cutoff(base.oldest, base.oldest))?;
     for rec in recs {
-        note_xact(&mut xacts, rec)?;
+        note_xact(&mut xacts, base.oldest, rec)?;
     }
     Ok(xacts)
 }
@@ -152,15 +152,28 @@ fn note_first(firsts: &mut BTreeMap<u32, u64>, cutoff: u32, place: u64) -> Resul
     Ok(())
 }
 
-fn firsts_of(alloc: Global, places: &HistoryPlaces) -> Result<BTreeMap<u32, u64>, Memory>
+fn firsts_of(
+    alloc: Global,
+    base: &Counters,
+    places: &HistoryPlaces,
+) -> Result<BTreeMap<u32, u64>, Memory>
+    requires { base.now ≡ places.now.base }
     ensures { IfOk result (λ firsts. HasFirsts places.now.base places.now.events (length places.now.events + 1) firsts) }
 {
     let mut firsts = BTreeMap::new(alloc);
     let last = places.replay().events().len() as u64;
     for place in 0..last {
-        note_first(&mut firsts, subtrans_cutoff(places.xmin_at(place)), place)?;
+        note_first(
+            &mut firsts,
+            subtrans_cutoff(base.oldest, places.xmin_at(place)),
+            place,
+        )?;
     }
-    note_first(&mut firsts, subtrans_cutoff(places.xmin_at(last)), last)?;
+    note_first(
+        &mut firsts,
+        subtrans_cutoff(base.oldest, places.xmin_at(last)),
+        last,
+    )?;
     Ok(firsts)
 }
 
@@ -176,7 +189,7 @@ pub fn cuts_of(
     ensures { IfOk result (λ cuts. AreCuts base.now recs.now places.now.events cuts) }
 {
     let xacts = xacts_of(alloc, base, recs)?;
-    let parents = firsts_of(alloc, places)?;
+    let parents = firsts_of(alloc, base, places)?;
     let offsets = offsets_of(alloc, base, recs)?;
     let members = members_of(alloc, base, recs)?;
     Ok(Cuts {

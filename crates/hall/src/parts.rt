@@ -31,8 +31,8 @@ pub(crate) fn wrap<V, E>(values: &mut Vec<V>, slots: &mut Vec<Held<V, E>>)
     ensures items { map (λ h. h.value) slots.new.items ≡ map Some values.old.items }
     ensures left { (values.new.items ≡ []) × (vec_capacity values.new ≡ vec_capacity values.old) }
 {
-    while values.len() > 0 {
-        let value = values.remove(0);
+    values.reverse();
+    while let Some(value) = values.pop() {
         slots.push_reserved(Held::new(Some(value), None));
     }
 }

@@ -1,5 +1,5 @@
 -- The cutoffs of banks are those of the life.
-use Rattle.std.proofs.Common.{◌≡◌, ℕ, Some, None, ◌%◌, ◌^◌, ◌<◌, List, [], ◌∷◌, Bool, Contains, IsTrue, inl, inr, map, ⊎_elim, refl, sym, ap, ◌∙◌, arith, take}
+use Rattle.std.proofs.Common.{◌≡◌, ℕ, Some, None, ◌+◌, ◌%◌, ◌^◌, ◌<◌, ◌≤◌, List, [], ◌∷◌, Bool, Contains, IsTrue, inl, inr, map, ⊎_elim, refl, sym, ap, ◌∙◌, arith, take}
 use Rattle.notes.specs.Lists.{at}
 use Rattle.tx_events.specs.declared.event.By.{By}
 use Rattle.tx_events.specs.declared.record.Rec.{Rec}
@@ -10,7 +10,7 @@ use Rattle.tx_events.specs.Base.{IsBase}
 use Rattle.tx_events.specs.Horizon.{oldest_xmin}
 use Rattle.tx_events.specs.Ids.{id_before}
 use Rattle.tx_events.proofs.Membership.{Has, has_contains, place_has}
-use Rattle.store_pages.specs.Layouts.{member_page_of, multi_before, word_page_of, xact_cutoff, xact_page_of}
+use Rattle.store_pages.specs.Layouts.{member_page_of, multi_before, subtrans_cut_page, subtrans_cutoff, word_page_of, xact_cut_page, xact_cutoff, xact_page_of}
 use Rattle.tx_events.specs.Pages.{subtrans_page, xact_page}
 use Rattle.tx_model.specs.declared.report.DumpOf.TheVariants as dumps
 use Rattle.life_law.specs.Dumps.{IsMemberCutoff, IsOffsetCutoff, IsSubtransCutoff, IsXactCutoff, MayDump}
@@ -22,12 +22,13 @@ use Rattle.tx_core.specs.CutsFollow.{IsTruncated}
 use Rattle.tx_core.specs.EngineInvariant.{EngineInvariant}
 use Rattle.tx_core.specs.Entries.{history, records_of}
 use Rattle.tx_core.specs.Locks.{member_page_in_full, members_lock, offset_page, offsets_lock, subtrans_lock, xact_lock}
-use Rattle.tx_core.proofs.Cutting.{cut_says}
+use Rattle.tx_core.proofs.Cutting.{before_upto, cut_says}
 use Rattle.engine_parts.specs.Stand.{IsCutoff, first_subtrans_page, first_xact_page}
 use Rattle.engine_parts.specs.Shelf.{IsCutoffOf}
 use Rattle.engine_parts.specs.Shelves.{member_shelf, offset_shelf}
 use Rattle.engine_host.proofs.Hosting.{xmin_first}
 use Rattle.bank_sections.specs.Sections.{IsSubtransCut, IsXactCut}
+use Rattle.bank_sections.proofs.Nearing.{stop_tight}
 use Rattle.multi_banks.specs.Sections.{IsMemberCut, IsOffsetCut}
 use Rattle.session_promise.specs.Promise.{recs_of}
 use Rattle.host_calls.specs.Dumps.{HasNoCut, IsCutTold, refusal_by}
@@ -36,8 +37,17 @@ use Rattle.host_calls.specs.Dumps.{HasNoCut, IsCutTold, refusal_by}
 xact_stored : (oldest cutoff : ℕ) → cutoff ≡ xact_page oldest % 2 ^ 17 → cutoff ≡ xact_page_of oldest
 xact_stored oldest cutoff e = omega (arith, e)
 
-subtrans_stored : (id cutoff : ℕ) → cutoff ≡ subtrans_page id % 2 ^ 21 → cutoff ≡ word_page_of id
-subtrans_stored id cutoff e = omega (arith, e)
+-- the first cutoffs are those of the oldest id and of the next one
+xact_begins : (oldest cutoff : ℕ) → cutoff ≡ xact_page oldest % 2 ^ 17 → cutoff ≡ xact_cutoff oldest oldest
+xact_begins oldest cutoff e =
+    let same : xact_cut_page oldest oldest ≡ xact_page oldest = omega arith in
+    e ∙ ap (λ n. n % 2 ^ 17) (sym same)
+
+subtrans_begins : (oldest next cutoff : ℕ) → next + 2999990 ≤ oldest + 2 ^ 31 → cutoff ≡ subtrans_page (id_before next) % 2 ^ 21 → cutoff ≡ subtrans_cutoff oldest next
+subtrans_begins oldest next cutoff near e =
+    let back = before_upto next in
+    let same : subtrans_cut_page oldest next ≡ subtrans_page (id_before next) = omega arith in
+    e ∙ ap (λ n. n % 2 ^ 21) (sym same)
 
 has_mapped : (xs : List (By × Rec)) (by : By) (rec : Rec) → Has xs (by, rec) → Has (map (λ (z : By × Rec). z.1) xs) rec
 has_mapped [] by rec k = absurd k
@@ -52,10 +62,10 @@ truncated_among start lists oldest multi offset t =
 pub xact_told : (start : Start) (lists : List (List Entry)) (bank cutoff : ℕ) → EngineInvariant start lists → IsCutoff (first_xact_page start) (2 ^ 17) (at lists (xact_lock bank)) cutoff → IsXactCutoff start.base (recs_of lists) cutoff
 xact_told start lists bank cutoff k c =
     ⊎_elim
-    (λ (first : c.0 ≡ first_xact_page start). (start.base.oldest, inl refl, xact_stored start.base.oldest cutoff (c.1 ∙ ap (λ n. n % 2 ^ 17) first)))
+    (λ (first : c.0 ≡ first_xact_page start). (start.base.oldest, inl refl, xact_begins start.base.oldest cutoff (c.1 ∙ ap (λ n. n % 2 ^ 17) first)))
     (λ z.
     let t = (cut_says start lists (xact_lock bank) c.0 z.0 k z.1 z.2).xact bank refl in
-    (t.0, inr (t.1, t.2, truncated_among start lists t.0 t.1 t.2 t.3), xact_stored t.0 cutoff (c.1 ∙ ap (λ n. n % 2 ^ 17) t.4)))
+    (t.0, inr (t.1, t.2, truncated_among start lists t.0 t.1 t.2 t.3), c.1 ∙ ap (λ n. n % 2 ^ 17) t.4))
     c.3
 
 pub subtrans_told : (start : Start) (lists : List (List Entry)) (bank cutoff : ℕ) → IsBase start.base → EngineInvariant start lists → IsCutoff (first_subtrans_page start) (2 ^ 21) (at lists (subtrans_lock bank)) cutoff → IsSubtransCutoff start.base (history lists) cutoff
@@ -63,10 +73,12 @@ subtrans_told start lists bank cutoff base k c =
     ⊎_elim
     (λ (first : c.0 ≡ first_subtrans_page start).
     let xmin : oldest_xmin start.base.next [] ≡ start.base.next = xmin_first start.base.next base.full in
-    (0, omega arith, subtrans_stored (id_before (oldest_xmin start.base.next [])) cutoff (c.1 ∙ (ap (λ n. n % 2 ^ 21) first ∙ ap (λ n. subtrans_page (id_before n) % 2 ^ 21) (sym xmin)))))
+    let near = stop_tight start.base.oldest in
+    let next = base.next in
+    (0, omega arith, subtrans_begins start.base.oldest (oldest_xmin start.base.next []) cutoff (omega arith) (c.1 ∙ (ap (λ n. n % 2 ^ 21) first ∙ ap (λ n. subtrans_page (id_before n) % 2 ^ 21) (sym xmin)))))
     (λ z.
     let t = (cut_says start lists (subtrans_lock bank) c.0 z.0 k z.1 z.2).subtrans bank refl in
-    (t.0, t.1, subtrans_stored (id_before (oldest_xmin start.base.next (take t.0 (history lists)))) cutoff (c.1 ∙ ap (λ n. n % 2 ^ 21) t.2)))
+    (t.0, t.1, c.1 ∙ ap (λ n. n % 2 ^ 21) t.2))
     c.3
 
 -- of offsets, and of members
@@ -107,7 +119,7 @@ subtrans_refused start lists page size bank (refused.Cut cutoff) base k here low
 subtrans_refused start lists page size bank refused.DiskFault base k here low cut = (low, here)
 
 -- where no entry cut the bank, its cutoff is the one with which the life began
-first_told : (start : Start) (lists : List (List Entry)) (bank cutoff : ℕ) → IsCutoff (first_xact_page start) (2 ^ 17) (at lists (xact_lock bank)) cutoff → HasNoCut (at lists (xact_lock bank)) → cutoff ≡ xact_cutoff start.base.oldest
+first_told : (start : Start) (lists : List (List Entry)) (bank cutoff : ℕ) → IsCutoff (first_xact_page start) (2 ^ 17) (at lists (xact_lock bank)) cutoff → HasNoCut (at lists (xact_lock bank)) → cutoff ≡ xact_page_of start.base.oldest
 first_told start lists bank cutoff c none =
     ⊎_elim
     (λ (first : c.0 ≡ first_xact_page start). xact_stored start.base.oldest cutoff (c.1 ∙ ap (λ n. n % 2 ^ 17) first))

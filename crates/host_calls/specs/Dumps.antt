@@ -11,7 +11,7 @@ use Rattle.tx_model.specs.declared.reply.Reply.{Reply}
 use Rattle.tx_model.specs.declared.reply.Reply.TheVariants as replies
 use Rattle.tx_model.specs.declared.report.DumpOf.{DumpOf}
 use Rattle.tx_model.specs.declared.report.DumpOf.TheVariants as dumps
-use Rattle.store_pages.specs.Layouts.{xact_cutoff}
+use Rattle.store_pages.specs.Layouts.{xact_page_of}
 use Rattle.life_law.specs.Dumps.{MayDump}
 use Rattle.slru_bank.specs.declared.refusal.BankRefusal.{BankRefusal}
 use Rattle.slru_bank.specs.declared.refusal.BankRefusal.TheVariants as refused
@@ -66,7 +66,7 @@ HasNoCut es = (e : Entry) → Contains es e → cut_in e.kind ≡ None
 abbrev pub IsCutTold : Bool → Start → List (List Entry) → DumpOf → Reply → Type 0
 IsCutTold tells start lists (dumps.Xact page) (replies.Cut cutoff) =
     IsXactCut start lists (page % start.banks) page cutoff
-    × (HasNoCut (list_at lists (xact_lock (page % start.banks))) → cutoff ≡ xact_cutoff start.base.oldest)
+    × (HasNoCut (list_at lists (xact_lock (page % start.banks))) → cutoff ≡ xact_page_of start.base.oldest)
 IsCutTold tells start lists (dumps.Subtrans page) (replies.Cut cutoff) =
     IsSubtransCut start lists (page % start.banks) page cutoff
 IsCutTold tells start lists (dumps.Offsets page) (replies.Cut cutoff) =

@@ -2,7 +2,6 @@
 ghost use Rattle.std.specs.Prelude.{◌≡◌, ℕ, ◌+◌, ◌%◌, ◌≤◌, Err, IsTrue, OnErr, OnOk, length};
 ghost use Rattle.hall.specs.Calls.{start_of, view};
 ghost use Rattle.slru_bank.specs.declared.refusal.BankRefusal.TheVariants.{Cut, DiskFault};
-ghost use Rattle.store_pages.specs.Layouts.{xact_cutoff};
 ghost use Rattle.tx_core.specs.EngineInvariant.{EngineInvariant};
 ghost use Rattle.tx_core.specs.Locks.{members_lock, offsets_lock, subtrans_lock, xact_lock};
 ghost use Rattle.bank_sections.specs.Sections.{IsSubtransCut, IsXactCut};

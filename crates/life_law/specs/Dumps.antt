@@ -31,12 +31,14 @@ IsOldest base recs oldest =
 
 -- pg_xact is kept from the page of an oldest id on
 abbrev pub IsXactCutoff : Counters → List Rec → ℕ → Type 0
-IsXactCutoff base recs cutoff = (oldest : ℕ) × IsOldest base recs oldest × (cutoff ≡ xact_cutoff oldest)
+IsXactCutoff base recs cutoff =
+    (oldest : ℕ) × IsOldest base recs oldest × (cutoff ≡ xact_cutoff base.oldest oldest)
 
 -- and pg_subtrans from that of the id before an oldest xmin on, one at some place of the history
 abbrev pub IsSubtransCutoff : Counters → List Event → ℕ → Type 0
 IsSubtransCutoff base h cutoff =
-    (place : ℕ) × (place ≤ length h) × (cutoff ≡ subtrans_cutoff (oldest_xmin base.next (take place h)))
+    (place : ℕ) × (place ≤ length h)
+    × (cutoff ≡ subtrans_cutoff base.oldest (oldest_xmin base.next (take place h)))
 
 -- the oldest multixact with which the life begins, or one that a truncation tells; and the same of offsets
 abbrev pub IsOldestMulti : Counters → List Rec → ℕ → Type 0

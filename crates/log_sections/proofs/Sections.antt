@@ -46,7 +46,7 @@ use Rattle.engine_parts.proofs.Leaving.{asks_nothing}
 use Rattle.engine_parts.proofs.Logging.{failed_more, recs_same, up_more, failed_here}
 use Rattle.tx_core.specs.StaysDown.{IsUp, is_put_down}
 use Rattle.tx_core.specs.declared.entry.LogCall.TheVariants as calls
-use Rattle.log_sections.specs.LogSections.{FlushRefused, IsAppendRefused, IsCommitOf, IsFlushRefused, IsRefusalOf}
+use Rattle.log_sections.specs.LogSections.{FlushRefused, IsAppendRefused, IsCommitOf, IsFlushRefused, IsRefusalOf, StandsUnder}
 
 abbrev pub append_entry : By → Rec → Entry
 append_entry by rec = record { by = by; kind = kinds.Append rec }
@@ -70,18 +70,21 @@ may_append_commit start v n s rec e a clear none r unasked base up is =
     (a.clear (ap may_be_recorded clear)) (λ id k. a.unaborted (ap may_be_aborted clear) id (subst (λ (l : List ℕ). Contains l id) (sym r.ids) k)) (subst (StaysBase start v.seen) r.is base) up lists k knows inside whole (a.turns log_lock))
 
 -- an appended record stands under its number
-pub numbered : (start : Start) (u w : Knowledge) (n number : ℕ) (by : By) (rec : Rec) → by.session ≡ n → log_lock < length u.seen → number ≡ start.from + length (recs_in (at u.seen log_lock)) → Leaves start log_lock (record { by = by; kind = kinds.Append rec }) u w → IsAppendedAt start w.seen n rec number
-numbered start u w n number by rec own inside is l =
-    let e : Entry = record { by = by; kind = kinds.Append rec } in
+pub stands_under : (start : Start) (u w : Knowledge) (number : ℕ) (by : By) (rec : Rec) → log_lock < length u.seen → number ≡ start.from + length (recs_in (at u.seen log_lock)) → Leaves start log_lock (append_entry by rec) u w → StandsUnder start w.seen by rec number
+stands_under start u w number by rec inside is l =
+    let e : Entry = append_entry by rec in
     let es = at u.seen log_lock in
     let grown : at w.seen log_lock ≡ es ++ e ∷ [] = ap (λ (z : List (List Entry)). at z log_lock) l.seen ∙ at_here u.seen log_lock e inside in
     record {
       place = length (records_in es);
-      by = by;
-      own = own;
       stands = ap (λ (t : List Entry). slice_get (records_in t) (length (records_in es))) grown ∙ (ap (λ (t : List (By × Rec)). slice_get t (length (records_in es))) (filter_map-append appended es (e ∷ [])) ∙ last_at (records_in es) (by, rec));
       numbered = is ∙ ap (λ (k : ℕ). start.from + k) (length-map (records_in es) (λ (r : By × Rec). r.1));
     }
+
+pub numbered : (start : Start) (u w : Knowledge) (n number : ℕ) (by : By) (rec : Rec) → by.session ≡ n → log_lock < length u.seen → number ≡ start.from + length (recs_in (at u.seen log_lock)) → Leaves start log_lock (append_entry by rec) u w → IsAppendedAt start w.seen n rec number
+numbered start u w n number by rec own inside is l =
+    let i = stands_under start u w number by rec inside is l in
+    record { place = i.place; by = by; own = own; stands = i.stands; numbered = i.numbered }
 
 -- the session's commit is pending under the record's number
 pub call_recorded : (start : Start) (v u w : Knowledge) (n n' number : ℕ) (s s' : Session) (rec : Rec) → MayCall start v n s → s.stage ≡ stages.Clear → IsCommitOf s.levels.open_ids.items rec → Learns v u → log_lock < length v.seen

@@ -1,5 +1,5 @@
 -- What the critical sections of the log need, and leave.
-use Rattle.std.specs.Prelude.{◌≡◌, ◌⊎◌, ℕ, ◌<◌, ◌≤◌, List, Result, Ok, Err}
+use Rattle.std.specs.Prelude.{◌≡◌, ◌⊎◌, ℕ, ◌+◌, ◌<◌, ◌≤◌, List, Some, Result, Ok, Err, slice_get}
 use Rattle.notes.specs.Lists.{at}
 use Rattle.tx_events.specs.declared.event.By.{By}
 use Rattle.tx_events.specs.declared.record.Rec.{Rec}
@@ -9,7 +9,7 @@ use Rattle.tx_events.specs.declared.refusal.Refusal.TheVariants as refusals
 use Rattle.tx_core.specs.declared.entry.Entry.{Entry}
 use Rattle.tx_core.specs.declared.entry.Kind.TheVariants as kinds
 use Rattle.tx_core.specs.declared.entry.Start.{Start}
-use Rattle.tx_core.specs.Entries.{Stands}
+use Rattle.tx_core.specs.Entries.{Stands, records_of}
 use Rattle.tx_core.specs.Laws.{StaysBase}
 use Rattle.tx_core.specs.Locks.{log_lock}
 use Rattle.tx_core.specs.RecordsFollow.{IsMultiAnnounced, IsOldestAnnounced}
@@ -66,11 +66,11 @@ pub record IsTruncationOf (start : Start) (lists : List (List Entry)) (rec : Rec
   pub id : IsOldestAnnounced start lists oldest
   pub first : IsMultiAnnounced start lists multi offset
 
--- A truncation's record stands, or the log refused it: it can always take it next.
-abbrev pub TakesTruncation : Start → List (List Entry) → Rec → Result Appended Refusal → Type 0
-TakesTruncation start lists rec (Ok (came.At number)) = Unit {0}
-TakesTruncation start lists rec (Ok came.NoBase) = ⊥
-TakesTruncation start lists rec (Err r) = IsAppendRefused start lists r
+-- the command's record stands under this number
+pub record StandsUnder (start : Start) (lists : List (List Entry)) (by : By) (rec : Rec) (number : ℕ) : Type 0 where
+  pub place : ℕ
+  pub stands : slice_get (records_of lists) place ≡ Some (by, rec)
+  pub numbered : number ≡ start.from + place
 
 -- the critical section: its entry is the record that was appended, or a look
 abbrev pub AppendSection : Start → By → Rec → Knowledge → Knowledge → Result Appended Refusal → Type 0
@@ -78,6 +78,12 @@ AppendSection start by rec v w (Ok (came.At number)) =
     Section start log_lock (record { by = by; kind = kinds.Append rec }) v w
 AppendSection start by rec v w (Ok came.NoBase) = Section start log_lock (look_of by) v w
 AppendSection start by rec v w (Err r) = Section start log_lock (look_of by) v w
+
+-- so that of a truncation's record, which the log can always take next
+abbrev pub TruncationSection : Start → By → Rec → Knowledge → Knowledge → Result ℕ Refusal → Type 0
+TruncationSection start by rec v w (Ok number) =
+    Section start log_lock (record { by = by; kind = kinds.Append rec }) v w
+TruncationSection start by rec v w (Err r) = Section start log_lock (look_of by) v w
 
 -- a flush reached past this number
 abbrev pub IsFlushedPast : List (List Entry) → ℕ → Type 0

@@ -1,10 +1,8 @@
 //! The record of a truncation is appended.
-ghost use Rattle.std.specs.Prelude.{◌≡◌, ℕ, ◌+◌, ◌*◌, ◌++◌, ◌∷◌, []};
+ghost use Rattle.std.specs.Prelude.{◌≡◌, ◌+◌, ◌*◌, ◌++◌, ◌∷◌, [], IfErr, IfOk};
 ghost use Rattle.hall.specs.declared.view.Stage.TheVariants.{Inside};
 ghost use Rattle.hall.specs.Calls.{view, IsOf, start_of};
 ghost use Rattle.notes.specs.Lists.{at};
-ghost use Rattle.tx_events.specs.declared.record.Rec.TheVariants as records;
-ghost use Rattle.tx_events.specs.Ids.{IsFullMulti, IsXidNumber};
 ghost use Rattle.tx_core.specs.declared.entry.Kind.TheVariants as kinds;
 ghost use Rattle.tx_core.specs.Laws.{StaysBase};
 ghost use Rattle.tx_core.specs.Locks.{log_lock};
@@ -13,9 +11,9 @@ ghost use Rattle.engine_parts.specs.Holds.{Leaves};
 ghost use Rattle.engine_parts.specs.Parts.{IsLogOf};
 ghost use Rattle.engine_parts.specs.Sessions.{IsAt, IsReady, MayCall, by_at};
 ghost use Rattle.engine_parts.specs.Steps.{WentOn};
-ghost use Rattle.log_sections.specs.LogSections.{AppendSection, IsTruncationOf, TakesTruncation};
+ghost use Rattle.log_sections.specs.LogSections.{IsAppendRefused, IsTruncationOf, StandsUnder, TruncationSection};
 
-use crate::appending::Appended;
+use crate::forms::tell_forms;
 use crate::refusals::refusal_of;
 use disk_core::{LogDisk, PageDisk};
 use engine_parts::{
@@ -57,23 +55,9 @@ fn leave_truncated<L: LogDisk, P: PageDisk>(
     leave_log(hall, caller, log, entry);
 }
 
-/// What a truncation's record names are numbers of an id and of a multixact.
-fn tell_forms(rec: &Rec)
-    ensures { (oldest : ℕ) → (multi : ℕ) → (offset : ℕ) → rec.now ≡ records.Truncate oldest multi offset
-        → IsXidNumber oldest × IsFullMulti multi }
-{
-    match rec {
-        Rec::Truncate { oldest, multi, .. } => {
-            let _oldest = oldest.number();
-            let _multi = multi.number();
-        }
-        _ => {}
-    }
-}
-
 /// Appends the record of a truncation (`WriteTruncateXlogRec` of `src/backend/access/transam/clog.c`): one critical
 /// section of the log. It names an oldest id and an oldest multixact that were announced, so the log can take it,
-/// whatever records it has. The session stands as before.
+/// whatever records it has. Answers the record's number. The session stands as before.
 ///
 /// Refused with `LogDown`, or where the log isn't down with `Full` or `Memory`; then nothing was appended.
 pub fn append_truncation<R: Passing, L: LogDisk, P: PageDisk>(
@@ -81,18 +65,20 @@ pub fn append_truncation<R: Passing, L: LogDisk, P: PageDisk>(
     hall: &Hall<EngineLaw<L, P>>,
     caller: &mut Caller<L, P>,
     rec: &Rec,
-) -> Result<Appended, Refusal>
+) -> Result<u64, Refusal>
     requires own { IsOf hall.now caller.old.pass }
     requires laid { hall.now.cells ≡ 3 + 4 * (start_of hall.now).banks }
     requires may { MayCall (start_of hall.now) (view caller.old.pass) caller.old.number caller.old.session }
     requires record { IsTruncationOf (start_of hall.now) (view caller.old.pass).seen rec.now }
-    ensures section { AppendSection (start_of hall.now)
+    ensures section { TruncationSection (start_of hall.now)
         (by_at caller.old.number caller.old.session.levels.commands) rec.now (view caller.old.pass)
         (view caller.new.pass) result }
+    ensures stands { IfOk result (StandsUnder (start_of hall.now) (view caller.new.pass).seen
+        (by_at caller.old.number caller.old.session.levels.commands) rec.now) }
+    ensures refused { IfErr result (IsAppendRefused (start_of hall.now) (view caller.new.pass).seen) }
     ensures own { IsOf hall.now caller.new.pass }
     ensures may { MayCall (start_of hall.now) (view caller.new.pass) caller.new.number caller.new.session }
     ensures went { WentOn caller.old.number [] (view caller.old.pass).seen (view caller.new.pass).seen }
-    ensures takes { TakesTruncation (start_of hall.now) (view caller.new.pass).seen rec.now result }
     ensures same { (caller.new.session ≡ caller.old.session) × (caller.new.number ≡ caller.old.number) }
 {
     tell_forms(rec);
@@ -101,7 +87,7 @@ pub fn append_truncation<R: Passing, L: LogDisk, P: PageDisk>(
     match log.append(rec) {
         Ok(number) => {
             leave_truncated(hall, caller, held, rec);
-            Ok(Appended::At { number })
+            Ok(number)
         }
         Err(refusal) => {
             leave_looked(hall, caller, 0, Part::Log(held));

@@ -23,19 +23,17 @@ use Rattle.tx_core.proofs.Lasting.{history_grows}
 use Rattle.tx_core.proofs.StopLimits.{found_announced}
 use Rattle.tx_events.specs.declared.refusal.Refusal.{Refusal}
 use Rattle.tx_core.specs.declared.entry.Kind.{Kind}
-use Rattle.tx_core.specs.declared.entry.Kind.TheVariants as kinds
-use Rattle.tx_core.specs.Locks.{log_lock, multi_lock}
+use Rattle.tx_core.specs.Locks.{multi_lock}
 use Rattle.engine_parts.specs.declared.session.Making.{Making}
 use Rattle.engine_parts.specs.declared.session.Session.{Session}
 use Rattle.engine_parts.specs.Adding.{Adds, IsOfMulti, IsPlain, IsToldBy, IsTruncation, MayAdd, MayFault}
-use Rattle.engine_parts.specs.Faults.{look_of}
 use Rattle.engine_parts.specs.Holds.{Knowledge, Section}
 use Rattle.engine_parts.specs.Sessions.{IsAt, by_at, look_by}
 use Rattle.engine_parts.proofs.Adding.{may_wider, plain_wider}
 use Rattle.engine_parts.proofs.Sectioning.{shared_adds}
 use Rattle.log_sections.specs.declared.appending.Appended.{Appended}
 use Rattle.log_sections.specs.declared.appending.Appended.TheVariants as came
-use Rattle.log_sections.specs.LogSections.{AppendSection, IsTruncationOf}
+use Rattle.log_sections.specs.LogSections.{IsTruncationOf}
 use Rattle.log_sections.specs.MultiRecords.{IsMakingRecord, TakesMulti}
 
 -- the oldest multixact and its offset are those with which the life began, or were announced together
@@ -106,12 +104,6 @@ told_wider result = may_wider IsOfMulti IsOfMulti ⊥ ⊥ (λ r. ⊥) (IsToldBy 
 pub fault_wider : {T : Type 0} (result : Result T Refusal) (lock : ℕ) (kind : Kind) → MayFault result lock kind → MayAdd IsOfMulti ⊥ (IsToldBy result) lock kind
 fault_wider (Ok x) lock kind m = plain_wider IsOfMulti ⊥ (λ r. ⊥) lock kind m
 fault_wider (Err told) lock kind m = may_wider (λ rec. ⊥) IsOfMulti ⊥ ⊥ (λ r. told ≡ r) (λ r. told ≡ r) (λ rec m. absurd m) (λ m. absurd m) (λ r is. is) lock kind m
-
--- a record, or none
-pub append_adds : (start : Start) (v w : Knowledge) (by : By) (s : Session) (rec : Rec) (result : Result Appended Refusal) → IsAt start v by.session s → AppendSection start by rec v w result → Adds by (MayAdd (λ r. r ≡ rec) ⊥ (λ r. ⊥)) v.seen w.seen
-append_adds start v w by s rec (Ok (came.At number)) a section = shared_adds start v w log_lock (record { by = by; kind = kinds.Append rec }) by s (MayAdd (λ r. r ≡ rec) ⊥ (λ r. ⊥)) (omega arith) a section refl refl
-append_adds start v w by s rec (Ok came.NoBase) a section = shared_adds start v w log_lock (look_of by) by s (MayAdd (λ r. r ≡ rec) ⊥ (λ r. ⊥)) (omega arith) a section refl tt
-append_adds start v w by s rec (Err r) a section = shared_adds start v w log_lock (look_of by) by s (MayAdd (λ r. r ≡ rec) ⊥ (λ r. ⊥)) (omega arith) a section refl tt
 
 -- where the log couldn't take the record, the session stands as before
 pub unlogged_same : (start : Start) (lists : List (List Entry)) (rec : Rec) (s s' : Session) (appended : Appended) → appended ≡ came.NoBase → TakesMulti start lists rec s s' (Ok appended) → s' ≡ s

@@ -1,5 +1,5 @@
 -- Behind a truncation's record the log takes that of the multixact that a session makes.
-use Rattle.std.proofs.Common.{List, None, Ok, Option, Some, ap, arith, length, max, subst, sym, ℕ, ◌∙◌, ◌<◌, ◌≡◌, ◌≤◌}
+use Rattle.std.proofs.Common.{List, None, Ok, Err, OnOk, Option, Result, Some, ap, arith, length, max, subst, sym, ℕ, ◌∙◌, ◌<◌, ◌≡◌, ◌≤◌}
 use Rattle.notes.specs.Lists.{Grows, at}
 use Rattle.tx_events.specs.Ids.{IsFullMulti}
 use Rattle.tx_events.specs.declared.event.By.{By}
@@ -7,6 +7,7 @@ use Rattle.tx_events.specs.declared.multi.Member.{Member}
 use Rattle.tx_events.specs.declared.record.Counters.{Counters}
 use Rattle.tx_events.specs.declared.record.Rec.{Rec}
 use Rattle.tx_events.specs.declared.record.Rec.TheVariants as records
+use Rattle.tx_events.specs.declared.refusal.Refusal.{Refusal}
 use Rattle.tx_events.specs.After.{after_record}
 use Rattle.tx_events.specs.Base.{IsBase}
 use Rattle.tx_events.specs.Horizon.{oldest_id}
@@ -32,20 +33,15 @@ use Rattle.engine_parts.proofs.Leaving.{grows_then}
 use Rattle.engine_parts.proofs.Sectioning.{section_list}
 use Rattle.log_sections.specs.declared.appending.Appended.{Appended}
 use Rattle.log_sections.specs.declared.appending.Appended.TheVariants as came
-use Rattle.log_sections.specs.LogSections.{AppendSection, TakesTruncation}
+use Rattle.log_sections.specs.LogSections.{TruncationSection}
 use Rattle.log_sections.specs.MultiRecords.{IsMakingRecord, TakesMulti}
 
--- the log took a truncation's record
-pub truncation_lands : (start : Start) (lists : List (List Entry)) (rec : Rec) (appended : Appended) → appended ≡ came.NoBase → TakesTruncation start lists rec (Ok appended) → ⊥
-truncation_lands start lists rec appended is takes = subst (λ (z : Appended). TakesTruncation start lists rec (Ok z)) is takes
-
--- it tells what was announced by then: the oldest id was read first, and then the oldest multixact
-pub truncation_tells : (start : Start) (old first : List (List Entry)) (v w : Knowledge) (by : By) (appended : Appended) (oldest : ℕ) (found : Counters) → IsBase start.base → EngineInvariant start first → EngineInvariant start v.seen
+-- a truncation tells what was announced by then: the oldest id was read first, and then the oldest multixact
+pub truncation_tells : (start : Start) (old first : List (List Entry)) (v w : Knowledge) (by : By) (result : Result ℕ Refusal) (oldest : ℕ) (found : Counters) → IsBase start.base → EngineInvariant start first → EngineInvariant start v.seen
     → Grows old first → Grows old v.seen → log_lock < length v.seen → oldest ≡ oldest_id start.base.oldest (history first) → found ≡ multi_counters start.base (multi_history v.seen)
-    → TakesTruncation start w.seen (records.Truncate oldest found.oldest_multi found.oldest_offset) (Ok appended)
-    → AppendSection start by (records.Truncate oldest found.oldest_multi found.oldest_offset) v w (Ok appended) → AreOldestTold start old w.seen
-truncation_tells start old first v w by came.NoBase oldest found is k later near far inside read same takes section = absurd takes
-truncation_tells start old first v w by (came.At number) oldest found is k later near far inside read same takes section =
+    → TruncationSection start by (records.Truncate oldest found.oldest_multi found.oldest_offset) v w result → OnOk result (AreOldestTold start old w.seen)
+truncation_tells start old first v w by (Err r) oldest found is k later near far inside read same section = tt
+truncation_tells start old first v w by (Ok number) oldest found is k later near far inside read same section =
     let rec : Rec = records.Truncate oldest found.oldest_multi found.oldest_offset in
     let es : List Entry = at section.within.seen log_lock in
     let c : Counters = counters_after start es in

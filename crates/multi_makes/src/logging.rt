@@ -1,9 +1,6 @@
 //! The record of a multixact comes to the log, behind a truncation's where the log can't take it yet.
-ghost use Rattle.std.specs.Prelude.{◌≡◌, ℕ, ◌+◌, ◌*◌, List, [], IfErr, OnOk};
+ghost use Rattle.std.specs.Prelude.{◌≡◌, ◌+◌, ◌*◌, [], IfErr, OnOk};
 ghost use Rattle.hall.specs.Calls.{view, IsOf, start_of};
-ghost use Rattle.tx_events.specs.Ids.{IsFullMulti};
-ghost use Rattle.tx_events.specs.declared.multi.Member.{Member};
-ghost use Rattle.tx_events.specs.declared.record.Rec.TheVariants as records;
 ghost use Rattle.log_takes.specs.Takes.{AreOldestTold};
 ghost use Rattle.engine_parts.specs.Adding.{Adds, IsOfMulti, IsTruncation, MayAdd};
 ghost use Rattle.engine_parts.specs.Sessions.{MayCall, by_at};
@@ -15,18 +12,19 @@ ghost use Rattle.multi_makes.specs.Logged.{LogsMulti};
 use disk_core::{LogDisk, PageDisk};
 use engine_parts::{Caller, EngineLaw, Passing};
 use hall::Hall;
-use log_sections::{Appended, append_multi, append_truncation};
+use log_sections::{Appended, append_multi, append_truncation, tell_forms};
 use multi_sections::read_multis;
 use proc_sections::read_oldest;
 use tx_events::{Rec, Refusal};
 
 /// Appends the record of a truncation to the announced oldest id and the announced oldest multixact with its offset,
 /// which the log's records may not tell yet: one look at the ProcArray and one at the generator. The log can take it.
+/// Answers the record's number.
 fn log_truncation<R: Passing, L: LogDisk, P: PageDisk>(
     rt: &R,
     hall: &Hall<EngineLaw<L, P>>,
     caller: &mut Caller<L, P>,
-) -> Result<(), Refusal>
+) -> Result<u64, Refusal>
     requires own { IsOf hall.now caller.old.pass }
     requires laid { hall.now.cells ≡ 3 + 4 * (start_of hall.now).banks }
     requires may { MayCall (start_of hall.now) (view caller.old.pass) caller.old.number caller.old.session }
@@ -47,24 +45,7 @@ fn log_truncation<R: Passing, L: LogDisk, P: PageDisk>(
         multi: multis.oldest_multi,
         offset: multis.oldest_offset,
     };
-    match append_truncation(rt, hall, caller, &rec) {
-        Ok(Appended::At { .. }) => Ok(()),
-        Ok(Appended::NoBase) => unreachable!(),
-        Err(refusal) => Err(refusal),
-    }
-}
-
-/// The number that a multixact's record names is one.
-fn tell_form(rec: &Rec)
-    ensures { (multi : ℕ) → (offset : ℕ) → (members : List Member) → rec.now ≡ records.Multi multi offset members
-        → IsFullMulti multi }
-{
-    match rec {
-        Rec::Multi { multi, .. } => {
-            let _multi = multi.number();
-        }
-        _ => {}
-    }
+    append_truncation(rt, hall, caller, &rec)
 }
 
 /// Appends the record of a truncation, and then the multixact's. Behind the one the log can take the other: it tells the
@@ -88,13 +69,11 @@ fn log_behind<R: Passing, L: LogDisk, P: PageDisk>(
         result }
     ensures number { caller.new.number ≡ caller.old.number }
 {
-    tell_form(rec);
-    match log_truncation(rt, hall, caller) {
-        Ok(()) => match append_multi(rt, hall, caller, rec) {
-            Ok(Appended::At { .. }) => Ok(()),
-            Ok(Appended::NoBase) => unreachable!(),
-            Err(refusal) => Err(refusal),
-        },
+    tell_forms(rec);
+    log_truncation(rt, hall, caller)?;
+    match append_multi(rt, hall, caller, rec) {
+        Ok(Appended::At { .. }) => Ok(()),
+        Ok(Appended::NoBase) => unreachable!(),
         Err(refusal) => Err(refusal),
     }
 }

@@ -47,6 +47,7 @@ use Rattle.tx_core.specs.LogBeforeStatus.{IsDurable, NeedsRecords, RecordOf}
 use Rattle.tx_core.specs.Pages.{xact_store}
 use Rattle.tx_core.specs.Verdict.{state_for}
 use Rattle.tx_core.specs.CutsFollow.{CutBy, IsTruncated, NeedsCut}
+use Rattle.tx_core.proofs.Holding.{xact_cut_kept}
 use Rattle.recoverable.specs.Fit.{IsCommitCode, KeptLog, base_at, log_end}
 use Rattle.recoverable.specs.Laws.{LogFollows, XactFitsLaw, life_base}
 use Rattle.tx_events.specs.LifeBase.{LifeBase, base_after, committed_by, committed_in}
@@ -198,7 +199,7 @@ not_gone start lists log bank x k f room from below gone =
     let t = cut.xact bank refl in
     let low : t.0 ≤ (base_at log log.flushed).counters.oldest = truncated_oldest start lists log t.0 t.1 t.2 f t.3 in
     let high : start.base.oldest ≤ t.0 = truncated_from start lists t.0 t.1 t.2 k t.3 in
-    kept t.0 x gone.0 t.4 (omega arith) (omega arith) gone.2)
+    not_both (is_cut Ids 32768 (gone.0 % 131072) (xact_page_of x)) gone.2 (xact_cut_kept start.base.oldest t.0 gone.0 x t.4 high (omega arith) (omega arith)))
     gone.1
   where
     kept : (o x page : ℕ) → page ≡ xact_page o → o ≤ x → x + 2 ^ 15 < o + 2 ^ 31 → is_cut Ids 32768 (page % 131072) (xact_page_of x) ≡ true → ⊥

@@ -37,7 +37,7 @@ use Rattle.report_law.specs.Steps.{AreJudged, Judged, gave_multi, lines_of}
 -- the page is cut by this cutoff, which the store may have behind these events
 abbrev pub IsCutBy : Counters → List Rec → List Event → DumpOf → ℕ → Type 0
 IsCutBy base recs h (dumps.Xact page) cutoff =
-    ((oldest : ℕ) × IsOldest base recs oldest × (cutoff ≡ xact_cutoff oldest)) × (is_cut Ids xacts_per_page cutoff page ≡ true)
+    ((oldest : ℕ) × IsOldest base recs oldest × (cutoff ≡ xact_cutoff base.oldest oldest)) × (is_cut Ids xacts_per_page cutoff page ≡ true)
 IsCutBy base recs h (dumps.Subtrans page) cutoff = IsSubtransCutoff base h cutoff × (is_cut Ids parents_per_page cutoff page ≡ true)
 IsCutBy base recs h (dumps.Offsets page) cutoff =
     ((oldest : ℕ) × IsOldestMulti base recs oldest × (cutoff ≡ offset_cutoff oldest)) × (is_cut Multis offsets_per_page cutoff page ≡ true)

@@ -30,22 +30,14 @@ impl Model for Bytes {
     ghost invariant = { λ b. b.used ≤ length b.laid.items };
 }
 
+/// Lays a piece over the bytes from a place on.
 #[inline(always)]
-fn lay_over(bytes: &mut [u8], at: usize, piece: &[u8])
+fn lay(bytes: &mut [u8], at: usize, piece: &[u8])
     requires { at + length piece.now ≤ length bytes.old }
     ensures { bytes.new ≡ take at bytes.old ++ piece.now ++ drop (at + length piece.now) bytes.old }
 {
     let end = at + piece.len();
     bytes[at..end].copy_from_slice(piece);
-}
-
-/// Lays a piece over the bytes from a place on.
-#[inline(always)]
-fn lay(bytes: &mut Vec<u8>, at: usize, piece: &[u8])
-    requires { at + length piece.now ≤ length bytes.old.items }
-    ensures { bytes.new.items ≡ take at bytes.old.items ++ piece.now ++ drop (at + length piece.now) bytes.old.items }
-{
-    lay_over(bytes, at, piece);
 }
 
 /// The two digits of each number below 100.
@@ -266,6 +258,8 @@ impl Bytes {
         ensures ok { OnOk result (self.new ≡ self.old ++ piece.now) }
     {
         self.laid.truncate(self.used);
+        // Memory for both is asked for once. Without it there may still be some for the piece.
+        let _ = self.laid.reserve(piece.len() + room_behind(self.used));
         self.laid.extend_from_slice(piece)?;
         self.used = self.laid.len();
         lay_out(&mut self.laid);

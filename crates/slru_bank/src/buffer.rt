@@ -69,14 +69,14 @@ impl Buffer {
         clear(&mut self.bytes);
     }
 
-    // Fills it with zeros from a byte on. It counts as changed only if it had others there.
+    // Fills it with zeros from a byte on. It comes to count as changed only if it had others there.
     pub(crate) fn clear_from(&mut self, at: usize)
         requires { at ≤ 8192 }
         ensures page { self.new.page ≡ self.old.page }
         ensures bytes { self.new.bytes.value ≡ cleared_from at self.old.bytes.value }
         ensures agrees { (pages : Pages) → Agrees pages self.old → Agrees pages self.new }
     {
-        if !are_zeros(&self.bytes, at) {
+        if self.changed || !are_zeros(&self.bytes, at) {
             zero_from(&mut self.bytes, at);
             self.changed = true;
         }

@@ -23,27 +23,16 @@ pub struct BankRooms {
 }
 
 // One of these buffers, without its page.
-#[tactic(auto, using(crate::proofs::BufferLists::empty_push))]
 fn emptied(buffers: Vec<Buffer>) -> Option<Vec<Buffer>>
     ensures some { IfSome result (λ v. 1 ≤ length v.items) }
     ensures empty { IfSome result (λ v. AllEmpty v.items) }
 {
     let mut buffers = buffers;
-    let Buffer {
-        page: _,
-        changed: _,
-        bytes,
-    } = buffers.pop()?;
-    buffers.clear();
-    let buffer = Buffer {
-        page: None,
-        changed: false,
-        bytes,
-    };
-    match buffers.push(buffer) {
-        Ok(()) => Some(buffers),
-        Err(_) => None,
-    }
+    buffers.truncate(1);
+    let buffer = buffers.first_mut()?;
+    buffer.page = None;
+    buffer.changed = false;
+    Some(buffers)
 }
 
 impl BankRooms {

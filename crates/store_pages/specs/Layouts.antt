@@ -1,5 +1,5 @@
 -- What stands on the stores' pages, byte by byte, and the pages from which on a store is kept. By full numbers.
-use Rattle.std.specs.Prelude.{ℕ, zero, suc, ◌+◌, ◌-◌, ◌*◌, ◌/◌, ◌%◌, ◌==◌, if◌then◌else◌, List, slice_index}
+use Rattle.std.specs.Prelude.{ℕ, zero, suc, ◌+◌, ◌-◌, ◌*◌, ◌/◌, ◌%◌, ◌^◌, ◌==◌, if◌then◌else◌, min, List, slice_index}
 use Rattle.tx_events.specs.Ids.{low_half, id_before}
 use Rattle.tx_events.specs.Pages.{xact_page, xact_place, subtrans_page, subtrans_place, member_page, member_place, mode_at, id_at}
 
@@ -44,15 +44,23 @@ mode_place_of offset = mode_at (member_place (low_half offset))
 abbrev pub member_place_of : ℕ → ℕ
 member_place_of offset = id_at (member_place (low_half offset))
 
--- the cutoff page of each store
+-- The cutoff page of each store. By the order of stored pages a cutoff half a ring past another one comes before it. So a
+-- life that began with the oldest id `first` cuts up to the last page before half a ring past the segment of that one.
 
--- the oldest id's page
-abbrev pub xact_cutoff : ℕ → ℕ
-xact_cutoff oldest = xact_page_of oldest
+-- the page of the oldest id, or that last one; and as it is stored
+abbrev pub xact_cut_page : ℕ → ℕ → ℕ
+xact_cut_page first oldest = min (xact_page oldest) (xact_page first / 32 * 32 + 65535)
 
--- the page of the id before the oldest xmin
-abbrev pub subtrans_cutoff : ℕ → ℕ
-subtrans_cutoff xmin = word_page_of (id_before xmin)
+abbrev pub xact_cutoff : ℕ → ℕ → ℕ
+xact_cutoff first oldest = xact_cut_page first oldest % 2 ^ 17
+
+-- The page of the id before the oldest xmin, or that last one. The first cutoff of a life may lie one page before the
+-- segment.
+abbrev pub subtrans_cut_page : ℕ → ℕ → ℕ
+subtrans_cut_page first xmin = min (subtrans_page (id_before xmin)) (subtrans_page first / 32 * 32 + 1048574)
+
+abbrev pub subtrans_cutoff : ℕ → ℕ → ℕ
+subtrans_cutoff first xmin = subtrans_cut_page first xmin % 2 ^ 21
 
 -- the full multixact id before n, 0 before the first one
 abbrev pub multi_before : ℕ → ℕ

@@ -12,10 +12,12 @@ mod ring;
 mod subtrans;
 
 pub use banks::bank_of;
-pub use clog::{XACTS_PER_PAGE, XactPages, xact_page, xact_page_in_full, xact_place};
+pub use clog::{
+    XACTS_PER_PAGE, XactPages, xact_cut_page, xact_page, xact_page_in_full, xact_place,
+};
 pub use members::{
     MEMBERS_PER_PAGE, MemberPages, id_position, member_page, member_page_in_full, mode_position,
 };
 pub use offsets::{OFFSETS_PER_PAGE, OffsetPages, offset_page, offset_page_in_full, offset_place};
 pub use page_rule::{PAGES_PER_SEGMENT, PageRule};
-pub use subtrans::{SubtransPages, subtrans_page, subtrans_place};
+pub use subtrans::{SubtransPages, subtrans_cut_page, subtrans_page, subtrans_place};

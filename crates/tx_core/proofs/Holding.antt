@@ -1,10 +1,10 @@
 -- No page is cut that is still asked for, as it is stored.
-use Rattle.std.proofs.Common.{Contains, List, [], arith, drop, false, refl, subst, sym, take, take-append-drop, ℕ, ⊎_elim, ◌+◌, ◌%◌, ◌/◌, ◌^◌, ◌<◌, ◌≡◌, ◌≤◌}
+use Rattle.std.proofs.Common.{Contains, List, [], arith, drop, false, min, refl, subst, sym, take, take-append-drop, ℕ, ⊎_elim, ◌+◌, ◌*◌, ◌%◌, ◌/◌, ◌^◌, ◌<◌, ◌≡◌, ◌≤◌}
 use Rattle.tx_events.specs.Ids.{id_before, low_half}
 use Rattle.tx_events.specs.Limits.{member_stop}
 use Rattle.tx_events.specs.PageOrder.{Ids, Multis, Offsets, is_cut}
 use Rattle.tx_events.specs.PageWindow.{id_is_kept, member_is_kept, multi_is_kept, parent_is_kept}
-use Rattle.store_pages.specs.Layouts.{multi_before}
+use Rattle.store_pages.specs.Layouts.{multi_before, subtrans_cut_page, xact_cut_page}
 use Rattle.tx_events.specs.declared.event.By.{By}
 use Rattle.tx_events.specs.declared.event.Event.{Event}
 use Rattle.tx_events.specs.declared.event.Event.TheVariants as events
@@ -50,6 +50,21 @@ subtrans_kept : (o x : ℕ) → o ≤ x → x + 2 ^ 15 < o + 2 ^ 31 → is_cut I
 subtrans_kept o x from near =
     let same : subtrans_page o % 2 ^ 21 ≡ low_half o / 2048 = omega arith in subst (λ p. is_cut Ids 2048 p (low_half x / 2048) ≡ false) (sym same) (parent_is_kept o x from near)
 
+-- The cut page is that of a number z that isn't past the oldest one.
+
+pub xact_cut_kept : (first oldest page x : ℕ) → page ≡ xact_cut_page first oldest → first ≤ oldest → oldest ≤ x → x + 2 ^ 15 < first + 2 ^ 31 → is_cut Ids 32768 (page % 2 ^ 17) (xact_page (low_half x)) ≡ false
+xact_cut_kept first oldest page x is from to near =
+    let z : ℕ = min oldest (page * 32768 + 32767) in
+    let on : page ≡ xact_page z = omega arith in
+    subst (λ p. is_cut Ids 32768 (p % 2 ^ 17) (xact_page (low_half x)) ≡ false) (sym on) (xact_kept z x (omega arith) (omega arith))
+
+subtrans_cut_kept : (first xmin page x : ℕ) → page ≡ subtrans_cut_page first xmin → xmin ≤ x → x + 2 ^ 15 < first + 2 ^ 31 → x + 2 ^ 15 < id_before xmin + 2 ^ 31 → is_cut Ids 2048 (page % 2 ^ 21) (subtrans_page (low_half x)) ≡ false
+subtrans_cut_kept first xmin page x is to near close =
+    let below = before_upto xmin in
+    let z : ℕ = min (id_before xmin) (page * 2048 + 2047) in
+    let on : page ≡ subtrans_page z = omega arith in
+    subst (λ p. is_cut Ids 2048 (p % 2 ^ 21) (subtrans_page (low_half x)) ≡ false) (sym on) (subtrans_kept z x (omega arith) (omega arith))
+
 offset_kept : (o x : ℕ) → o ≤ x → x + 2 ^ 15 < o + 2 ^ 31 → is_cut Multis 2048 (offset_page o % 2 ^ 21) (offset_page (low_half x)) ≡ false
 offset_kept o x from near =
     let same : offset_page o % 2 ^ 21 ≡ low_half o / 2048 = omega arith in subst (λ p. is_cut Multis 2048 p (low_half x / 2048) ≡ false) (sym same) (multi_is_kept o x from near)
@@ -75,7 +90,7 @@ module _ (start : Start) (lists : List (List Entry)) (bank : ℕ) (k : EngineInv
       let e : Entry = record { by = a.0; kind = kinds.Append (records.Truncate oldest multi offset) } in
       (upheld_has (NeedsCounters start) lists log_lock e k.log.counters (contains_has (at lists log_lock) e a.2)).1.1.1
 
-  announced_from : (oldest : ℕ) → IsOldestAnnounced start lists oldest → start.base.oldest ≤ oldest
+  pub announced_from : (oldest : ℕ) → IsOldestAnnounced start lists oldest → start.base.oldest ≤ oldest
   announced_from oldest a = ⊎_elim
       (λ (q : oldest ≡ start.base.oldest). omega arith)
       (λ (z : (by : By) × Contains (history lists) (events.Oldest by oldest)).
@@ -87,7 +102,7 @@ module _ (start : Start) (lists : List (List Entry)) (bank : ℕ) (k : EngineInv
       a
 
   -- the oldest xmin is never before the base's next id
-  xmin_from : (h : List Event) → IsLegal start.base h → start.base.next ≤ oldest_xmin start.base.next h
+  pub xmin_from : (h : List Event) → IsLegal start.base h → start.base.next ≤ oldest_xmin start.base.next h
   xmin_from h legal =
       let up = xmin_at start.base [] h legal is.full (positive start.base.next is.full) in
       let a = next_of_before start.base.next is.full in
@@ -105,7 +120,7 @@ module _ (start : Start) (lists : List (List Entry)) (bank : ℕ) (k : EngineInv
             let a = truncated_announced start lists cut.0 cut.1 cut.2 cut.3.session k (flushed_appended start lists cut.3.session (records.Truncate cut.0 cut.1 cut.2) cut.3.flushed) in
             let upto = oldest_upto start lists cut.0 k a in
             let past = announced_from cut.0 a in
-            subst (λ p. is_cut Ids 32768 (p % 2 ^ 17) (xact_page (low_half x)) ≡ false) (sym cut.4) (xact_kept cut.0 x (omega arith) (omega arith));
+            xact_cut_kept start.base.oldest cut.0 page x cut.4 past (omega arith) (omega arith);
       }
 
   parents : AreFewIds lists → (x : ℕ) → oldest_xmin start.base.next (history lists) ≤ x → x ≤ next_given start.base.next (history lists)
@@ -113,6 +128,7 @@ module _ (start : Start) (lists : List (List Entry)) (bank : ℕ) (k : EngineInv
   parents few x from to =
       let h = history lists in
       let room = (has_room start.base h is few).1 in
+      let window = (has_room start.base h is few).0 in
       let low = xmin_from h k.events.legal in
       let under = before_upto start.base.next in
       let near = before_near start.base.next in
@@ -126,7 +142,7 @@ module _ (start : Start) (lists : List (List Entry)) (bank : ℕ) (k : EngineInv
             let past = xmin_from front (legal_take start.base h cut.0 k.events.legal) in
             let below = before_upto (oldest_xmin start.base.next front) in
             let close = before_near (oldest_xmin start.base.next front) in
-            subst (λ p. is_cut Ids 2048 (p % 2 ^ 21) (subtrans_page (low_half x)) ≡ false) (sym cut.2) (subtrans_kept (id_before (oldest_xmin start.base.next front)) x (omega arith) (omega arith));
+            subtrans_cut_kept start.base.oldest (oldest_xmin start.base.next front) page x cut.2 (omega arith) (omega arith) (omega arith);
       }
 
   offsets : AreFewMultis lists → (multi : ℕ) → oldest_multi start.base.oldest_multi (multi_history lists) ≤ multi → multi ≤ next_made start.base.multi (multi_history lists)

@@ -2,8 +2,8 @@
 use Rattle.tx_events.proofs.ListSteps.{all_weaker}
 use Rattle.std.proofs.Common.{Contains, List, ap, arith, inl, inr, sym, ℕ, ⊎_elim, ◌+◌, ◌∙◌}
 use Rattle.std.specs.List.{flat_map}
-use Rattle.tx_events.specs.Ids.{id_before}
 use Rattle.tx_events.specs.declared.event.By.{By}
+use Rattle.store_pages.specs.Layouts.{subtrans_cut_page}
 use Rattle.tx_events.specs.declared.event.Event.{Event}
 use Rattle.tx_events.specs.declared.multi.Member.{Member}
 use Rattle.tx_events.specs.declared.multi.MultiEvent.{MultiEvent}
@@ -21,7 +21,7 @@ use Rattle.tx_core.specs.CutsFollow.{CutBy, IsMemberGone, IsTruncated, NeedsCut}
 use Rattle.tx_core.specs.Entries.{cut_in, history}
 use Rattle.tx_core.specs.Lists.{IsLasting}
 use Rattle.notes.specs.Lists.{Begins, Grows, at}
-use Rattle.tx_core.specs.Locks.{members_lock, members_lock_of, offsets_lock, subtrans_page, xact_lock}
+use Rattle.tx_core.specs.Locks.{members_lock, members_lock_of, offsets_lock, xact_lock}
 use Rattle.tx_core.specs.MembersBeforeOffset.{IsRecorded, NeedsOffsets, NeedsSlots, OffsetOf, SlotOf}
 use Rattle.tx_core.specs.MultiEntries.{IsSlotSet, multi_history, offsets_in, slots_in}
 use Rattle.tx_core.specs.MultisLegal.{NeedsMulti}
@@ -84,7 +84,7 @@ cut_grows start lists more lock page g c = record {
   subtrans = λ bank q.
       let t = c.subtrans bank q in
       let r = taken_begins (history lists) (history more) t.0 (history_grows lists more g) t.1 in
-      (t.0, r.0, t.2 ∙ ap (λ (h : List Event). subtrans_page (id_before (oldest_xmin start.base.next h))) (sym r.1));
+      (t.0, r.0, t.2 ∙ ap (λ (h : List Event). subtrans_cut_page start.base.oldest (oldest_xmin start.base.next h)) (sym r.1));
 }
 
 pub cuts_lasting : (start : Start) → IsLasting (NeedsCut start)

@@ -1,7 +1,7 @@
 -- A page is cut only where a truncation that is on disk says so, or an oldest xmin.
 use Rattle.std.specs.Prelude.{◌≡◌, ℕ, ◌%◌, ◌≤◌, true, List, length, take, Some, IfSome, Contains}
-use Rattle.tx_events.specs.Ids.{id_before, low_half}
-use Rattle.store_pages.specs.Layouts.{multi_before}
+use Rattle.tx_events.specs.Ids.{low_half}
+use Rattle.store_pages.specs.Layouts.{multi_before, subtrans_cut_page, xact_cut_page}
 use Rattle.tx_events.specs.PageOrder.{Multis, Offsets, is_cut}
 use Rattle.tx_events.specs.declared.record.Rec.TheVariants as records
 use Rattle.tx_events.specs.Horizon.{oldest_xmin}
@@ -9,7 +9,7 @@ use Rattle.tx_core.specs.declared.entry.Entry.{Entry}
 use Rattle.tx_core.specs.declared.entry.Start.{Start}
 use Rattle.tx_core.specs.Entries.{cut_in, history, IsFlushed}
 use Rattle.tx_core.specs.Lists.{Upheld}
-use Rattle.tx_core.specs.Locks.{member_page, member_page_in_full, members_lock, offset_page, offsets_lock, subtrans_lock, subtrans_page, xact_lock, xact_page}
+use Rattle.tx_core.specs.Locks.{member_page, member_page_in_full, members_lock, offset_page, offsets_lock, subtrans_lock, xact_lock}
 
 -- one of these entries cut the page of a multixact's offset
 abbrev pub IsOffsetGone : List Entry → ℕ → Type 0
@@ -26,17 +26,17 @@ pub record IsTruncated (start : Start) (lists : List (List Entry)) (oldest multi
 
 -- the page is the one from which on the store is kept
 pub record CutBy (start : Start) (lists : List (List Entry)) (lock page : ℕ) : Type 0 where
-  pub xact : (bank : ℕ) → lock ≡ xact_lock bank → (oldest multi offset : ℕ) × IsTruncated start lists oldest multi offset × (page ≡ xact_page oldest)
+  pub xact : (bank : ℕ) → lock ≡ xact_lock bank → (oldest multi offset : ℕ) × IsTruncated start lists oldest multi offset × (page ≡ xact_cut_page start.base.oldest oldest)
   pub offsets : (bank : ℕ) → lock ≡ offsets_lock bank → (oldest multi offset : ℕ) × IsTruncated start lists oldest multi offset × (page ≡ offset_page (multi_before multi))
   pub members : (bank : ℕ) → lock ≡ members_lock bank → (oldest multi offset : ℕ) × IsTruncated start lists oldest multi offset × (page ≡ member_page_in_full offset)
   -- the oldest xmin was so at some place of the history
   pub subtrans : (bank : ℕ) → lock ≡ subtrans_lock bank
-      → (p : ℕ) × (p ≤ length (history lists)) × (page ≡ subtrans_page (id_before (oldest_xmin start.base.next (take p (history lists)))))
+      → (p : ℕ) × (p ≤ length (history lists)) × (page ≡ subtrans_cut_page start.base.oldest (oldest_xmin start.base.next (take p (history lists))))
 
 abbrev pub NeedsCut : Start → List (List Entry) → ℕ → List Entry → Entry → Type 0
 NeedsCut start lists lock before e = IfSome (cut_in e.kind) (CutBy start lists lock)
 
--- Each cut of pg_xact, of offsets and of members is at the page of a truncation that is on disk, and each cut of
--- pg_subtrans at the page of the id before an oldest xmin. A fault counts as the cut that its critical section had made.
+-- Each cut of pg_xact, of offsets and of members is by the oldest numbers of a truncation that is on disk, and each cut of
+-- pg_subtrans by an oldest xmin. A fault counts as the cut that its critical section had made.
 pub record CutsFollow (start : Start) (lists : List (List Entry)) : Type 0 where
   pub each : Upheld (NeedsCut start) lists

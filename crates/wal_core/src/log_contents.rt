@@ -51,7 +51,7 @@ fn no_records(alloc: Global, extent: Extent) -> LogContents
     }
 }
 
-pub(crate) fn zeros(alloc: Global, count: usize) -> Result<Vec<u8>, AllocError>
+fn zeros(alloc: Global, count: usize) -> Result<Vec<u8>, AllocError>
     ensures { IfOk result (λ v. v.items ≡ replicate count 0) }
 {
     let mut bytes = Vec::new(alloc);

@@ -11,7 +11,8 @@ ghost use Rattle.wal_core.specs.Log.{OpensOnceClosed, IsReady, OpensAs};
 ghost use Rattle.wal_core.specs.LogViews.{log_disk, log_recs, log_next, log_flushed, log_end, log_counters, log_down};
 
 use crate::batch_write::write_and_sync;
-use crate::log_contents::{LogContents, read_log, zeros};
+use crate::log_contents::{LogContents, read_log};
+use crate::pending_batch::no_batch;
 use crate::refusal::LogRefusal;
 use crate::wal_log::WalLog;
 use disk_core::{Failed, LogDisk};
@@ -113,7 +114,7 @@ impl<D: LogDisk> WalLog<D> {
             Ok(found) => found,
             Err(refusal) => return Err((disk, refusal)),
         };
-        let Ok(behind) = zeros(alloc, 5) else {
+        let Ok(behind) = no_batch(alloc) else {
             return Err((disk, LogRefusal::Memory));
         };
         let Ok(()) = close_gate(&mut disk, &found) else {

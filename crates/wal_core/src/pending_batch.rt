@@ -1,5 +1,5 @@
 // The batch that the next flush writes, as records are added to it: made whole in memory, so that a flush takes none.
-ghost use Rattle.std.specs.Prelude.{◌≡◌, ◌⊎◌, ◌↔◌, ◌+◌, ◌-◌, ◌<◌, ◌≤◌, ◌^◌, ◌++◌, ◌∷◌, [], ℕ, length, drop, remove, IsTrue, IsNone, IsSome, OnOk, OnErr, Some};
+ghost use Rattle.std.specs.Prelude.{◌≡◌, ◌⊎◌, ◌↔◌, ◌+◌, ◌-◌, ◌<◌, ◌≤◌, ◌^◌, ◌++◌, ◌∷◌, [], ℕ, length, drop, remove, replicate, IsTrue, IsNone, IsSome, IfOk, OnOk, OnErr, Some};
 ghost use Rattle.tx_events.specs.After.{after_record};
 ghost use Rattle.tx_events.specs.Base.{IsBase};
 ghost use Rattle.wal_records.specs.Numbers.{le_bytes};
@@ -9,8 +9,21 @@ ghost use Rattle.wal_core.specs.Log.{counters_or_none, with_more, IsFull};
 
 use crate::next_rec::counters_then;
 use byteorder::{ByteOrder, LittleEndian};
+use std::alloc::{AllocError, Global};
 use tx_events::{Copied, Counters, Memory, Rec, RecList};
 use wal_records::write_rec;
+
+// Room for a few records.
+const FIRST_ROOM: usize = 128;
+
+// What is written when nothing is pending.
+pub(crate) fn no_batch(alloc: Global) -> Result<Vec<u8>, AllocError>
+    ensures { IfOk result (λ behind. behind.items ≡ replicate 5 0) }
+{
+    let mut behind = Vec::with_capacity(alloc, FIRST_ROOM)?;
+    behind.resize(5, 0)?;
+    Ok(behind)
+}
 
 // Whether the log would pass its greatest length, or the batch its own.
 pub(crate) fn is_full(gate: u64, pending: u64, more: u64) -> bool

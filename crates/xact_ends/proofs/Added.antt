@@ -25,9 +25,7 @@ use Rattle.engine_parts.specs.Holds.{Knowledge, Section}
 use Rattle.engine_parts.specs.Sessions.{IsAt, by_at}
 use Rattle.engine_parts.proofs.Adding.{adds_then, adds_wider, may_wider, met_leaves, plain_leaves, plain_wider}
 use Rattle.engine_parts.proofs.Sectioning.{shared_adds}
-use Rattle.log_sections.specs.LogSections.{AppendSection, FlushSection}
-use Rattle.log_sections.specs.declared.appending.Appended.{Appended}
-use Rattle.log_sections.specs.declared.appending.Appended.TheVariants as came
+use Rattle.log_sections.specs.LogSections.{FlushSection}
 
 -- two steps, one after the other
 pub both_add : (by by' : By) (First Second May : ℕ → Kind → Type 0) (a b c : List (List Entry)) → by' ≡ by → ((lock : ℕ) (kind : Kind) → First lock kind → May lock kind) → ((lock : ℕ) (kind : Kind) → Second lock kind → May lock kind) → Adds by First a b → Adds by' Second b c → Adds by May a c
@@ -56,12 +54,6 @@ end_adds start v w n s how a some section =
     let top : ℕ = slice_index_or opened 0 0 in
     let by = by_at n s.levels.commands in
     shared_adds start v w proc_lock (record { by = by; kind = kinds.Event (end_event how by top) }) by s IsPlain (omega arith) a (section top (drop 1 opened) (head_tail opened 0 some)) refl tt
-
--- a record, or none
-pub append_adds : (start : Start) (v w : Knowledge) (by : By) (s : Session) (rec : Rec) (result : Result Appended Refusal) → IsAt start v by.session s → AppendSection start by rec v w result → Adds by (MayAdd (λ r. r ≡ rec) ⊥ (λ r. ⊥)) v.seen w.seen
-append_adds start v w by s rec (Ok (came.At number)) a section = shared_adds start v w log_lock (record { by = by; kind = kinds.Append rec }) by s (MayAdd (λ r. r ≡ rec) ⊥ (λ r. ⊥)) (omega arith) a section refl refl
-append_adds start v w by s rec (Ok came.NoBase) a section = shared_adds start v w log_lock (look_of by) by s (MayAdd (λ r. r ≡ rec) ⊥ (λ r. ⊥)) (omega arith) a section refl tt
-append_adds start v w by s rec (Err r) a section = shared_adds start v w log_lock (look_of by) by s (MayAdd (λ r. r ≡ rec) ⊥ (λ r. ⊥)) (omega arith) a section refl tt
 
 -- a flush, a fault that is told, or a look
 pub flush_adds : {T : Type 0} (start : Start) (v w : Knowledge) (by : By) (s : Session) (number : ℕ) (result : Result T Refusal) → IsAt start v by.session s → FlushSection start by number v w result → Adds by (MayAdd (λ rec. ⊥) (Unit {0}) (IsToldBy result)) v.seen w.seen

@@ -1,5 +1,5 @@
 -- Behind a truncation's record the log takes that of an end.
-use Rattle.std.proofs.Common.{List, Ok, Err, Result, ap, arith, length, max, subst, sym, ℕ, ◌∙◌, ◌∷◌, ◌<◌, ◌≡◌, ◌≤◌}
+use Rattle.std.proofs.Common.{List, Ok, Err, OnOk, Result, ap, arith, length, max, subst, sym, ℕ, ◌∙◌, ◌∷◌, ◌<◌, ◌≡◌, ◌≤◌}
 use Rattle.notes.specs.Lists.{Grows, at}
 use Rattle.tx_events.specs.declared.event.By.{By}
 use Rattle.tx_events.specs.declared.record.Counters.{Counters}
@@ -26,13 +26,14 @@ use Rattle.engine_parts.specs.Sessions.{IsAt}
 use Rattle.engine_parts.proofs.Sectioning.{section_list}
 use Rattle.log_sections.specs.declared.appending.Appended.{Appended}
 use Rattle.log_sections.specs.declared.appending.Appended.TheVariants as came
-use Rattle.log_sections.specs.LogSections.{AppendSection, Appends, TakesAbort}
+use Rattle.log_sections.specs.LogSections.{Appends, TakesAbort, TruncationSection}
 use Rattle.proc_sections.specs.Horizons.{truncation_behind}
 use Rattle.xact_ends.specs.Logged.{IsNumbered}
 
 -- what a truncation tells was announced by then
-pub truncation_tells : (start : Start) (old : List (List Entry)) (v w : Knowledge) (by : By) (number : ℕ) (rec : Rec) → EngineInvariant start v.seen → Grows old v.seen → log_lock < length v.seen → rec ≡ truncation_behind start.base (history v.seen) → AppendSection start by rec v w (Ok (came.At number)) → IsOldestTold start old w.seen
-truncation_tells start old v w by number rec k grows inside is section =
+pub truncation_tells : (start : Start) (old : List (List Entry)) (v w : Knowledge) (by : By) (rec : Rec) (result : Result ℕ Refusal) → EngineInvariant start v.seen → Grows old v.seen → log_lock < length v.seen → rec ≡ truncation_behind start.base (history v.seen) → TruncationSection start by rec v w result → OnOk result (IsOldestTold start old w.seen)
+truncation_tells start old v w by rec (Err r) k grows inside is section = tt
+truncation_tells start old v w by rec (Ok number) k grows inside is section =
     let es : List Entry = at section.within.seen log_lock in
     let oldest : ℕ = oldest_id start.base.oldest (history v.seen) in
     let now : counters_after start (at w.seen log_lock) ≡ after_record (counters_after start es) (truncation_behind start.base (history v.seen)) =

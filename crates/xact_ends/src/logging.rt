@@ -18,12 +18,12 @@ use proc_sections::read_truncation;
 use tx_events::{Rec, Refusal};
 
 /// Appends the record of a truncation to the announced oldest id, which the log's records may not tell yet. The log can
-/// take it.
+/// take it. Answers the record's number.
 fn log_truncation<R: Passing, L: LogDisk, P: PageDisk>(
     rt: &R,
     hall: &Hall<EngineLaw<L, P>>,
     caller: &mut Caller<L, P>,
-) -> Result<(), Refusal>
+) -> Result<u64, Refusal>
     requires own { IsOf hall.now caller.old.pass }
     requires laid { hall.now.cells ≡ 3 + 4 * (start_of hall.now).banks }
     requires may { MayCall (start_of hall.now) (view caller.old.pass) caller.old.number caller.old.session }
@@ -38,13 +38,7 @@ fn log_truncation<R: Passing, L: LogDisk, P: PageDisk>(
     ensures same { (caller.new.session ≡ caller.old.session) × (caller.new.number ≡ caller.old.number) }
 {
     let rec = read_truncation(rt, hall, caller);
-    match append_truncation(rt, hall, caller, &rec) {
-        Ok(appended) => match appended {
-            Appended::At { .. } => Ok(()),
-            Appended::NoBase => unreachable!(),
-        },
-        Err(refusal) => Err(refusal),
-    }
+    append_truncation(rt, hall, caller, &rec)
 }
 
 /// Appends the record of a truncation, and then the commit record.
@@ -71,10 +65,8 @@ fn log_commit_behind<R: Passing, L: LogDisk, P: PageDisk>(
     ensures numbered { IsNumbered result }
     ensures number { caller.new.number ≡ caller.old.number }
 {
-    match log_truncation(rt, hall, caller) {
-        Ok(()) => append_commit(rt, hall, caller, rec),
-        Err(refusal) => Err(refusal),
-    }
+    log_truncation(rt, hall, caller)?;
+    append_commit(rt, hall, caller, rec)
 }
 
 /// Appends the commit record of what the session has open. Where the counters behind it would be no base, since the
@@ -138,10 +130,8 @@ fn log_abort_behind<R: Passing, L: LogDisk, P: PageDisk>(
     ensures numbered { IsNumbered result }
     ensures number { caller.new.number ≡ caller.old.number }
 {
-    match log_truncation(rt, hall, caller) {
-        Ok(()) => append_abort(rt, hall, caller, rec),
-        Err(refusal) => Err(refusal),
-    }
+    log_truncation(rt, hall, caller)?;
+    append_abort(rt, hall, caller, rec)
 }
 
 /// Appends the abort record of what the session has open. Where the counters behind it would be no base, since the

@@ -1,16 +1,15 @@
 -- What was cut and found stays while the other banks are cut.
 use Rattle.std.proofs.Common.{◌≡◌, ⊎_elim, ℕ, ◌+◌, ◌<◌, ◌≤◌, List, sym, ap, subst, ◌∙◌, arith}
 use Rattle.notes.specs.Lists.{Grows, at}
-use Rattle.store_pages.specs.Layouts.{multi_before}
+use Rattle.store_pages.specs.Layouts.{multi_before, subtrans_cut_page, xact_cut_page}
 use Rattle.tx_events.proofs.ListSteps.{le_or_over}
 use Rattle.tx_events.specs.Horizon.{oldest_xmin}
-use Rattle.tx_events.specs.Ids.{id_before}
 use Rattle.tx_events.specs.declared.event.By.{By}
 use Rattle.tx_core.specs.declared.entry.Entry.{Entry}
 use Rattle.tx_core.specs.declared.entry.Kind.TheVariants as kinds
 use Rattle.tx_core.specs.declared.entry.Start.{Start}
 use Rattle.tx_core.specs.Entries.{history}
-use Rattle.tx_core.specs.Locks.{member_page_in_full, members_lock, offset_page, offsets_lock, subtrans_lock, subtrans_page, xact_lock, xact_page}
+use Rattle.tx_core.specs.Locks.{member_page_in_full, members_lock, offset_page, offsets_lock, subtrans_lock, xact_lock}
 use Rattle.tx_core.proofs.Growing.{contains_begins}
 use Rattle.tx_core.proofs.Lasting.{history_grows}
 use Rattle.tx_core.proofs.Rising.{taken_begins}
@@ -27,8 +26,8 @@ cut_by_grows lists more by lock page g c = contains_begins (at lists lock) (at m
 
 pub cut_later : (start : Start) (lists more : List (List Entry)) (by : By) (oldest xmin multi offset bank : ℕ) → Grows lists more → AreCut start lists by oldest xmin multi offset bank → AreCut start more by oldest xmin multi offset bank
 cut_later start lists more by oldest xmin multi offset bank g c = record {
-  states = λ reach. cut_by_grows lists more by (xact_lock bank) (xact_page oldest) g (c.states reach);
-  parents = λ reach. cut_by_grows lists more by (subtrans_lock bank) (subtrans_page (id_before xmin)) g (c.parents reach);
+  states = cut_by_grows lists more by (xact_lock bank) (xact_cut_page start.base.oldest oldest) g c.states;
+  parents = cut_by_grows lists more by (subtrans_lock bank) (subtrans_cut_page start.base.oldest xmin) g c.parents;
   offsets = cut_by_grows lists more by (offsets_lock bank) (offset_page (multi_before multi)) g c.offsets;
   members = cut_by_grows lists more by (members_lock bank) (member_page_in_full offset) g c.members;
 }

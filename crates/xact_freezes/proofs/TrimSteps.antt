@@ -1,13 +1,11 @@
 -- A trim, step by step.
-use Rattle.std.proofs.lemmas.List.{length-map}
-use Rattle.std.proofs.Common.{Contains, ◌≡◌, ⊎_elim, inl, inr, ℕ, Bool, None, IsTrue, append-nil, ◌+◌, ◌-◌, ◌<◌, ◌≤◌, true, List, [], ◌∷◌, ◌++◌, Some, Result, Ok, Err, IfOk, IfErr, MatchResult, length, length-append, slice_get, take_all, refl, sym, ap, subst, ◌∙◌, arith}
-use Rattle.std.proofs.lemmas.List.Elements.{filter_map-append}
+use Rattle.std.proofs.lemmas.Option.{slice_get_within}
+use Rattle.std.proofs.Common.{Contains, ◌≡◌, ⊎_elim, inl, inr, ℕ, Bool, None, IsTrue, append-nil, ◌+◌, ◌-◌, ◌<◌, ◌≤◌, true, List, [], Result, Ok, Err, IfOk, IfErr, MatchResult, length, take_all, refl, sym, ap, subst, ◌∙◌, arith}
 use Rattle.disk_core.specs.declared.log_disk.LogDisk as logs
 use Rattle.disk_core.specs.declared.page_disk.PageDisk as disks
 use Rattle.hall.specs.declared.hall.Hall.{Hall}
 use Rattle.hall.specs.Calls.{start_of, view}
 use Rattle.notes.specs.Lists.{Grows, at}
-use Rattle.tx_events.proofs.PlaceLemmas.{last_at}
 use Rattle.tx_events.proofs.Horizons.{xmin_at}
 use Rattle.tx_events.proofs.IdOrder.{next_full}
 use Rattle.proc_table.proofs.Bounds.{full_from}
@@ -34,7 +32,7 @@ use Rattle.tx_core.specs.declared.entry.Entry.{Entry}
 use Rattle.tx_core.specs.declared.entry.Kind.{Kind}
 use Rattle.tx_core.specs.declared.entry.Kind.TheVariants as kinds
 use Rattle.tx_core.specs.declared.entry.Start.{Start}
-use Rattle.tx_core.specs.Entries.{appended, history, records_in, records_of, recs_in}
+use Rattle.tx_core.specs.Entries.{appended, history, records_of}
 use Rattle.tx_core.specs.Locks.{IsPageLock, log_lock, members_lock}
 use Rattle.tx_core.specs.CutsFollow.{IsTruncated}
 use Rattle.tx_core.proofs.Lasting.{history_grows, stands_grows}
@@ -54,10 +52,8 @@ use Rattle.engine_parts.specs.Faults.{flush_fault_by, look_of}
 use Rattle.engine_parts.specs.Holds.{Knowledge, Section}
 use Rattle.engine_parts.specs.Sessions.{IsAt, by_at, stance_of}
 use Rattle.engine_parts.proofs.Adding.{adds_nothing, may_cut, plain_wider}
-use Rattle.engine_parts.proofs.Sectioning.{section_list, shared_adds}
-use Rattle.log_sections.specs.declared.appending.Appended.{Appended}
-use Rattle.log_sections.specs.declared.appending.Appended.TheVariants as came
-use Rattle.log_sections.specs.LogSections.{AppendSection, FlushSection, IsAppendRefused, IsFlushRefused, IsFlushedPast, IsTruncationOf}
+use Rattle.engine_parts.proofs.Sectioning.{shared_adds}
+use Rattle.log_sections.specs.LogSections.{FlushSection, IsAppendRefused, IsFlushRefused, IsFlushedPast, IsTruncationOf, StandsUnder, TruncationSection}
 use Rattle.multi_banks.proofs.Later.{grows_same}
 use Rattle.xact_freezes.specs.Trims.{HasFlushed, IsOfBank, IsTrimMet, MayTrim, WasOldestXmin}
 use Rattle.xact_freezes.specs.Visits.{Visited}
@@ -93,9 +89,8 @@ trim_leaves s stage opened result lock (kinds.Cut page) m = m
 trim_leaves s stage opened result lock _ m = tt
 
 -- a record, or none
-pub append_trims : (start : Start) (v w : Knowledge) (by : By) (s : Session) (rec : Rec) (result : Result Appended Refusal) → IsTruncation rec → IsAt start v by.session s → AppendSection start by rec v w result → {T : Type 0} (out : Result T Refusal) → Adds by (MayTrim out) v.seen w.seen
-append_trims start v w by s rec (Ok (came.At number)) t a section out = shared_adds start v w log_lock (record { by = by; kind = kinds.Append rec }) by s (MayTrim out) (omega arith) a section refl t
-append_trims start v w by s rec (Ok came.NoBase) t a section out = shared_adds start v w log_lock (look_of by) by s (MayTrim out) (omega arith) a section refl tt
+pub append_trims : (start : Start) (v w : Knowledge) (by : By) (s : Session) (rec : Rec) (result : Result ℕ Refusal) → IsTruncation rec → IsAt start v by.session s → TruncationSection start by rec v w result → {T : Type 0} (out : Result T Refusal) → Adds by (MayTrim out) v.seen w.seen
+append_trims start v w by s rec (Ok number) t a section out = shared_adds start v w log_lock (record { by = by; kind = kinds.Append rec }) by s (MayTrim out) (omega arith) a section refl t
 append_trims start v w by s rec (Err r) t a section out = shared_adds start v w log_lock (look_of by) by s (MayTrim out) (omega arith) a section refl tt
 
 -- a flush, a fault that is told, or a look
@@ -141,44 +136,22 @@ module _ {H L P : Type 0} {l : logs.Ghosts L} {p : disks.Ghosts P} (hall : Hall 
 
 -- ---- the record
 
--- where the record stands
-pub record IsLogged (lists : List (List Entry)) (by : By) (rec : Rec) : Type 0 where
-  pub place : ℕ
-  pub stands : slice_get (records_of lists) place ≡ Some (by, rec)
-  pub inside : place < length (records_of lists)
+-- it is among those of the log
+pub stands_below : (start : Start) (lists : List (List Entry)) (by : By) (rec : Rec) (number : ℕ) → StandsUnder start lists by rec number → (start.from ≤ number) × (number < start.from + length (records_of lists))
+stands_below start lists by rec number i =
+    let is = i.numbered in
+    let inside = slice_get_within (records_of lists) i.place (by, rec) i.stands in
+    (omega (arith, is), omega (arith, is, inside))
 
-pub logged : (start : Start) (v w : Knowledge) (by : By) (rec : Rec) → Section start log_lock (record { by = by; kind = kinds.Append rec }) v w → log_lock < length v.seen → IsLogged w.seen by rec
-logged start v w by rec s inside =
-    let es : List Entry = at s.within.seen log_lock in
-    let e : Entry = record { by = by; kind = kinds.Append rec } in
-    let now : records_of w.seen ≡ records_in es ++ (by, rec) ∷ [] = ap records_in (section_list start v w log_lock e s inside) ∙ filter_map-append appended es (e ∷ []) in
-    let long : length (records_of w.seen) ≡ length (records_in es) + 1 = ap (λ (l : List (By × Rec)). length l) now ∙ length-append (records_in es) ((by, rec) ∷ []) in record {
-      place = length (records_in es);
-      stands = subst (λ (l : List (By × Rec)). slice_get l (length (records_in es)) ≡ Some (by, rec)) (sym now) (last_at (records_in es) (by, rec));
-      inside = omega (arith, long);
-    }
-
--- it was appended, as the number says
-pub logged_at : (start : Start) (v w : Knowledge) (by : By) (rec : Rec) (number : ℕ) (appended : Appended) → appended ≡ came.At number → AppendSection start by rec v w (Ok appended) → log_lock < length v.seen → IsLogged w.seen by rec
-logged_at start v w by rec number appended is section inside = logged start v w by rec (subst (λ (z : Appended). AppendSection start by rec v w (Ok z)) is section) inside
-
--- so a log that is flushed as far as it goes later has it on disk
-pub flushed_so : (start : Start) (lists more : List (List Entry)) (by : By) (rec : Rec) (next number : ℕ) → IsLogged lists by rec → Grows lists more → start.from + (length (records_of lists)) ≤ next → number ≡ next - 1 → IsFlushedPast more number → HasFlushed start more by rec
-flushed_so start lists more by rec next number i g all is past = record {
+-- and on disk behind a flush past its number
+pub flushed_so : (start : Start) (lists more : List (List Entry)) (by : By) (rec : Rec) (number : ℕ) → StandsUnder start lists by rec number → Grows lists more → IsFlushedPast more number → HasFlushed start more by rec
+flushed_so start lists more by rec number i g past = record {
   place = i.place;
   to = past.0;
   stands = slice_get_begins (records_of lists) (records_of more) i.place (by, rec) (begins_filter_map appended (at lists log_lock) (at more log_lock) (g.begins log_lock)) i.stands;
-  past = let inside = i.inside in let far = past.1 in omega (arith, inside, far, all, is);
+  past = let is = i.numbered in let far = past.1 in omega (arith, is, far);
   flushed = past.2;
 }
-
--- the list of records only grows
-pub records_up : (lists more : List (List Entry)) → Grows lists more → length (records_of lists) ≤ length (recs_in (at more log_lock))
-records_up lists more g =
-    let b = begins_filter_map appended (at lists log_lock) (at more log_lock) (g.begins log_lock) in
-    let long : length (records_of more) ≡ length (records_of lists) + length b.0 = ap (λ (l : List (By × Rec)). length l) (sym b.1) ∙ length-append (records_of lists) b.0 in
-    let same = length-map (records_of more) (λ (r : By × Rec). r.1) in
-    omega (arith, long, same)
 
 -- ---- results
 

@@ -2,7 +2,6 @@
 use Rattle.std.specs.Prelude.{◌≡◌, ℕ, ◌+◌, ◌<◌, ◌≤◌, true, Contains, List, Result, Some, length, slice_get, take}
 use Rattle.notes.specs.Lists.{at}
 use Rattle.tx_events.specs.Horizon.{oldest_id, oldest_xmin}
-use Rattle.tx_events.specs.Ids.{id_before}
 use Rattle.tx_events.specs.Multis.{oldest_multi, oldest_offset}
 use Rattle.tx_events.specs.Pages.{member_page_in_full, offset_page}
 use Rattle.tx_events.specs.declared.event.By.{By}
@@ -12,18 +11,17 @@ use Rattle.tx_events.specs.declared.refusal.Lock.{Lock}
 use Rattle.tx_events.specs.declared.refusal.Lock.TheVariants as locks
 use Rattle.tx_events.specs.declared.refusal.Refusal.{Refusal}
 use Rattle.tx_events.specs.declared.refusal.Refusal.TheVariants as refusals
-use Rattle.store_pages.specs.Layouts.{multi_before}
+use Rattle.store_pages.specs.Layouts.{multi_before, subtrans_cut_page, xact_cut_page}
 use Rattle.tx_core.specs.declared.entry.Entry.{Entry}
 use Rattle.tx_core.specs.declared.entry.Kind.{Kind}
 use Rattle.tx_core.specs.declared.entry.Kind.TheVariants as kinds
 use Rattle.tx_core.specs.declared.entry.Start.{Start}
 use Rattle.tx_core.specs.Entries.{Stands, history, records_of}
 use Rattle.tx_core.specs.Locks.{log_lock, members_lock, number_of, offsets_lock, subtrans_lock, xact_lock}
-use Rattle.tx_core.specs.Locks.{subtrans_page, xact_page}
 use Rattle.tx_core.specs.MultiEntries.{multi_history}
 use Rattle.engine_parts.specs.Adding.{IsToldBy, IsTruncation, MayAddBy}
 use Rattle.engine_parts.specs.Answers.{MetFault, MetLogFault}
-use Rattle.engine_parts.specs.Stand.{IsDownAt, IsSubtransReach, IsXactReach, first_subtrans_page}
+use Rattle.engine_parts.specs.Stand.{IsDownAt}
 
 -- what a step of a trim adds, by its result
 abbrev pub MayTrim : {T : Type 0} → Result T Refusal → ℕ → Kind → Type 0
@@ -67,20 +65,15 @@ WasOldestXminSince start before lists xmin =
     (place : ℕ) × (length (history before) ≤ place) × (place ≤ length (history lists))
     × (xmin ≡ oldest_xmin start.base.next (take place (history lists)))
 
--- the page of pg_subtrans up to which a life cuts
-abbrev pub IsParentsReach : Start → ℕ → Type 0
-IsParentsReach start page = (first_subtrans_page start ≤ page) × IsSubtransReach start page
-
 -- the command cut the bank of this lock before this page
 abbrev pub IsCutBy : List (List Entry) → By → ℕ → ℕ → Type 0
 IsCutBy lists by lock page = Contains (at lists lock) (record { by = by; kind = kinds.Cut page })
 
--- The command cut the bank of this number in each store: what lies before these numbers was let go. Of pg_xact and
--- pg_subtrans where the page is in the life's reach.
+-- The command cut the bank of this number in each store: what lies before these numbers was let go, of pg_xact and
+-- pg_subtrans up to the last page that a life cuts.
 pub record AreCut (start : Start) (lists : List (List Entry)) (by : By) (oldest xmin multi offset bank : ℕ) : Type 0 where
-  pub states : IsXactReach start (xact_page oldest) → IsCutBy lists by (xact_lock bank) (xact_page oldest)
-  pub parents : IsParentsReach start (subtrans_page (id_before xmin))
-      → IsCutBy lists by (subtrans_lock bank) (subtrans_page (id_before xmin))
+  pub states : IsCutBy lists by (xact_lock bank) (xact_cut_page start.base.oldest oldest)
+  pub parents : IsCutBy lists by (subtrans_lock bank) (subtrans_cut_page start.base.oldest xmin)
   pub offsets : IsCutBy lists by (offsets_lock bank) (offset_page (multi_before multi))
   pub members : IsCutBy lists by (members_lock bank) (member_page_in_full offset)
 

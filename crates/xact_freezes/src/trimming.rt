@@ -22,8 +22,8 @@ use tx_events::{Rec, Refusal};
 /// `src/backend/access/transam/multixact.c`, `TruncateSUBTRANS` of `subtrans.c`): the announced oldest id, and the
 /// announced oldest multixact with its offset, are read, a record of them comes to the log and onto the disk, and then
 /// each bank of pg_xact, of offsets and of members lets go of the whole segments before them, and each of pg_subtrans
-/// of those before the oldest xmin. `banks` is the number of banks of each store. A cutoff that is half a ring
-/// past the segment of the one with which the life began is left to a later life.
+/// of those before the oldest xmin; of ids no further than half a ring past the segment of the oldest one with which the
+/// life began. `banks` is the number of banks of each store.
 ///
 /// Refused with `LogDown`, `LogFault`, `Full` or `Memory`, and then nothing was let go; or with `DiskFault` of a bank,
 /// and then the banks before it were cut. The session has run fewer than 2^48 commands.
@@ -48,8 +48,6 @@ pub fn trim<R: Passing, L: LogDisk, P: PageDisk>(
         multi: multis.oldest_multi,
         offset: multis.oldest_offset,
     };
-    match log_trim(rt, hall, caller, banks, &rec) {
-        Ok(()) => cut_all(rt, hall, caller, banks, &base, &found, &multis),
-        Err(refusal) => Err(refusal),
-    }
+    log_trim(rt, hall, caller, banks, &rec)?;
+    cut_all(rt, hall, caller, banks, &base, &found, &multis)
 }

@@ -8,16 +8,17 @@ use Rattle.engine_parts.specs.Parts.{IsXactOf}
 use Rattle.engine_parts.specs.Sessions.{by_at}
 use Rattle.engine_parts.specs.Stand.{IsXactReach}
 use Rattle.hall.specs.Calls.{start_of, view}
-use Rattle.bank_sections.proofs.Cutting.{cut_met, is_xact_lock, may_cut, may_fault_cut, now_told, same_told, states_cut_by, truncated_later, visited}
+use Rattle.bank_sections.proofs.Cutting.{cut_met, is_xact_lock, may_cut, may_fault_cut, now_told, same_told, states_cut_by, states_reach, truncated_later, visited}
 use Rattle.bank_sections.proofs.StatesCut.{states_cut}
 use Rattle.bank_sections.specs.Cuts.{CutSection, cut_fault_by, cut_too}
 use Rattle.notes.specs.Lists.{at}
+use Rattle.store_pages.specs.Layouts.{xact_cut_page}
 use Rattle.slru_bank.specs.Calls.{cutoff_of, faults_of}
 use Rattle.slru_bank.specs.Removal.{later_cutoff}
 use Rattle.tx_core.proofs.FaultCounts.{risen_past}
 use Rattle.tx_core.specs.Entries.{asks_in, cut_in, event_of, marks_in}
 use Rattle.tx_core.specs.FaultsRise.{count_in, faults_told}
-use Rattle.tx_core.specs.Locks.{xact_lock, xact_page}
+use Rattle.tx_core.specs.Locks.{xact_lock}
 use Rattle.tx_core.specs.MultiEntries.{multi_of}
 use Rattle.tx_core.specs.Pages.{zeroed_in}
 use Rattle.tx_core.specs.declared.entry.Entry.{Entry}
@@ -33,16 +34,23 @@ leave_quiet-requires-clause-may g c =
     let u = view c.enter_xact-held.new.caller.pass in
     let t = c.enter_xact-held.new.caller in
     let pages = is_xact_lock start c.args.bank c.requires.bank.0 in
-    may_cut start u.seen (xact_lock c.args.bank) (xact_page c.args.oldest) (by_at t.number t.session.levels.commands) c.cut_note-entry.result.value pages (states_cut_by start u.seen c.args.bank c.args.oldest c.requires.told.0 c.requires.told.1 (truncated_later start v.seen u.seen c.args.oldest c.requires.told.0 c.requires.told.1 e.entered.learns.knows.grows c.requires.told.2))
-    (c.cut_note-entry.ensures ∙ (λ j. record { by = c.command_of-by.ensures j; kind = kinds.Cut (c.xact_page_in_full-page.ensures.page j) })) (e.at.turns (xact_lock c.args.bank))
+    let on = c.xact_cut_page-page.ensures ∙ ap (λ z. xact_cut_page z c.args.oldest) c.requires.first in
+    may_cut start u.seen (xact_lock c.args.bank) (xact_cut_page start.base.oldest c.args.oldest) (by_at t.number t.session.levels.commands) c.cut_note-entry.result.value pages (states_cut_by start u.seen c.args.bank c.args.oldest c.requires.told.0 c.requires.told.1 (truncated_later start v.seen u.seen c.args.oldest c.requires.told.0 c.requires.told.1 e.entered.learns.knows.grows c.requires.told.2))
+    (c.cut_note-entry.ensures ∙ (λ j. record { by = c.command_of-by.ensures j; kind = kinds.Cut (on j) })) (e.at.turns (xact_lock c.args.bank))
 
 pub leave_quiet-requires-clause-stands : goal.leave_quiet-requires-clause-stands
 leave_quiet-requires-clause-stands g c =
+    let start = start_of c.args.hall.now in
+    let e = c.enter_xact-held.ensures in
+    let v = view c.args.caller.now.pass in
+    let u = view c.enter_xact-held.new.caller.pass in
+    let on = c.xact_cut_page-page.ensures ∙ ap (λ z. xact_cut_page z c.args.oldest) c.requires.first in
+    let reach = states_reach start u.seen c.args.oldest c.requires.told.0 c.requires.told.1 c.requires.ready.at.base e.entered.kept (truncated_later start v.seen u.seen c.args.oldest c.requires.told.0 c.requires.told.1 e.entered.learns.knows.grows c.requires.told.2) in
     let r = c.in-Ok.ensures in
     let q = c.cut_note-entry.ensures in (
       c.args.bank,
       refl,
-      states_cut (start_of c.args.hall.now) c.args.bank c.requires.ready.at.base c.deref_mut-store.result.now c.truncate.new.self (at (view c.enter_xact-held.new.caller.pass).seen (xact_lock c.args.bank)) c.xact_page_in_full-page.result _ (ap (λ (e : Entry). cut_in e.kind) q) (ap marks_in q) (ap (λ (e : Entry). zeroed_in e.kind) q) (subst (IsXactReach (start_of c.args.hall.now)) (sym c.xact_page_in_full-page.ensures.page) c.requires.reach) (same_told (start_of c.args.hall.now) (xact_lock c.args.bank) _ (faults_of c.deref_mut-store.result.now) (faults_of c.truncate.new.self) (at (view c.enter_xact-held.new.caller.pass).seen (xact_lock c.args.bank)) (ap (λ (e : Entry). count_in e.kind) q) (subst (λ l. IsXactOf (start_of c.args.hall.now) c.args.bank l (at (view c.enter_xact-held.new.caller.pass).seen (xact_lock c.args.bank))) (sym c.deref_mut-store.ensures.value) c.enter_xact-held.ensures.stands).count r.bank.sweeps.count)
+      states_cut (start_of c.args.hall.now) c.args.bank c.requires.ready.at.base c.deref_mut-store.result.now c.truncate.new.self (at (view c.enter_xact-held.new.caller.pass).seen (xact_lock c.args.bank)) c.xact_cut_page-page.result _ (ap (λ (e : Entry). cut_in e.kind) q) (ap marks_in q) (ap (λ (e : Entry). zeroed_in e.kind) q) (subst (IsXactReach start) (sym on) reach) (same_told (start_of c.args.hall.now) (xact_lock c.args.bank) _ (faults_of c.deref_mut-store.result.now) (faults_of c.truncate.new.self) (at (view c.enter_xact-held.new.caller.pass).seen (xact_lock c.args.bank)) (ap (λ (e : Entry). count_in e.kind) q) (subst (λ l. IsXactOf (start_of c.args.hall.now) c.args.bank l (at (view c.enter_xact-held.new.caller.pass).seen (xact_lock c.args.bank))) (sym c.deref_mut-store.ensures.value) c.enter_xact-held.ensures.stands).count r.bank.sweeps.count)
           (r.cutoff ∙ ap (λ z. later_cutoff Ids 32768 (cutoff_of c.deref_mut-store.result.now) z) (c.stored_states.ensures)) r.bank.others r.bank.sweeps.last r.bank.crash (subst (λ l. IsXactOf (start_of c.args.hall.now) c.args.bank l (at (view c.enter_xact-held.new.caller.pass).seen (xact_lock c.args.bank))) (sym c.deref_mut-store.ensures.value) c.enter_xact-held.ensures.stands),
     )
 
@@ -54,17 +62,24 @@ leave_quiet-requires-in-Err-clause-may g c =
     let u = view c.enter_xact-held.new.caller.pass in
     let t = c.enter_xact-held.new.caller in
     let pages = is_xact_lock start c.args.bank c.requires.bank.0 in
-    may_fault_cut start u.seen (xact_lock c.args.bank) (xact_page c.args.oldest) (faults_of c.truncate.new.self) (by_at t.number t.session.levels.commands) c.with_cut-fault.result.value pages (states_cut_by start u.seen c.args.bank c.args.oldest c.requires.told.0 c.requires.told.1 (truncated_later start v.seen u.seen c.args.oldest c.requires.told.0 c.requires.told.1 e.entered.learns.knows.grows c.requires.told.2))
+    let on = c.xact_cut_page-page.ensures ∙ ap (λ z. xact_cut_page z c.args.oldest) c.requires.first in
+    may_fault_cut start u.seen (xact_lock c.args.bank) (xact_cut_page start.base.oldest c.args.oldest) (faults_of c.truncate.new.self) (by_at t.number t.session.levels.commands) c.with_cut-fault.result.value pages (states_cut_by start u.seen c.args.bank c.args.oldest c.requires.told.0 c.requires.told.1 (truncated_later start v.seen u.seen c.args.oldest c.requires.told.0 c.requires.told.1 e.entered.learns.knows.grows c.requires.told.2))
     (risen_past (faults_told start (xact_lock c.args.bank) (at u.seen (xact_lock c.args.bank))) (faults_of c.deref_mut-store.result.now) _ (subst (λ l. IsXactOf (start_of c.args.hall.now) c.args.bank l (at (view c.enter_xact-held.new.caller.pass).seen (xact_lock c.args.bank))) (sym c.deref_mut-store.ensures.value) c.enter_xact-held.ensures.stands).count (c.in-Err.ensures.bank.sweeps.fault refl).1)
-    ((c.with_cut-fault.ensures ∙ ap (cut_too c.xact_page_in_full-page.result) (c.fault_note.ensures ∙ ap (λ (b : By). fault_by b (faults_of c.truncate.new.self)) c.command_of-by.ensures)) ∙ (λ j. cut_fault_by (by_at t.number t.session.levels.commands) (c.xact_page_in_full-page.ensures.page j) (faults_of c.truncate.new.self))) (e.at.turns (xact_lock c.args.bank))
+    ((c.with_cut-fault.ensures ∙ ap (cut_too c.xact_cut_page-page.result) (c.fault_note.ensures ∙ ap (λ (b : By). fault_by b (faults_of c.truncate.new.self)) c.command_of-by.ensures)) ∙ (λ j. cut_fault_by (by_at t.number t.session.levels.commands) (on j) (faults_of c.truncate.new.self))) (e.at.turns (xact_lock c.args.bank))
 
 pub leave_quiet-requires-in-Err-clause-stands : goal.leave_quiet-requires-in-Err-clause-stands
 leave_quiet-requires-in-Err-clause-stands g c =
+    let start = start_of c.args.hall.now in
+    let e = c.enter_xact-held.ensures in
+    let v = view c.args.caller.now.pass in
+    let u = view c.enter_xact-held.new.caller.pass in
+    let on = c.xact_cut_page-page.ensures ∙ ap (λ z. xact_cut_page z c.args.oldest) c.requires.first in
+    let reach = states_reach start u.seen c.args.oldest c.requires.told.0 c.requires.told.1 c.requires.ready.at.base e.entered.kept (truncated_later start v.seen u.seen c.args.oldest c.requires.told.0 c.requires.told.1 e.entered.learns.knows.grows c.requires.told.2) in
     let r = c.in-Err.ensures in
-    let q = (c.with_cut-fault.ensures ∙ ap (cut_too c.xact_page_in_full-page.result) (c.fault_note.ensures ∙ ap (λ (b : By). fault_by b (faults_of c.truncate.new.self)) c.command_of-by.ensures)) in (
+    let q = (c.with_cut-fault.ensures ∙ ap (cut_too c.xact_cut_page-page.result) (c.fault_note.ensures ∙ ap (λ (b : By). fault_by b (faults_of c.truncate.new.self)) c.command_of-by.ensures)) in (
       c.args.bank,
       refl,
-      states_cut (start_of c.args.hall.now) c.args.bank c.requires.ready.at.base c.deref_mut-store.result.now c.truncate.new.self (at (view c.enter_xact-held.new.caller.pass).seen (xact_lock c.args.bank)) c.xact_page_in_full-page.result _ (ap (λ (e : Entry). cut_in e.kind) q) (ap marks_in q) (ap (λ (e : Entry). zeroed_in e.kind) q) (subst (IsXactReach (start_of c.args.hall.now)) (sym c.xact_page_in_full-page.ensures.page) c.requires.reach) (now_told (start_of c.args.hall.now) (xact_lock c.args.bank) _ (faults_of c.truncate.new.self) (at (view c.enter_xact-held.new.caller.pass).seen (xact_lock c.args.bank)) (ap (λ (e : Entry). count_in e.kind) q))
+      states_cut (start_of c.args.hall.now) c.args.bank c.requires.ready.at.base c.deref_mut-store.result.now c.truncate.new.self (at (view c.enter_xact-held.new.caller.pass).seen (xact_lock c.args.bank)) c.xact_cut_page-page.result _ (ap (λ (e : Entry). cut_in e.kind) q) (ap marks_in q) (ap (λ (e : Entry). zeroed_in e.kind) q) (subst (IsXactReach start) (sym on) reach) (now_told (start_of c.args.hall.now) (xact_lock c.args.bank) _ (faults_of c.truncate.new.self) (at (view c.enter_xact-held.new.caller.pass).seen (xact_lock c.args.bank)) (ap (λ (e : Entry). count_in e.kind) q))
           (r.cutoff ∙ ap (λ z. later_cutoff Ids 32768 (cutoff_of c.deref_mut-store.result.now) z) (c.stored_states.ensures)) r.bank.others r.bank.sweeps.last r.bank.crash (subst (λ l. IsXactOf (start_of c.args.hall.now) c.args.bank l (at (view c.enter_xact-held.new.caller.pass).seen (xact_lock c.args.bank))) (sym c.deref_mut-store.ensures.value) c.enter_xact-held.ensures.stands),
     )
 
@@ -94,10 +109,10 @@ returns-in-Err-clause-section g c =
     let pages = is_xact_lock start c.args.bank c.requires.bank.0 in
     let told = (c.in-Err.ensures.bank.sweeps.fault refl).0 in
     let is : c.in-Err.refusal ≡ refused.DiskFault = cc in
-    subst (λ (z : BankRefusal). CutSection {T = Unit {0}} start (xact_lock c.args.bank) (by_at n s.levels.commands) (xact_page c.args.oldest) v w (Err z)) (sym is) (
+    subst (λ (z : BankRefusal). CutSection {T = Unit {0}} start (xact_lock c.args.bank) (by_at n s.levels.commands) (xact_cut_page c.args.first c.args.oldest) v w (Err z)) (sym is) (
       faults_of c.truncate.new.self,
-      section_of start v u w (xact_lock c.args.bank) c.with_cut-fault.result.value (cut_fault_by (by_at n s.levels.commands) (xact_page c.args.oldest) (faults_of c.truncate.new.self)) e.entered
-          ((c.with_cut-fault.ensures ∙ ap (cut_too c.xact_page_in_full-page.result) (c.fault_note.ensures ∙ ap (λ (b : By). fault_by b (faults_of c.truncate.new.self)) c.command_of-by.ensures)) ∙ (λ j. cut_fault_by (same_command n t.number s t.session e.same.1 e.same.0 j) (c.xact_page_in_full-page.ensures.page j) (faults_of c.truncate.new.self))) c.leave_quiet-in-Err.ensures.left,
+      section_of start v u w (xact_lock c.args.bank) c.with_cut-fault.result.value (cut_fault_by (by_at n s.levels.commands) (xact_cut_page c.args.first c.args.oldest) (faults_of c.truncate.new.self)) e.entered
+          ((c.with_cut-fault.ensures ∙ ap (cut_too c.xact_cut_page-page.result) (c.fault_note.ensures ∙ ap (λ (b : By). fault_by b (faults_of c.truncate.new.self)) c.command_of-by.ensures)) ∙ (λ j. cut_fault_by (same_command n t.number s t.session e.same.1 e.same.0 j) (c.xact_cut_page-page.ensures j) (faults_of c.truncate.new.self))) c.leave_quiet-in-Err.ensures.left,
     )
 
 pub returns-in-Err-clause-went : goal.returns-in-Err-clause-went
@@ -110,7 +125,7 @@ returns-in-Err-clause-went g c =
     let s = c.args.caller.now.session in
     let n = c.args.caller.now.number in
     let pages = is_xact_lock start c.args.bank c.requires.bank.0 in
-    let q = (c.with_cut-fault.ensures ∙ ap (cut_too c.xact_page_in_full-page.result) (c.fault_note.ensures ∙ ap (λ (b : By). fault_by b (faults_of c.truncate.new.self)) c.command_of-by.ensures)) in
+    let q = (c.with_cut-fault.ensures ∙ ap (cut_too c.xact_cut_page-page.result) (c.fault_note.ensures ∙ ap (λ (b : By). fault_by b (faults_of c.truncate.new.self)) c.command_of-by.ensures)) in
     visited start v u w n (xact_lock c.args.bank) s c.requires.ready.at pages e.entered c.with_cut-fault.result.value (ap event_of q) (ap multi_of q) (ap asks_in q) c.leave_quiet-in-Err.ensures.left
 
 pub returns-in-Err-clause-fault : goal.returns-in-Err-clause-fault
@@ -124,7 +139,7 @@ returns-in-Err-clause-fault g c is =
     let s = c.args.caller.now.session in
     let n = c.args.caller.now.number in
     let pages = is_xact_lock start c.args.bank c.requires.bank.0 in
-    cut_met start v u w n (xact_lock c.args.bank) s c.requires.ready.at pages e.entered t.number t.session e.same.1 e.same.0 c.xact_page_in_full-page.result (faults_of c.truncate.new.self) c.with_cut-fault.result.value (c.with_cut-fault.ensures ∙ ap (cut_too c.xact_page_in_full-page.result) (c.fault_note.ensures ∙ ap (λ (b : By). fault_by b (faults_of c.truncate.new.self)) c.command_of-by.ensures)) c.leave_quiet-in-Err.ensures.left
+    cut_met start v u w n (xact_lock c.args.bank) s c.requires.ready.at pages e.entered t.number t.session e.same.1 e.same.0 c.xact_cut_page-page.result (faults_of c.truncate.new.self) c.with_cut-fault.result.value (c.with_cut-fault.ensures ∙ ap (cut_too c.xact_cut_page-page.result) (c.fault_note.ensures ∙ ap (λ (b : By). fault_by b (faults_of c.truncate.new.self)) c.command_of-by.ensures)) c.leave_quiet-in-Err.ensures.left
 
 pub returns-in-Err-clause-uncut : goal.returns-in-Err-clause-uncut
 returns-in-Err-clause-uncut g c cutoff is =

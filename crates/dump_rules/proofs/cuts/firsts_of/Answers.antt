@@ -11,4 +11,4 @@ returns c =
     let size : length c.events.result.now ≡ length h = ap length (c.events.ensures.value ∙ ap (λ (r : Replayed). r.events) c.replay.ensures) in
     let at : c.loop-place.place ≡ length c.events.result.now = omega arith in
     subst (λ (n : ℕ). HasFirsts base h (n + 1) c.note_first-2.new.firsts) size
-    (c.in_ok-note_first-2.ensures base h (c.subtrans_cutoff-2.ensures ∙ ap subtrans_cutoff c.xmin_at-2.ensures) (subst (λ (n : ℕ). HasFirsts base h n c.loop-place.firsts) at c.loop-place.invariant.firsts))
+    (c.in_ok-note_first-2.ensures base h (c.subtrans_cutoff-2.ensures ∙ (λ j. subtrans_cutoff (c.requires j).oldest (c.xmin_at-2.ensures j))) (subst (λ (n : ℕ). HasFirsts base h n c.loop-place.firsts) at c.loop-place.invariant.firsts))

@@ -11,4 +11,4 @@ loop-rec-preserved c =
     let recs = c.args.recs.now in
     let i = c.loop-rec.rec-index in
     let more : take (i + 1) recs ≡ take i recs ++ c.rec-item.result ∷ [] = take_more recs i c.rec-item.result (omega arith) ∙ ap (λ (r : Rec). take i recs ++ r ∷ []) (sym c.rec-item.is) in
-    subst (λ (t : List Rec). HasKeys nat_cmp cuts_xact (first_cut c.args.base.now ∷ t) c.note_xact.new.xacts) (sym more) (c.in_ok-note_xact.ensures (first_cut c.args.base.now ∷ take i recs) c.loop-rec.invariant)
+    subst (λ (t : List Rec). HasKeys nat_cmp (cuts_xact c.args.base.now.oldest) (first_cut c.args.base.now ∷ t) c.note_xact.new.xacts) (sym more) (c.in_ok-note_xact.ensures (first_cut c.args.base.now ∷ take i recs) c.loop-rec.invariant)

@@ -5,4 +5,4 @@ use Rattle.dump_rules.specs.Cutting.{cuts_xact, first_cut}
 use Rattle.dump_rules.proofs.cuts.xacts_of.Given as goal
 
 abbrev pub invariant-loop-rec : goal.invariant-loop-rec
-invariant-loop-rec l = HasKeys nat_cmp cuts_xact (first_cut l.base ∷ take l.rec-index l.recs) l.xacts
+invariant-loop-rec l = HasKeys nat_cmp (cuts_xact l.base.oldest) (first_cut l.base ∷ take l.rec-index l.recs) l.xacts

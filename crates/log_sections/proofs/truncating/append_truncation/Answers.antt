@@ -17,10 +17,11 @@ use Rattle.engine_parts.proofs.Leaving.{call_left}
 use Rattle.engine_parts.proofs.Logging.{appends, begins_untouched, failed_more, first_same, goes_on, unflushed, up_more}
 use Rattle.engine_parts.proofs.Sectioning.{same_command, section_of}
 use Rattle.engine_parts.proofs.Stepping.{went_quiet}
-use Rattle.log_sections.proofs.Sections.{append_refused, base_of_log, down_left, log_refused, not_down, same_err, up_left}
+use Rattle.log_sections.proofs.Sections.{append_refused, base_of_log, down_left, log_refused, not_down, same_err, stands_under, up_left}
 use Rattle.tx_core.specs.FaultsRise.{count_in, faults_at, faults_told}
 use Rattle.tx_core.proofs.LastNumbers.{number_same}
 use Rattle.log_sections.proofs.Truncated.{truncation_follows, truncation_later}
+use Rattle.log_sections.specs.LogSections.{StandsUnder}
 use Rattle.log_sections.proofs.truncating.append_truncation.Goals as goal
 
 -- the log can take it
@@ -30,7 +31,7 @@ append-requires g c =
     let u = c.enter_log-held.new.caller in
     let e = c.enter_log-held.ensures in
     truncation_follows start c.deref_mut-log.result.now (view u.pass).seen c.args.rec.now e.entered.kept c.requires.may.ready.at.base (subst (λ l. IsLogOf start l (at (view u.pass).seen log_lock)) (sym c.deref_mut-log.ensures.value) e.stands)
-    (truncation_later start (view c.args.caller.now.pass).seen (view u.pass).seen c.args.rec.now e.entered.learns.knows.grows c.requires.record) c.tell_forms.ensures
+    (truncation_later start (view c.args.caller.now.pass).seen (view u.pass).seen c.args.rec.now e.entered.learns.knows.grows c.requires.record) c.tell_forms.ensures.truncation
 
 pub leave_truncated-requires-clause-base : goal.leave_truncated-requires-clause-base
 leave_truncated-requires-clause-base g c =
@@ -40,7 +41,7 @@ leave_truncated-requires-clause-base g c =
     let stands = subst (λ l. IsLogOf start l (at (view u.pass).seen log_lock)) (sym c.deref_mut-log.ensures.value) e.stands in
     base_of_log start c.deref_mut-log.result.now (at (view u.pass).seen log_lock) c.args.rec.now stands
     (truncation_follows start c.deref_mut-log.result.now (view u.pass).seen c.args.rec.now e.entered.kept c.requires.may.ready.at.base stands
-    (truncation_later start (view c.args.caller.now.pass).seen (view u.pass).seen c.args.rec.now e.entered.learns.knows.grows c.requires.record) c.tell_forms.ensures).base
+    (truncation_later start (view c.args.caller.now.pass).seen (view u.pass).seen c.args.rec.now e.entered.learns.knows.grows c.requires.record) c.tell_forms.ensures.truncation).base
 
 -- the record is appended
 pub returns-in-Ok-clause-may : goal.returns-in-Ok-clause-may
@@ -108,8 +109,8 @@ returns-in-Err-clause-went g c =
     went_quiet (start_of c.args.hall.now) (view c.args.caller.now.pass) (view c.enter_log-held.new.caller.pass) (view c.leave_looked.new.caller.pass) c.args.caller.now.number log_lock c.args.caller.now.session _ c.requires.may.ready.at e.entered.kept e.entered.learns (omega arith) refl refl refl c.leave_looked.ensures.left
 
 -- what came of the record
-pub returns-in-Err-clause-takes : goal.returns-in-Err-clause-takes
-returns-in-Err-clause-takes g c =
+pub returns-in-Err-clause-refused : goal.returns-in-Err-clause-refused
+returns-in-Err-clause-refused g c =
     let e = c.enter_log-held.ensures in
     let wide = c.requires.may.ready.at.wide in
     let long = e.entered.learns.long in
@@ -129,6 +130,20 @@ returns-in-Ok-clause-section g c =
     let n = c.args.caller.now.number in
     section_of (start_of c.args.hall.now) (view c.args.caller.now.pass) (view t.pass) (view c.leave_truncated.new.caller.pass) log_lock _ (record { by = by_at n s.levels.commands; kind = kinds.Append c.args.rec.now }) e.entered
     (ap (λ (b : By). record { by = b; kind = kinds.Append c.args.rec.now }) (same_command n t.number s t.session e.same.1 e.same.0)) c.leave_truncated.ensures.left
+
+pub returns-in-Ok-clause-stands : goal.returns-in-Ok-clause-stands
+returns-in-Ok-clause-stands g c =
+    let start = start_of c.args.hall.now in
+    let e = c.enter_log-held.ensures in
+    let u = c.enter_log-held.new.caller in
+    let w = c.leave_truncated.new.caller in
+    let s = c.args.caller.now.session in
+    let n = c.args.caller.now.number in
+    let wide = c.requires.may.ready.at.wide in
+    let long = e.entered.learns.long in
+    let next = subst (λ l. IsLogOf start l (at (view u.pass).seen log_lock)) (sym c.deref_mut-log.ensures.value) e.stands in
+    subst (λ (b : By). StandsUnder start (view w.pass).seen b c.args.rec.now c.in-Ok.number) (same_command n u.number s u.session e.same.1 e.same.0)
+    (stands_under start (view u.pass) (view w.pass) c.in-Ok.number (by_at u.number u.session.levels.commands) c.args.rec.now (omega arith) (c.in-Ok.ensures.number ∙ next.next_is) c.leave_truncated.ensures.left)
 
 pub returns-in-Err-clause-section : goal.returns-in-Err-clause-section
 returns-in-Err-clause-section g c =

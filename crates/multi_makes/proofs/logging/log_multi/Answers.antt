@@ -4,7 +4,8 @@ use Rattle.engine_parts.specs.Adding.{IsOfMulti, MayAdd}
 use Rattle.engine_parts.specs.Sessions.{by_at}
 use Rattle.engine_parts.proofs.Adding.{adds_wider}
 use Rattle.engine_parts.proofs.Sectioning.{same_command}
-use Rattle.multi_makes.proofs.Announcing.{append_adds, record_wider, unlogged_same}
+use Rattle.log_sections.proofs.Added.{append_adds}
+use Rattle.multi_makes.proofs.Announcing.{record_wider, unlogged_same}
 use Rattle.multi_makes.proofs.Going.{both_add, on_then}
 use Rattle.multi_makes.proofs.logging.log_multi.Goals as goal
 

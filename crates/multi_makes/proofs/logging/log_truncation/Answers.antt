@@ -8,9 +8,10 @@ use Rattle.engine_parts.proofs.Adding.{may_wider, plain_wider}
 use Rattle.engine_parts.proofs.Leaving.{grows_then}
 use Rattle.engine_parts.proofs.Sectioning.{same_command}
 use Rattle.engine_parts.proofs.Unmoved.{call_read, look_adds}
-use Rattle.multi_makes.proofs.Announcing.{append_adds, multi_look_adds, truncation_found}
+use Rattle.log_sections.proofs.Added.{truncation_adds}
+use Rattle.multi_makes.proofs.Announcing.{multi_look_adds, truncation_found}
 use Rattle.multi_makes.proofs.Going.{both_add, call_multi, on_then, same_making, went_on}
-use Rattle.multi_makes.proofs.Landing.{truncation_lands, truncation_tells}
+use Rattle.multi_makes.proofs.Landing.{truncation_tells}
 use Rattle.multi_makes.proofs.logging.log_truncation.Goals as goal
 
 pub append_truncation-requires-clause-may : goal.append_truncation-requires-clause-may
@@ -29,38 +30,6 @@ append_truncation-requires-clause-record g c =
     let u = c.read_oldest-oldest.new.caller in
     let t = c.read_multis-multis.new.caller in
     truncation_found (start_of c.args.hall.now) (view u.pass).seen (view t.pass).seen c.read_oldest-oldest.result c.read_multis-multis.result _ c.read_multis-multis.ensures.went.grows c.read_oldest-oldest.ensures.oldest c.read_multis-multis.ensures.counters refl
-
-pub returns-in-Ok-At-clause-went : goal.returns-in-Ok-At-clause-went
-returns-in-Ok-At-clause-went g c =
-    let old = c.args.caller.now in
-    let u = c.read_oldest-oldest.new.caller in
-    let t = c.read_multis-multis.new.caller in
-    let w = c.append_truncation.new.caller in
-    let e = c.read_oldest-oldest.ensures in
-    let f = c.read_multis-multis.ensures in
-    on_then old.number t.number (view old.pass).seen (view t.pass).seen (view w.pass).seen (f.same.1 ∙ e.same.1)
-    (on_then old.number u.number (view old.pass).seen (view u.pass).seen (view t.pass).seen e.same.1 e.went (went_on u.number (view u.pass).seen (view t.pass).seen f.went)) c.append_truncation.ensures.went
-
-pub returns-in-Ok-At-clause-adds : goal.returns-in-Ok-At-clause-adds
-returns-in-Ok-At-clause-adds g c =
-    let start = start_of c.args.hall.now in
-    let old = c.args.caller.now in
-    let u = c.read_oldest-oldest.new.caller in
-    let t = c.read_multis-multis.new.caller in
-    let w = c.append_truncation.new.caller in
-    let e = c.read_oldest-oldest.ensures in
-    let f = c.read_multis-multis.ensures in
-    let rec : Rec = records.Truncate c.read_oldest-oldest.result c.read_multis-multis.result.oldest_multi c.read_multis-multis.result.oldest_offset in
-    let by = by_at old.number old.session.levels.commands in
-    let mid = by_at u.number u.session.levels.commands in
-    let by' = by_at t.number t.session.levels.commands in
-    both_add by by' IsPlain (MayAdd (λ z. z ≡ rec) ⊥ (λ r. ⊥)) (MayAdd IsTruncation ⊥ (λ r. ⊥)) (view old.pass).seen (view t.pass).seen (view w.pass).seen (same_command old.number t.number old.session t.session (f.same.1 ∙ e.same.1) (f.same.0 ∙ e.same.0))
-    (plain_wider IsTruncation ⊥ (λ r. ⊥))
-    (may_wider (λ z. z ≡ rec) IsTruncation ⊥ ⊥ (λ r. ⊥) (λ r. ⊥) (λ z is. subst IsTruncation (sym is) tt) (λ m. m) (λ r m. m))
-    (both_add by mid IsPlain IsPlain IsPlain (view old.pass).seen (view u.pass).seen (view t.pass).seen (same_command old.number u.number old.session u.session e.same.1 e.same.0) (λ lock kind m. m) (λ lock kind m. m)
-    (look_adds start (view old.pass) (view u.pass) old.number old.session IsPlain c.requires.may.ready.at tt e.section)
-    (multi_look_adds start (view u.pass) (view t.pass) u.number u.session e.ready.at f.section))
-    (append_adds start (view t.pass) (view w.pass) by' t.session rec c.append_truncation.result f.ready.at c.append_truncation.ensures.section)
 
 pub returns-clause-went : goal.returns-clause-went
 returns-clause-went g c =
@@ -92,16 +61,10 @@ returns-clause-adds g c =
     (both_add by mid IsPlain IsPlain IsPlain (view old.pass).seen (view u.pass).seen (view t.pass).seen (same_command old.number u.number old.session u.session e.same.1 e.same.0) (λ lock kind m. m) (λ lock kind m. m)
     (look_adds start (view old.pass) (view u.pass) old.number old.session IsPlain c.requires.may.ready.at tt e.section)
     (multi_look_adds start (view u.pass) (view t.pass) u.number u.session e.ready.at f.section))
-    (append_adds start (view t.pass) (view w.pass) by' t.session rec c.append_truncation.result f.ready.at c.append_truncation.ensures.section)
+    (truncation_adds start (view t.pass) (view w.pass) by' t.session rec c.append_truncation.result f.ready.at c.append_truncation.ensures.section)
 
-pub unreachable-requires : goal.unreachable-requires
-unreachable-requires g c =
-    let t = c.read_multis-multis.new.caller in
-    let rec : Rec = records.Truncate c.read_oldest-oldest.result c.read_multis-multis.result.oldest_multi c.read_multis-multis.result.oldest_offset in
-    truncation_lands (start_of c.args.hall.now) (view c.append_truncation.new.caller.pass).seen rec c.in-Ok-NoBase.field-0 c.in-Ok-NoBase.field-0-is c.in-Ok-NoBase.ensures.takes
-
-pub returns-in-Ok-At-clause-told : goal.returns-in-Ok-At-clause-told
-returns-in-Ok-At-clause-told g c =
+pub returns-clause-told : goal.returns-clause-told
+returns-clause-told g c =
     let start = start_of c.args.hall.now in
     let old = c.args.caller.now in
     let u = c.read_oldest-oldest.new.caller in
@@ -110,5 +73,5 @@ returns-in-Ok-At-clause-told g c =
     let e = c.read_oldest-oldest.ensures in
     let f = c.read_multis-multis.ensures in
     let wide = f.ready.at.wide in
-    truncation_tells start (view old.pass).seen (view u.pass).seen (view t.pass) (view w.pass) (by_at t.number t.session.levels.commands) c.in-Ok-At.field-0 c.read_oldest-oldest.result c.read_multis-multis.result e.ready.at.base e.ready.at.kept f.ready.at.kept
-    e.went.on.grows (grows_then (view old.pass).seen (view u.pass).seen (view t.pass).seen e.went.on.grows f.went.grows) (omega arith) e.oldest f.counters c.in-Ok-At.ensures.takes c.in-Ok-At.ensures.section
+    truncation_tells start (view old.pass).seen (view u.pass).seen (view t.pass) (view w.pass) (by_at t.number t.session.levels.commands) c.append_truncation.result c.read_oldest-oldest.result c.read_multis-multis.result e.ready.at.base e.ready.at.kept f.ready.at.kept
+    e.went.on.grows (grows_then (view old.pass).seen (view u.pass).seen (view t.pass).seen e.went.on.grows f.went.grows) (omega arith) e.oldest f.counters c.append_truncation.ensures.section

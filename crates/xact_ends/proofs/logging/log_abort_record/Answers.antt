@@ -8,7 +8,8 @@ use Rattle.engine_parts.proofs.Adding.{adds_wider}
 use Rattle.engine_parts.proofs.Sectioning.{same_command}
 use Rattle.log_sections.specs.declared.appending.Appended.{Appended}
 use Rattle.log_sections.specs.LogSections.{TakesAbort}
-use Rattle.xact_ends.proofs.Added.{append_adds, both_add}
+use Rattle.log_sections.proofs.Added.{append_adds}
+use Rattle.xact_ends.proofs.Added.{both_add}
 use Rattle.xact_ends.proofs.Truncating.{abort_wider, unaborted_record_same, went_on}
 use Rattle.xact_ends.proofs.logging.log_abort_record.Goals as goal
 

@@ -7,7 +7,8 @@ use Rattle.engine_parts.proofs.Adding.{adds_wider}
 use Rattle.engine_parts.proofs.Sectioning.{same_command}
 use Rattle.log_sections.specs.declared.appending.Appended.{Appended}
 use Rattle.log_sections.specs.LogSections.{Appends}
-use Rattle.xact_ends.proofs.Added.{append_adds, both_add}
+use Rattle.log_sections.proofs.Added.{append_adds}
+use Rattle.xact_ends.proofs.Added.{both_add}
 use Rattle.xact_ends.proofs.Truncating.{commit_wider, unlogged_same, went_on}
 use Rattle.xact_ends.proofs.logging.log_commit_record.Goals as goal
 

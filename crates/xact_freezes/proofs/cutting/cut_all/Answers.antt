@@ -36,17 +36,17 @@ loop-bank-preserved g c =
     let m = c.args.multis.now in
     let v = i.visited in
     record {
-      visited = trim_then hall c.args.banks {T = Unit {0}} {U = Unit {0}} tt (Ok tt) old t w v c.in-Ok.ensures.visited;
-      cut = cut_more start (view t.pass).seen (view w.pass).seen (by_at old.number old.session.levels.commands) found.oldest found.oldest_xmin m.oldest_multi m.oldest_offset bank c.in-Ok.ensures.visited.went.grows i.cut
-          (subst (λ (z : By). AreCut start (view w.pass).seen z found.oldest found.oldest_xmin m.oldest_multi m.oldest_offset bank) (command_kept old.number t.number old.session t.session v.number v.session) c.in-Ok.ensures.cut);
+      visited = trim_then hall c.args.banks {T = Unit {0}} {U = Unit {0}} tt (Ok tt) old t w v c.in_ok-cut_bank.ensures.visited;
+      cut = cut_more start (view t.pass).seen (view w.pass).seen (by_at old.number old.session.levels.commands) found.oldest found.oldest_xmin m.oldest_multi m.oldest_offset bank c.in_ok-cut_bank.ensures.visited.went.grows i.cut
+          (subst (λ (z : By). AreCut start (view w.pass).seen z found.oldest found.oldest_xmin m.oldest_multi m.oldest_offset bank) (command_kept old.number t.number old.session t.session v.number v.session) c.in_ok-cut_bank.ensures.cut);
     }
 
-pub returns-in-Err-clause-visited : goal.returns-in-Err-clause-visited
-returns-in-Err-clause-visited g c = trim_then c.args.hall.now c.args.banks {T = Unit {0}} {U = Unit {0}} tt (Err c.in-Err.refusal) c.args.caller.now c.loop-bank.caller c.cut_bank.new.caller c.loop-bank.invariant.visited c.in-Err.ensures.visited
+pub returns-in_err-cut_bank-clause-visited : goal.returns-in_err-cut_bank-clause-visited
+returns-in_err-cut_bank-clause-visited g c = trim_then c.args.hall.now c.args.banks {T = Unit {0}} {U = Unit {0}} tt (Err c.in_err-cut_bank.field-0) c.args.caller.now c.loop-bank.caller c.cut_bank.new.caller c.loop-bank.invariant.visited c.in_err-cut_bank.ensures.visited
 
-pub returns-in-Err-clause-met : goal.returns-in-Err-clause-met
-returns-in-Err-clause-met g c =
+pub returns-in_err-cut_bank-clause-met : goal.returns-in_err-cut_bank-clause-met
+returns-in_err-cut_bank-clause-met g c =
     let old = c.args.caller.now in
     let t = c.loop-bank.caller in
     let v = c.loop-bank.invariant.visited in
-    subst (λ (z : By). IsTrimMet (start_of c.args.hall.now) (view c.cut_bank.new.caller.pass).seen z c.in-Err.refusal) (command_kept old.number t.number old.session t.session v.number v.session) c.in-Err.ensures.met
+    subst (λ (z : By). IsTrimMet (start_of c.args.hall.now) (view c.cut_bank.new.caller.pass).seen z c.in_err-cut_bank.field-0) (command_kept old.number t.number old.session t.session v.number v.session) c.in_err-cut_bank.ensures.met

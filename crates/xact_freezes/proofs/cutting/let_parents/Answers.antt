@@ -1,6 +1,7 @@
-use Rattle.std.proofs.Common.{rules, ◌≡◌, ℕ, ◌+◌, ◌*◌, ◌/◌, ◌^◌, ◌<◌, ◌≤◌, [], Ok, Err, ap, refl, subst, ◌∙◌, arith}
+use Rattle.std.proofs.Common.{ℕ, ◌<◌, [], Ok, Err, ap, refl, subst, arith}
 use Rattle.tx_events.specs.declared.record.Counters.{Counters}
 use Rattle.hall.specs.Calls.{view, start_of}
+use Rattle.store_pages.specs.Layouts.{subtrans_cut_page}
 use Rattle.tx_events.specs.declared.refusal.Lock.TheVariants as locks
 use Rattle.tx_events.specs.declared.refusal.Refusal.TheVariants as refusals
 use Rattle.tx_core.specs.declared.entry.Entry.{Entry}
@@ -8,14 +9,12 @@ use Rattle.tx_core.specs.declared.entry.Kind.{Kind}
 use Rattle.tx_core.specs.declared.entry.Kind.TheVariants as kinds
 use Rattle.bank_sections.specs.Cuts.{CutSection, cut_fault_by}
 use Rattle.bank_sections.proofs.Cutting.{is_subtrans_lock}
-use Rattle.tx_events.specs.Ids.{id_before}
-use Rattle.tx_core.specs.Locks.{subtrans_lock, subtrans_page}
+use Rattle.tx_core.specs.Locks.{subtrans_lock}
 use Rattle.engine_parts.specs.Sessions.{by_at}
 use Rattle.engine_parts.proofs.Sectioning.{section_stands}
-use Rattle.xact_freezes.specs.Trims.{MayTrim}
+use Rattle.xact_freezes.specs.Trims.{IsCutBy, MayTrim}
 use Rattle.xact_freezes.proofs.Going.{visited_now}
 use Rattle.xact_freezes.proofs.Raising.{bank_adds}
-use Rattle.xact_freezes.proofs.TrimSteps.{visited_still}
 use Rattle.xact_freezes.proofs.cutting.let_parents.Goals as goal
 
 pub returns-in-Ok-clause-visited : goal.returns-in-Ok-clause-visited
@@ -27,12 +26,12 @@ returns-in-Ok-clause-visited g c =
     let by = by_at old.number old.session.levels.commands in
     let inside : c.args.bank < start.banks = subst (λ z. c.args.bank < z) c.requires.step.each.0 c.requires.bank in
     let done : ℕ → Kind → Type 0 = MayTrim {T = Unit {0}} (Ok tt) in
-    let entry : Entry = record { by = by; kind = kinds.Cut (subtrans_page (id_before c.args.xmin)) } in
+    let entry : Entry = record { by = by; kind = kinds.Cut (subtrans_cut_page c.args.base.now.oldest c.args.xmin) } in
     visited_now c.args.hall.now c.args.banks done [] old w c.requires.step e.own e.ready e.went e.same
     (bank_adds start (view old.pass) (view w.pass) (subtrans_lock c.args.bank) entry by old.session done (is_subtrans_lock start c.args.bank inside) c.requires.step.may.ready.at e.section refl tt)
 
 pub returns-in-Ok-clause-cut : goal.returns-in-Ok-clause-cut
-returns-in-Ok-clause-cut g c reach =
+returns-in-Ok-clause-cut g c =
     let start = start_of c.args.hall.now in
     let old = c.args.caller.now in
     let w = c.cut_parents.new.caller in
@@ -40,8 +39,8 @@ returns-in-Ok-clause-cut g c reach =
     let inside : c.args.bank < start.banks = subst (λ z. c.args.bank < z) c.requires.step.each.0 c.requires.bank in
     let a = c.requires.step.may.ready.at in
     let wide = a.wide in
-    let entry : Entry = record { by = by; kind = kinds.Cut (subtrans_page (id_before c.args.xmin)) } in
-    section_stands start (view old.pass) (view w.pass) (subtrans_lock c.args.bank) entry c.in-Ok.ensures.section (omega (arith, inside, wide))
+    let entry : Entry = record { by = by; kind = kinds.Cut (subtrans_cut_page c.args.base.now.oldest c.args.xmin) } in
+    subst (λ (b : Counters). IsCutBy (view w.pass).seen by (subtrans_lock c.args.bank) (subtrans_cut_page b.oldest c.args.xmin)) c.requires.base (section_stands start (view old.pass) (view w.pass) (subtrans_lock c.args.bank) entry c.in-Ok.ensures.section (omega (arith, inside, wide)))
 
 pub returns-in-Err-DiskFault-clause-visited : goal.returns-in-Err-DiskFault-clause-visited
 returns-in-Err-DiskFault-clause-visited g c =
@@ -52,20 +51,9 @@ returns-in-Err-DiskFault-clause-visited g c =
     let by = by_at old.number old.session.levels.commands in
     let inside : c.args.bank < start.banks = subst (λ z. c.args.bank < z) c.requires.step.each.0 c.requires.bank in
     let failed : ℕ → Kind → Type 0 = MayTrim {T = Unit {0}} (Err (refusals.DiskFault (locks.Subtrans c.args.bank))) in
-    let section = subst (λ z. CutSection {T = Unit {0}} start (subtrans_lock c.args.bank) by (subtrans_page (id_before c.args.xmin)) (view old.pass) (view w.pass) (Err z)) c.in-Err-DiskFault.field-0-is e.section in
+    let section = subst (λ z. CutSection {T = Unit {0}} start (subtrans_lock c.args.bank) by (subtrans_cut_page c.args.base.now.oldest c.args.xmin) (view old.pass) (view w.pass) (Err z)) c.in-Err-DiskFault.field-0-is e.section in
     visited_now c.args.hall.now c.args.banks failed [] old w c.requires.step e.own e.ready e.went e.same
-    (bank_adds start (view old.pass) (view w.pass) (subtrans_lock c.args.bank) (cut_fault_by by (subtrans_page (id_before c.args.xmin)) section.0) by old.session failed (is_subtrans_lock start c.args.bank inside) c.requires.step.may.ready.at section.1 refl (locks.Subtrans c.args.bank, refl, refl, tt))
-
-pub returns-then-not-cuts_parents-clause-visited : goal.returns-then-not-cuts_parents-clause-visited
-returns-then-not-cuts_parents-clause-visited g c = visited_still c.args.hall.now c.args.banks (MayTrim {T = Unit {0}} (Ok tt)) c.args.caller.now c.requires.step
-
-pub cut_parents-requires-clause-reach : goal.cut_parents-requires-clause-reach
-cut_parents-requires-clause-reach g c =
-    let k = c.cuts_parents.ensures.0 (search rules) in
-    let page : ℕ = subtrans_page (id_before c.args.xmin) in
-    let is : c.subtrans_page_in_full.result ≡ page = c.subtrans_page_in_full.ensures.page ∙ ap subtrans_page c.retreat.ensures.value in
-    let base = c.requires.base in
-    (subst (λ (b : Counters). subtrans_page b.oldest ≤ page + 1) base (subst (λ z. subtrans_page c.args.base.now.oldest ≤ z + 1) is k.1.0), subst (λ (b : Counters). page + 2 ≤ subtrans_page b.oldest / 32 * 32 + 2 ^ 20) base (subst (λ z. z + 2 ≤ subtrans_page c.args.base.now.oldest / 32 * 32 + 2 ^ 20) is k.1.1))
+    (bank_adds start (view old.pass) (view w.pass) (subtrans_lock c.args.bank) (cut_fault_by by (subtrans_cut_page c.args.base.now.oldest c.args.xmin) section.0) by old.session failed (is_subtrans_lock start c.args.bank inside) c.requires.step.may.ready.at section.1 refl (locks.Subtrans c.args.bank, refl, refl, tt))
 
 pub returns-in-Err-DiskFault-clause-met : goal.returns-in-Err-DiskFault-clause-met
 returns-in-Err-DiskFault-clause-met g c = (tt, c.in-Err-DiskFault.ensures.fault (ap (λ z. Err z) c.in-Err-DiskFault.field-0-is))

@@ -70,7 +70,7 @@ pub cut_all-requires-clause-told : goal.cut_all-requires-clause-told
 cut_all-requires-clause-told g c =
     let d = c.read_multis-multis.new.caller in
     let multis : Counters = c.read_multis-multis.result in
-    is_truncated (start_of c.args.hall.now) (view c.log_trim.new.caller.pass).seen (by_at d.number d.session.levels.commands) c.read_horizons-found.result.oldest multis.oldest_multi multis.oldest_offset c.in-Ok.ensures.flushed
+    is_truncated (start_of c.args.hall.now) (view c.log_trim.new.caller.pass).seen (by_at d.number d.session.levels.commands) c.read_horizons-found.result.oldest multis.oldest_multi multis.oldest_offset c.in_ok-log_trim.ensures.flushed
 
 pub cut_all-requires-clause-xmin : goal.cut_all-requires-clause-xmin
 cut_all-requires-clause-xmin g c =
@@ -86,12 +86,12 @@ cut_all-requires-clause-xmin g c =
     let z = c.read_multis-multis.ensures in
     let looks = trim_looks hall banks u c.read_base-base.new.caller b d (step_counted hall old u c.count.ensures c.requires.may) x.section x.own x.ready x.went x.same y.section y.own y.ready y.went y.same z.section z.own z.ready z.went z.same in
     let f = c.log_trim.new.caller in
-    let v = c.in-Ok.ensures.visited in
+    let v = c.in_ok-log_trim.ensures.visited in
     let found = c.read_horizons-found.result in
     xmin_later start (view b.pass).seen (view f.pass).seen found.oldest_xmin (grows_then (view b.pass).seen (view d.pass).seen (view f.pass).seen looks.far.went.grows v.went.grows) (xmin_now start (view b.pass).seen found.oldest_xmin y.horizons.xmin)
 
-pub returns-in-Ok-clause-ran : goal.returns-in-Ok-clause-ran
-returns-in-Ok-clause-ran g c =
+pub returns-clause-ran : goal.returns-clause-ran
+returns-clause-ran g c =
     let hall = c.args.hall.now in
     let start = start_of hall in
     let banks = c.args.banks in
@@ -107,12 +107,12 @@ returns-in-Ok-clause-ran g c =
     let f = c.log_trim.new.caller in
     let w = c.cut_all.new.caller in
     let result = c.cut_all.result in
-    let v = c.in-Ok.ensures.visited in
+    let v = c.in_ok-log_trim.ensures.visited in
     trim_ran hall {banks = banks} result old u w c.count.ensures (look_then hall banks result u d w seen (trim_then hall banks {T = Unit {0}} tt result d f w v c.cut_all.ensures.visited))
     (subst (λ k. IfErr result (IsTrimMet start (view w.pass).seen k)) (command_kept u.number f.number u.session f.session (v.number ∙ seen.number) (v.session ∙ seen.session)) c.cut_all.ensures.met)
 
-pub returns-in-Ok-clause-trimmed : goal.returns-in-Ok-clause-trimmed
-returns-in-Ok-clause-trimmed g c =
+pub returns-clause-trimmed : goal.returns-clause-trimmed
+returns-clause-trimmed g c =
     let hall = c.args.hall.now in
     let start = start_of hall in
     let banks = c.args.banks in
@@ -129,7 +129,7 @@ returns-in-Ok-clause-trimmed g c =
     let multis : Counters = c.read_multis-multis.result in
     let f = c.log_trim.new.caller in
     let w = c.cut_all.new.caller in
-    let v = c.in-Ok.ensures.visited in
+    let v = c.in_ok-log_trim.ensures.visited in
     let t = c.cut_all.ensures.visited in
     let begun = (view old.pass).seen in
     let rec : Rec = records.Truncate found.oldest multis.oldest_multi multis.oldest_offset in
@@ -137,7 +137,7 @@ returns-in-Ok-clause-trimmed g c =
     let counted : u.session.levels.commands ≡ next_command old = ap (λ k. k.commands) c.count.ensures.levels in
     let named : by_at d.number d.session.levels.commands ≡ by = command_kept u.number d.number u.session d.session seen.number seen.session ∙ (λ j. by_at (c.count.ensures.number j) (counted j)) in
     let cutter : by_at f.number f.session.levels.commands ≡ by = command_kept d.number f.number d.session f.session v.number v.session ∙ named in
-    let flushed : HasFlushed start (view w.pass).seen by rec = has_flushed_later start (view f.pass).seen (view w.pass).seen by rec t.went.grows (subst (λ k. HasFlushed start (view f.pass).seen k rec) named c.in-Ok.ensures.flushed) in
+    let flushed : HasFlushed start (view w.pass).seen by rec = has_flushed_later start (view f.pass).seen (view w.pass).seen by rec t.went.grows (subst (λ k. HasFlushed start (view f.pass).seen k rec) named c.in_ok-log_trim.ensures.flushed) in
     let near : Grows begun (view b.pass).seen = subst (λ k. Grows (view k).seen (view b.pass).seen) c.count.ensures.pass looks.near.went.grows in
     let all : Grows begun (view d.pass).seen = grows_then begun (view b.pass).seen (view d.pass).seen near looks.far.went.grows in
     let after = grows_then (view b.pass).seen (view d.pass).seen (view w.pass).seen looks.far.went.grows (grows_then (view d.pass).seen (view f.pass).seen (view w.pass).seen v.went.grows t.went.grows) in
@@ -161,8 +161,8 @@ returns-in-Ok-clause-trimmed g c =
     })
     c.cut_all.ensures.cut
 
-pub returns-clause-ran : goal.returns-clause-ran
-returns-clause-ran g c =
+pub returns-in_err-log_trim-clause-ran : goal.returns-in_err-log_trim-clause-ran
+returns-in_err-log_trim-clause-ran g c =
     let hall = c.args.hall.now in
     let start = start_of hall in
     let banks = c.args.banks in
@@ -176,6 +176,6 @@ returns-clause-ran g c =
     let looks = trim_looks hall banks u c.read_base-base.new.caller b d (step_counted hall old u c.count.ensures c.requires.may) x.section x.own x.ready x.went x.same y.section y.own y.ready y.went y.same z.section z.own z.ready z.went z.same in
     let seen = looks.all in
     let f = c.log_trim.new.caller in
-    let refused : Result (Unit {0}) Refusal = Err c.in-Err.refusal in
-    trim_ran hall {banks = banks} refused old u f c.count.ensures (look_then hall banks refused u d f seen c.in-Err.ensures.visited)
-    (subst (λ k. IsTrimMet start (view f.pass).seen k c.in-Err.refusal) (command_kept u.number d.number u.session d.session seen.number seen.session) c.in-Err.ensures.met)
+    let refused : Result (Unit {0}) Refusal = Err c.in_err-log_trim.field-0 in
+    trim_ran hall {banks = banks} refused old u f c.count.ensures (look_then hall banks refused u d f seen c.in_err-log_trim.ensures.visited)
+    (subst (λ k. IsTrimMet start (view f.pass).seen k c.in_err-log_trim.field-0) (command_kept u.number d.number u.session d.session seen.number seen.session) c.in_err-log_trim.ensures.met)

@@ -22,12 +22,12 @@ invariant_of-log g c =
     let found = c.in-Ok.found in let none : c.new.result ≡ [] = c.new.ensures in
     let empty : length c.new.result ≡ 0 = ap length none in
     let recs : length c.items.result.now ≡ length found.recs = ap length c.items.ensures in
-    let behind = c.in-Ok-zeros.ensures ∙ nothing_behind in
+    let behind = c.in-Ok-no_batch.ensures ∙ nothing_behind in
     record {
       counts = omega (arith, empty);
       small = omega (arith, empty, recs, c.in-Ok.ensures.numbers, c.in-Ok.ensures.place);
-      numbers = omega (arith, empty, recs, c.in-Ok.ensures.numbers, ap length c.in-Ok-zeros.ensures);
-      next_batch = nothing_next c.in-Ok-zeros.behind.items c.new.result none behind;
+      numbers = omega (arith, empty, recs, c.in-Ok.ensures.numbers, ap length c.in-Ok-no_batch.ensures);
+      next_batch = nothing_next c.in-Ok-no_batch.behind.items c.new.result none behind;
       few = λ some. absurd (omega (arith, empty, some));
       lawful = ap are_lawful none;
       numbered = omega (arith, recs, c.in-Ok.ensures.numbers);

@@ -1,4 +1,3 @@
 pub mod Lining
-pub mod Turning
 pub mod Logging
 pub mod Snapped

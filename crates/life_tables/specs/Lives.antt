@@ -1,9 +1,8 @@
 -- A life, what it begins from, and what its lines' replies tell.
-use Rattle.std.specs.Prelude.{ℕ, ◌≤◌, Bool, true, false, List, [], ◌∷◌}
+use Rattle.std.specs.Prelude.{Bool, true, false}
 use Rattle.tx_model.specs.declared.reply.Reply.{Reply}
 use Rattle.tx_model.specs.declared.reply.Reply.TheVariants as replies
 use Rattle.tx_model.specs.declared.report.LifeReport.{LifeReport}
-use Rattle.place_columns.specs.declared.own.Own.{Own}
 use Rattle.report_law.specs.Begun.{Begun}
 use Rattle.report_law.specs.Steps.{Judged}
 
@@ -19,8 +18,3 @@ judged_life at = record { begun = at.begun; life = at.report.life; steps = at.re
 abbrev pub is_multi_reply : Reply → Bool
 is_multi_reply (replies.Multi multi offset warn) = true
 is_multi_reply reply = false
-
--- no command is below the one before it, nor the first below this number
-abbrev pub RisesFrom : ℕ → List Own → Type 0
-RisesFrom n [] = Unit {0}
-RisesFrom n (o ∷ own) = (n ≤ o.command) × RisesFrom o.command own

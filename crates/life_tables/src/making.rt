@@ -20,13 +20,12 @@ ghost use Rattle.history_places.specs.Starts.{FitsBase};
 ghost use Rattle.multi_rules.specs.Snapped.{AreTakenByLines, LifeEvents};
 ghost use Rattle.history_places.specs.Opens.{AreOpenCounts};
 ghost use Rattle.place_columns.specs.Lined.{AreInOrder, bys_of, lines_from, numbered};
-ghost use Rattle.place_columns.specs.declared.own.Own.{Own};
-ghost use Rattle.place_columns.specs.Owned.{AreAllOwn, AreInTurn};
+ghost use Rattle.place_columns.specs.Owned.{AreAllOwn};
 ghost use Rattle.reply_rules.specs.Ends.{IsLogEnd};
 ghost use Rattle.reply_rules.specs.Logs.{AreLogs};
 ghost use Rattle.report_law.specs.Steps.{Judged, gave_multi, lines_of};
 ghost use Rattle.event_rules.specs.SnapsTold.{told_by};
-ghost use Rattle.life_tables.specs.Lives.{LifeAt, RisesFrom, judged_life};
+ghost use Rattle.life_tables.specs.Lives.{LifeAt, judged_life};
 ghost use Rattle.life_tables.specs.Told.{AreToldLists};
 
 use crate::committed::all_committed;
@@ -143,32 +142,6 @@ pub fn multi_front_of(alloc: Global, life: &Life, starts: Vec<Start>) -> Result<
     ensures { IfOk result (λ p. IsMultiFront life.now.base starts.items life.now.multis p) }
 {
     multi_front(alloc, life.base.same(), starts, life.multis.items())
-}
-
-/// Whether none of the session's events is of an earlier command than one before it.
-fn rises(own: &[Own]) -> bool
-    ensures { IsTrue result → RisesFrom 0 own.now }
-{
-    let mut last = 0;
-    for o in own {
-        if o.command < last {
-            return false;
-        }
-        last = o.command;
-    }
-    true
-}
-
-/// Whether events come in the order of their sessions' commands, by each session's events.
-pub fn are_in_turn(turns: &[Vec<Own>]) -> bool
-    ensures { (bys : List By) → All (λ b. b.session < 64) bys → AreAllOwn bys 64 turns.now → IsTrue result → AreInTurn bys }
-{
-    for own in turns {
-        if !rises(own.as_slice()) {
-            return false;
-        }
-    }
-    true
 }
 
 /// Of each event, by its line, whether that one's reply gives a multixact.

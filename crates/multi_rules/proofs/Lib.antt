@@ -16,3 +16,5 @@ pub mod Between
 pub mod Zips
 pub mod Answering
 pub mod Listing
+pub mod XmaxBounds
+pub mod Showing

@@ -5,3 +5,4 @@ pub mod Gens
 pub mod Stored
 pub mod Snapped
 pub mod Telling
+pub mod Shown

@@ -4,12 +4,7 @@ use Rattle.tx_events.specs.declared.event.Event.{Event}
 use Rattle.tx_events.specs.declared.record.Counters.{Counters}
 use Rattle.tx_events.specs.Base.{IsBase}
 use Rattle.tx_events.specs.History.{IsLegal, next_given}
-use Rattle.tx_events.specs.Running.{running_tops}
-use Rattle.tx_events.specs.Snapshots.{snapshot_xmax, snapshot_xmin}
-use Rattle.tx_events.proofs.Extremes.{fold_min_start}
 use Rattle.tx_events.proofs.GivenIds.{legal_take}
-use Rattle.tx_events.proofs.Horizons.{new_past}
-use Rattle.tx_events.proofs.Visibility.{xmin_from}
 use Rattle.proc_table.proofs.Bounds.{first_to_next, full_from}
 use Rattle.history_check.proofs.OldestBounds.{bounded}
 
@@ -18,14 +13,4 @@ next_bounds base h p n b legal is =
     let from = full_from base.next b.full in
     let up = first_to_next base.next (take p h) in
     let to = (bounded base (take p h) b (legal_take base h p legal)).to in
-    (omega arith, omega arith)
-
-pub xmax_bounds : (base : Counters) (h : List Event) (p n : ℕ) → IsBase base → IsLegal base h → n ≡ snapshot_xmax base.next (take p h) → (3 ≤ n) × (n < 2 ^ 63)
-xmax_bounds base h p n b legal is =
-    let l = legal_take base h p legal in
-    let from = full_from base.next b.full in
-    let xmin : base.next ≤ snapshot_xmin base.next (take p h) = xmin_from base (take p h) l b.full in
-    let xmax : snapshot_xmin base.next (take p h) ≤ snapshot_xmax base.next (take p h) = fold_min_start (snapshot_xmax base.next (take p h)) (running_tops (take p h)) in
-    let past : snapshot_xmax base.next (take p h) ≤ next_given base.next (take p h) = new_past base (take p h) l b.full (omega arith) in
-    let to = (bounded base (take p h) b l).to in
     (omega arith, omega arith)

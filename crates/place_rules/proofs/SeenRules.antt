@@ -9,29 +9,19 @@ use Rattle.tx_events.specs.declared.record.Rec.{Rec}
 use Rattle.tx_events.specs.History.{IsLegal}
 use Rattle.tx_model.specs.declared.command.Pair.{Pair}
 use Rattle.tx_model.specs.declared.reply.Status.{Status}
-use Rattle.tx_model.specs.Replies.{IsWarned, RoundSpan, taken_by}
+use Rattle.tx_model.specs.Replies.{IsWarned, RoundSpan}
 use Rattle.history_places.specs.Told.{next_in}
 use Rattle.report_law.specs.MultiLines.{IsNotGiven, IsOldMember, MayCarry}
-use Rattle.report_law.specs.Steps.{IsDidAt, IsDidTooOld, IsFutureAt, IsSeen, IsStatusAt, IsTooOldFor}
+use Rattle.report_law.specs.Steps.{IsDidAt, IsDidTooOld, IsFutureAt, IsStatusAt}
 use Rattle.place_rules.specs.Members.{HasOld, HasUngiven}
-use Rattle.place_rules.specs.Runs.{AreItsPlaces, AreReadPlaces, IsDidHere, IsFutureHere, IsOlderAt, IsOlderThere, IsStatusHere, IsWarnedHere, Seen}
+use Rattle.place_rules.specs.Runs.{AreItsPlaces, AreReadPlaces, IsDidHere, IsFutureHere, IsOlderThere, IsStatusHere, IsWarnedHere}
 use Rattle.place_rules.proofs.Looking.{NoneSoFar, by_at, none_at_all}
 use Rattle.place_rules.proofs.SnapsRead.{NoneUpTo}
-use Rattle.place_rules.proofs.Snaps.{snap_by}
 use Rattle.history_places.proofs.Stays.{hidden_before}
 
 -- ---- at the command's own events
 
 module _ (base : Counters) (h : List Event) (run : List ℕ) (i : ℕ) (end : length run ≤ i) where
-  pub not_seen : (ids : List ℕ) (by : By) (number x : ℕ) (visible : Bool) → AreItsPlaces h (taken_by by number) run → NoneSoFar (Seen base ids h (taken_by by number) x visible) run i → IsSeen base ids h by number x visible → ⊥
-  not_seen ids by number x visible its none s =
-      none_at_all (Seen base ids h (taken_by by number) x visible) h (taken_by by number) run i its (λ p q. snap_by h (taken_by by number) p q.taken) none end s.place
-      (record { taken = s.taken; id = s.id; near = s.near; exact = s.exact })
-
-  pub not_too_old : (round : RoundSpan) (by : By) (number x oldest : ℕ) → AreItsPlaces h (taken_by by number) run → NoneSoFar (IsOlderAt base h (taken_by by number) x oldest) run i → IsTooOldFor base h round by number x oldest → ⊥
-  not_too_old round by number x oldest its none s =
-      none_at_all (IsOlderAt base h (taken_by by number) x oldest) h (taken_by by number) run i its (λ p q. snap_by h (taken_by by number) p q.taken) none end s.place (record { taken = s.taken; older = s.older })
-
   pub no_status : (ids : List ℕ) (by : By) (x : ℕ) (status : Status) → AreItsPlaces h by run → NoneSoFar (IsStatusHere base ids h by x status) run i → IsStatusAt base ids h by x status → ⊥
   no_status ids by x status its none s =
       none_at_all (IsStatusHere base ids h by x status) h by run i its (λ p q. by_at h (events.Ask by q.asked.0) p q.asked.1) none end s.place (record { asked = s.asked; young = s.young; given = s.given; exact = s.exact })
@@ -43,9 +33,6 @@ module _ (base : Counters) (h : List Event) (run : List ℕ) (i : ℕ) (end : le
   pub no_warning : (by : By) → AreItsPlaces h by run → NoneSoFar (IsWarnedHere base h by) run i → IsWarned base h by → ⊥
   no_warning by its none s =
       none_at_all (IsWarnedHere base h by) h by run i its (λ p q. by_at h q.given.event p q.given.at ∙ ap Some q.given.own) none end s.place (record { id = s.id; given = s.given; late = s.late })
-
-pub seen_here : (base : Counters) (ids : List ℕ) (h : List Event) (by : By) (number x : ℕ) (visible : Bool) (p : ℕ) → Seen base ids h (taken_by by number) x visible p → IsSeen base ids h by number x visible
-seen_here base ids h by number x visible p s = record { place = p; taken = s.taken; id = s.id; near = s.near; exact = s.exact }
 
 pub status_here : (base : Counters) (ids : List ℕ) (h : List Event) (by : By) (x : ℕ) (status : Status) (p : ℕ) → IsStatusHere base ids h by x status p → IsStatusAt base ids h by x status
 status_here base ids h by x status p s = record { place = p; asked = s.asked; young = s.young; given = s.given; exact = s.exact }

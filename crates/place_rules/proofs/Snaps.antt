@@ -10,18 +10,12 @@ use Rattle.tx_events.specs.Snapshots.{snapshot_data}
 use Rattle.history_places.specs.declared.snaps.SnapMark.{SnapMark}
 use Rattle.history_places.specs.SnapMarks.{AreSnapMarks, IsMarkOf, IsSnapMark}
 use Rattle.report_law.specs.Kinds.{IsSnapAt}
-use Rattle.place_rules.specs.Runs.{IsRightMark, IsXmaxAt, Snapping}
+use Rattle.place_rules.specs.Runs.{IsRightMark, Snapping}
 use Rattle.place_rules.proofs.Looking.{by_at, event_at, some_at, within}
 
 -- a snapshot's event is the command's
 pub snap_by : (h : List Event) (by : By) (p : ℕ) → IsSnapAt h by p → slice_get (map by_of h) p ≡ Some by
 snap_by h by p s = by_at h (events.Snap by s.0) p s.1
-
--- and no other command's
-pub snap_of_it : (h : List Event) (by other : By) (p : ℕ) → slice_get (map by_of h) p ≡ Some by → IsSnapAt h other p → IsSnapAt h by p
-snap_of_it h by other p its s =
-    let same : other ≡ by = (let e : Some other ≡ Some by = sym (snap_by h other p s) ∙ its in cc) in
-    (s.0, s.1 ∙ ap (λ (b : By). Some (events.Snap b s.0)) same)
 
 record Marks (first : ℕ) (before : List Event) (told : Option SnapData) (e : Event) (m : SnapMark) : Type 0 where
   name : List ℕ
@@ -67,17 +61,6 @@ right_iff s snaps p are told its = (
       record { mark = m.mark; stands = o.1 ∙ ap Some m.is; right = m.so.right.1 (told ∙ ap Some q.1) },
 )
 
-abbrev pub xmax_of : Option SnapMark → Option ℕ
-xmax_of None = None
-xmax_of (Some m) = Some m.xmax
-
-pub xmax_is : (first : ℕ) (h : List Event) (told : By → Option SnapData) (snaps : List (Option SnapMark)) (p : ℕ) (o : Option SnapMark) → AreSnapMarks first h told snaps → p < length h → slice_get snaps p ≡ Some o → IsXmaxAt first h p (xmax_of o)
-xmax_is first h told snaps p (Some m) are low stands =
-    let e = some_at h p low in
-    let k = marks first (take p h) (told (by_of e.0)) e.0 m (are.each p e.0 (Some m) e.1 stands) in
-    (k.mark.xmax, (by_of e.0, (k.name, e.1 ∙ ap Some k.is)))
-xmax_is first h told snaps p None are low stands = λ by s. are.each p (events.Snap by s.0) None s.1 stands
-
 -- a place of an event has a mark or none
 pub snap_low : (first : ℕ) (h : List Event) (told : By → Option SnapData) (snaps : List (Option SnapMark)) (by : By) (p : ℕ) → AreSnapMarks first h told snaps → slice_get (map by_of h) p ≡ Some by → p < length snaps
 snap_low first h told snaps by p are its =
@@ -85,6 +68,3 @@ snap_low first h told snaps by p are its =
     let low : p < length h = within h p e.event e.stands in
     let n = are.size in
     omega arith
-
-pub event_low : (h : List Event) (by : By) (p : ℕ) → slice_get (map by_of h) p ≡ Some by → p < length h
-event_low h by p its = let e = event_at h by p its in within h p e.event e.stands

@@ -1,5 +1,5 @@
 -- What a rule is asked by, and what is so at one place.
-use Rattle.std.specs.Prelude.{◌≡◌, ℕ, ◌<◌, ◌≤◌, ◌↔◌, ◌⊎◌, IsTrue, Bool, true, false, List, Option, Some, None, IfSome, Contains, map, take}
+use Rattle.std.specs.Prelude.{◌≡◌, ℕ, ◌<◌, ◌≤◌, ◌↔◌, ◌⊎◌, IsTrue, Bool, true, false, List, Option, Some, IfSome, Contains, map, take}
 use Rattle.std.specs.List.{slice_get}
 use Rattle.tx_events.specs.declared.event.By.{By}
 use Rattle.tx_events.specs.declared.event.Event.{Event}
@@ -12,10 +12,10 @@ use Rattle.tx_events.specs.History.{next_given}
 use Rattle.tx_events.specs.Horizon.{oldest_id}
 use Rattle.tx_events.specs.Limits.{warn_limit}
 use Rattle.tx_events.specs.Nearest.{near_id}
-use Rattle.tx_events.specs.Snapshots.{snapshot_data, snapshot_xmax}
+use Rattle.tx_events.specs.Snapshots.{snapshot_data}
 use Rattle.tx_events.specs.Visible.{is_visible}
 use Rattle.tx_model.specs.declared.reply.Status.{Status}
-use Rattle.tx_model.specs.Replies.{IsGivenAt, RoundSpan, seen_id, status_after}
+use Rattle.tx_model.specs.Replies.{IsGivenAt, RoundSpan, status_after}
 use Rattle.life_law.specs.DidCommit.{IsRecorded}
 use Rattle.history_places.specs.declared.snaps.SnapMark.{SnapMark}
 use Rattle.report_law.specs.Kinds.{IsAskAt, IsSnapAt}
@@ -38,25 +38,6 @@ pub record Snapping : Type 0 where
   pub told : By → Option SnapData
   pub by : By
   pub lists : SnapData
-
--- the command that took a snapshot, and the ids that the base has as committed
-pub record Viewing : Type 0 where
-  pub ids : List ℕ
-  pub told : By → Option SnapData
-  pub by : By
-
--- a command that asks the snapshot that its session's command `number` took
-pub record Seeing : Type 0 where
-  pub ids : List ℕ
-  pub told : By → Option SnapData
-  pub by : By
-  pub number : ℕ
-
-pub record Carrying : Type 0 where
-  pub told : By → Option SnapData
-  pub round : RoundSpan
-  pub by : By
-  pub number : ℕ
 
 pub record Asking : Type 0 where
   pub ids : List ℕ
@@ -81,21 +62,6 @@ pub record IsRightMark (snaps : List (Option SnapMark)) (place : ℕ) : Type 0 w
 
 abbrev pub IsSnapped : Snapping → Type 0
 IsSnapped s = (place : ℕ) × IsSnapAt s.events s.by place × (s.lists ≡ snapshot_data s.first (take place s.events))
-
--- the xmax of the snapshot that the event at this place takes, if it takes one
-abbrev pub IsXmaxAt : ℕ → List Event → ℕ → Option ℕ → Type 0
-IsXmaxAt first h place (Some xmax) = (xmax ≡ snapshot_xmax first (take place h)) × ((by : By) × IsSnapAt h by place)
-IsXmaxAt first h place None = (by : By) → IsSnapAt h by place → ⊥
-
-pub record Seen (base : Counters) (ids : List ℕ) (h : List Event) (by : By) (x : ℕ) (visible : Bool) (place : ℕ) : Type 0 where
-  pub taken : IsSnapAt h by place
-  pub id : ℕ
-  pub near : seen_id (snapshot_xmax base.next (take place h)) x ≡ Some id
-  pub exact : visible ≡ is_visible ids (take place h) id
-
-pub record IsOlderAt (base : Counters) (h : List Event) (by : By) (x oldest place : ℕ) : Type 0 where
-  pub taken : IsSnapAt h by place
-  pub older : IfSome (near_id (snapshot_xmax base.next (take place h)) x) (λ id. id < oldest)
 
 abbrev pub IsAsk : Event → Type 0
 IsAsk e = (by : By) × (id : ℕ) × (e ≡ events.Ask by id)

@@ -1,8 +1,7 @@
 //! The rules of replies that go by some place of a command's round: which numbers were true where the command may read,
-//! and what was so of single ids: what a snapshot holds and sees, how an id stands, whether it committed, how many a
-//! session had open, and which members a multixact may have. A rule answers false only where no place serves: a true one
-//! is looked for first where it is likely, and all places are gone through for a false one, and where a command has many
-//! snapshots. See docs/SCRIPT-AND-REPORT.md and docs/CHECKER.md.
+//! and what was so of single ids: what a snapshot holds, how an id stands, whether it committed, how many a session had open,
+//! and which members a multixact may have. A rule answers false only where no place serves: a true one is looked for first
+//! where it is likely, and all places are gone through for a false one. See docs/SCRIPT-AND-REPORT.md and docs/CHECKER.md.
 #![tactic(auto)]
 
 mod asked;
@@ -21,4 +20,4 @@ pub use members::{is_not_given, is_old_member};
 pub use open::open_before;
 pub use reading::{Reading, reading_of};
 pub use rules::{is_backward_at, is_horizon_at, is_stopped_at, is_too_new_at, may_carry};
-pub use snapshots::{is_seen, is_snapped, is_too_old_for};
+pub use snapshots::is_snapped;

@@ -1,7 +1,6 @@
 //! What a stored half means.
 ghost use Rattle.std.specs.Prelude.{◌≡◌, ◌^◌, ◌<◌, ◌≤◌, ◌↔◌, IsTrue, IfSome};
 ghost use Rattle.tx_events.specs.Nearest.{near_id};
-ghost use Rattle.tx_model.specs.Replies.{seen_id};
 ghost use Rattle.report_law.specs.MultiLines.{IsUngiven};
 
 use tx_events::{FullXid, Xid, near};
@@ -17,18 +16,6 @@ pub fn is_older(f: FullXid, x: Xid, oldest: FullXid) -> bool
         Some(id) => id < oldest,
         None => true,
     }
-}
-
-/// The id that the stored half means to a snapshot: a special one itself, each other the one near its xmax.
-pub fn seen_id(xmax: FullXid, x: Xid) -> Option<FullXid>
-    requires from { 3 ≤ xmax }
-    requires to { xmax < 2 ^ 63 }
-    ensures { result ≡ seen_id xmax x.number }
-{
-    if x.number < 3 {
-        return FullXid::new(u64::from(x.number));
-    }
-    near(xmax, x)
 }
 
 /// Whether the stored half is of a special id, or means one from `next` on.

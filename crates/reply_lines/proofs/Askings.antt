@@ -4,6 +4,7 @@ use Rattle.std.specs.Prelude.{IsTrue}
 use Rattle.std.specs.Global.{Vec}
 use Rattle.std.specs.List.{slice_get}
 use Rattle.std.proofs.lemmas.List.Elements.{All-contains}
+use Rattle.std.proofs.lemmas.Option.{slice_get-get_or}
 use Rattle.tx_events.specs.declared.event.By.{By}
 use Rattle.tx_model.specs.declared.report.Line.{Line}
 use Rattle.tx_events.proofs.Membership.{has_contains}
@@ -11,6 +12,8 @@ use Rattle.place_columns.specs.Lined.{Numbered, bys_of, line_by, lines_from, num
 use Rattle.place_columns.proofs.LineSteps.{bys_are}
 use Rattle.place_columns.specs.declared.own.Own.{Own}
 use Rattle.place_columns.specs.Owned.{AreAllOwn, own_of}
+use Rattle.turn_links.specs.declared.links.Link.{Link}
+use Rattle.turn_links.specs.Links.{AreAllLinks, AreLinks}
 use Rattle.place_rules.specs.declared.reading.Reading.{Reading}
 use Rattle.place_rules.specs.Readings.{IsReading, span_of}
 use Rattle.multi_rules.specs.declared.reading.MultiReading.{MultiReading}
@@ -30,6 +33,16 @@ use Rattle.reply_lines.proofs.Spots.{by_at}
 -- a session's list among all
 pub its_list : (bys : List By) (lists : List (Vec Own)) (session : ℕ) (v : Vec Own) (own : List Own) → AreAllOwn bys 64 lists → session < 64 → v ≡ get_or lists session v → own ≡ v.items → own ≡ own_of session bys
 its_list bys lists session v own all few is same = same ∙ ap (λ (x : Vec Own). x.items) is ∙ all.each session few v
+
+-- and how a look back goes over them
+pub its_links : (lists : List (Vec Own)) (links : List (Vec Link)) (session : ℕ) (v : Vec Own) (w : Vec Link) (own : List Own) (ls : List Link) → AreAllLinks lists links → session < length lists → v ≡ get_or lists session v → w ≡ get_or links session w → own ≡ v.items → ls ≡ w.items
+    → AreLinks own ls × (length ls ≡ length own)
+its_links lists links session v w own ls all low is are same alike =
+    let size = all.size in
+    let a = slice_get-get_or lists session v low ∙ ap (λ (x : Vec Own). Some x) (sym is) in
+    let b = slice_get-get_or links session w (omega arith) ∙ ap (λ (x : Vec Link). Some x) (sym are) in
+    let z = all.each session v w a b in
+    (subst (λ (xs : List Link). AreLinks own xs) (sym alike) (subst (λ (xs : List Own). AreLinks xs w.items) (sym same) z.0), ap (λ (xs : List Link). length xs) alike ∙ z.1 ∙ sym (ap (λ (xs : List Own). length xs) same))
 
 -- ---- the line
 

@@ -1,6 +1,5 @@
 pub mod Spots
 pub mod Warnings
-pub mod Scans
 pub mod Judging
 pub mod Pushing
 pub mod Snapping

@@ -17,7 +17,7 @@ use Rattle.history_places.specs.SnapMarks.{AreSnapMarks}
 use Rattle.place_columns.specs.Counted.{AreCounts}
 use Rattle.history_places.specs.Starts.{start_of}
 use Rattle.place_columns.specs.Lined.{bys_of, line_by, lines_from}
-use Rattle.place_columns.specs.Owned.{AreAllOwn, AreInTurn}
+use Rattle.place_columns.specs.Owned.{AreAllOwn}
 use Rattle.history_places.specs.Opens.{AreOpenCounts}
 use Rattle.reply_rules.specs.Ends.{IsLogEnd}
 use Rattle.reply_rules.specs.Logs.{AreLogs}
@@ -30,6 +30,7 @@ use Rattle.multi_rules.specs.Gens.{AreStartsOf, is_ok_gen}
 use Rattle.multi_rules.specs.Limits.{AreHeldLimits}
 use Rattle.multi_rules.specs.Snapped.{AreTakenByLines}
 use Rattle.multi_rules.specs.Stored.{AreHomes}
+use Rattle.turn_links.specs.Links.{AreAllLinks}
 use Rattle.reply_lines.specs.declared.known.Known.{Known}
 use Rattle.reply_lines.specs.declared.known.Kept.{Kept}
 
@@ -50,7 +51,7 @@ pub record IsKnown (j : Judged) (k : Known) : Type 0 where
   pub multi_front : IsMultiFront j.begun.counters k.multi_places.starts j.life.multis k.multi_places
   pub offsets : (multi offset : ℕ) → Contains k.multi_places.starts (start_of multi offset) ↔ ((members : List Member) × Contains j.begun.recorded (multi, offset, members))
   pub multi_turns : AreAllOwn (map multi_by k.multi_places.events) 64 k.multi_turns.items
-  pub in_turn : IsTrue k.multis_in_turn → AreInTurn (map multi_by k.multi_places.events)
+  pub links : AreAllLinks k.multi_turns.items k.multi_links.items
   pub held : AreHeldLimits j.begun.counters k.multi_places.events k.held.items
   pub oks : k.oks.items ≡ map (λ (e : MultiEvent). gave_multi (lines_of j) (multi_by e)) j.life.multis
   pub late : (x : ℕ) → contains nat_cmp k.late x ≡ list_any (is_ok_gen (gave_multi (lines_of j)) x) (drop (length k.multi_places.events) j.life.multis)

@@ -8,9 +8,9 @@ ghost use Rattle.event_rules.specs.SnapsTold.{told_by};
 use crate::by_events::is_carried;
 use crate::known::{Kept, Known};
 use crate::reading::Asking;
+use multi_rules::{is_seen, is_too_old_for};
 use place_rules::{
-    is_did_at, is_did_too_old, is_future_at, is_not_given, is_old_member, is_seen, is_snapped,
-    is_status_at, is_too_old_for,
+    is_did_at, is_did_too_old, is_future_at, is_not_given, is_old_member, is_snapped, is_status_at,
 };
 use std::collections::BTreeSet;
 use tx_events::{By, FullXid, SnapData, Xid};
@@ -50,8 +50,7 @@ pub fn sees(
     is_seen(
         &known.places,
         committed,
-        known.snaps.as_slice(),
-        known.events.places(line),
+        known.taken[line as usize].as_slice(),
         x,
         visible,
     )
@@ -68,8 +67,7 @@ pub fn is_older_than(known: &Known, asking: Asking, number: u64, x: Xid, oldest:
     let line = line_of(known, asking, number);
     is_too_old_for(
         &known.places,
-        known.snaps.as_slice(),
-        known.events.places(line),
+        known.taken[line as usize].as_slice(),
         x,
         oldest,
         is_carried(known, asking, oldest),

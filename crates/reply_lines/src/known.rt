@@ -5,6 +5,7 @@ use multi_rules::{Home, LimitAt, Taken};
 use place_columns::{GivenCounts, LineTable, Own, OwnEvents};
 use reply_rules::{LogEnd, Logs};
 use std::collections::BTreeSet;
+use turn_links::Link;
 
 /// What is made once of a life: its lines' numbers, what its histories tell up to the first event that may not come, and
 /// what its log holds.
@@ -28,8 +29,8 @@ pub struct Known {
     /// The legal front of the multixact events.
     pub multi_places: MultiPlaces,
     pub multi_turns: Vec<Vec<Own>>,
-    /// Each session's multixact events come in the order of its commands. False where that isn't known.
-    pub multis_in_turn: bool,
+    /// How a look back goes over them, whatever their order.
+    pub multi_links: Vec<Vec<Link>>,
     pub held: Vec<LimitAt>,
     /// Of each multixact event, whether its command was answered `ok` with a multixact.
     pub oks: Vec<bool>,

@@ -1,8 +1,6 @@
 //! Where a command may read.
-ghost use Rattle.std.specs.Prelude.{◌≡◌, ◌<◌, ◌≤◌, IsTrue, List, nat_lt};
-ghost use Rattle.tx_events.specs.declared.event.By.{By};
+ghost use Rattle.std.specs.Prelude.{◌≡◌, ◌<◌, ◌≤◌, IsTrue};
 ghost use Rattle.tx_model.specs.declared.report.Line.{Line};
-ghost use Rattle.place_columns.specs.Owned.{IsReadFrom, is_upto, own_of};
 ghost use Rattle.multi_rules.specs.MultiReadings.{IsMultiReading};
 ghost use Rattle.place_rules.specs.Readings.{IsReading, span_of};
 ghost use Rattle.reply_lines.specs.At.{AtKnown, IsAsking, IsRoundAt, StandsThere, lines_at, rounds_at};
@@ -11,7 +9,6 @@ ghost use Rattle.reply_lines.specs.Known.{IsKnown};
 use crate::known::Known;
 use crate::rounds::RoundAt;
 use multi_rules::{MultiReading, multi_reading_of};
-use place_columns::Own;
 use place_rules::{Reading, reading_of};
 use tx_events::By;
 
@@ -28,37 +25,6 @@ pub struct Asking {
     pub multis: MultiReading,
 }
 
-/// Whether the event stands before this place.
-fn is_before(own: Own, to: u64) -> bool
-    ensures { result ≡ nat_lt own.place to }
-{
-    own.place < to
-}
-
-/// Whether the event is of the command or an earlier one, and stands before this place.
-fn is_upto(own: Own, command: u64, to: u64) -> bool
-    ensures { result ≡ is_upto command to own }
-{
-    own.command <= command && own.place < to
-}
-
-/// From which place on, up to `to`, a command may read, whatever the order of its session's events, these. Goes back from
-/// `to` to the last event of the command or an earlier one.
-fn scan_from(own: &[Own], by: By, to: u64) -> u64
-    ghost bys: { List By }
-    requires { own.now ≡ own_of by.session bys }
-    ensures { IsReadFrom bys by to result }
-{
-    let end = own.partition_point(|o| is_before(*o, to));
-    for back in 0..end {
-        let last = own[end - 1 - back];
-        if is_upto(last, by.command, to) {
-            return last.place + 1;
-        }
-    }
-    0
-}
-
 /// Where a command may read the multixact events, whose round stands from `start` to `to` among them.
 pub fn multi_reading_at(known: &Known, by: By, start: u64, to: u64) -> MultiReading
     ghost of: { AtKnown }
@@ -68,15 +34,13 @@ pub fn multi_reading_at(known: &Known, by: By, start: u64, to: u64) -> MultiRead
     requires round { start ≤ to }
     ensures { IsMultiReading known.now.multi_places.events (span_of start to) by result }
 {
-    let own = known.multi_turns[by.session as usize].as_slice();
-    if known.multis_in_turn {
-        return multi_reading_of(own, by, start, to);
-    }
-    let from = scan_from(own, by, to);
-    MultiReading {
-        from: from.max(start),
+    multi_reading_of(
+        known.multi_turns[by.session as usize].as_slice(),
+        known.multi_links[by.session as usize].as_slice(),
+        by,
+        start,
         to,
-    }
+    )
 }
 
 /// Where a command may read the events.

@@ -9,13 +9,14 @@ ghost use Rattle.life_tables.specs.Lives.{LifeAt, judged_life};
 
 use history_places::{Start, id_marks};
 use life_tables::{
-    are_in_turn, copied, counts_in, front_of, gave_by_lines, late_of, lists_by_lines, log_end_of,
-    logs_of, multi_front_of, oks_of, owned, recorded_in, table_of, taken_of, turns_of,
+    copied, counts_in, front_of, gave_by_lines, late_of, lists_by_lines, log_end_of, logs_of,
+    multi_front_of, oks_of, owned, recorded_in, table_of, taken_of, turns_of,
 };
 use multi_rules::held_limits;
 use reply_lines::Known;
 use reply_rules::commit_tops;
 use std::alloc::Global;
+use turn_links::links_of_all;
 use tx_events::Memory;
 use tx_model::LifeReport;
 
@@ -46,7 +47,7 @@ pub fn known_of(alloc: Global, report: &LifeReport, starts: &[Start]) -> Result<
     let taken = taken_of(alloc, &table, &own, front.snaps.as_slice())?;
     let multi_places = multi_front_of(alloc, life, copied(alloc, starts)?)?;
     let multi_turns = turns_of(alloc, multi_places.events())?;
-    let multis_in_turn = are_in_turn(multi_turns.as_slice());
+    let multi_links = links_of_all(alloc, multi_turns.as_slice())?;
     let held = held_limits(alloc, &multi_places)?;
     let gave = gave_by_lines(alloc, report.steps.items())?;
     let oks = oks_of(alloc, &multi_own, multis.len() as u64, gave.as_slice())?;
@@ -68,7 +69,7 @@ pub fn known_of(alloc: Global, report: &LifeReport, starts: &[Start]) -> Result<
         taken,
         multi_places,
         multi_turns,
-        multis_in_turn,
+        multi_links,
         held,
         oks,
         late,

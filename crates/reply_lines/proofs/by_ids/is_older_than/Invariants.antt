@@ -1,4 +1,3 @@
-use Rattle.event_rules.specs.SnapsTold.{told_by}
 use Rattle.reply_lines.specs.At.{round_of}
 use Rattle.reply_lines.proofs.by_ids.is_older_than.Given as goal
 
@@ -9,4 +8,4 @@ abbrev pub ghost-is_carried : goal.ghost-is_carried
 ghost-is_carried g a = g.s.spot
 
 abbrev pub ghost-is_too_old_for : goal.ghost-is_too_old_for
-ghost-is_too_old_for g a = record { told = told_by g.s.spot.at.j; round = round_of g.s.spot; by = g.s.spot.asking.by; number = g.s.number }
+ghost-is_too_old_for g a = record { round = round_of g.s.spot; by = g.s.spot.asking.by; number = g.s.number }

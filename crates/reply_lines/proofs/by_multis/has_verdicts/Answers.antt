@@ -1,16 +1,13 @@
 use Rattle.std.proofs.Common.{◌↔◌, List, arith, length, subst, sym, take}
-use Rattle.std.specs.Global.{Vec}
 use Rattle.std.specs.Prelude.{IsTrue}
 use Rattle.tx_events.specs.declared.multi.MultiEvent.{MultiEvent}
-use Rattle.tx_events.specs.declared.record.Counters.{Counters}
 use Rattle.tx_model.specs.Replies.{taken_by}
 use Rattle.multi_rules.specs.Snapped.{AreTaken}
 use Rattle.multi_rules.specs.Stored.{AreHomes}
 use Rattle.multi_rules.specs.declared.homes.Home.{Home}
-use Rattle.multi_rules.specs.declared.taken.Taken.{Taken}
 use Rattle.report_law.specs.MultiLines.{AreVerdicts}
 use Rattle.reply_lines.specs.At.{base_of, history_of, multis_of_life, round_of}
-use Rattle.reply_lines.proofs.Spots.{asked, few_multis, fits, its_multis_within, lift_both, multi_places_here, within_of}
+use Rattle.reply_lines.proofs.Spots.{asked, few_multis, fits, its_multis_within, lift_both, multi_places_here, taken_there, within_of}
 use Rattle.report_law.proofs.FrontsOfMultis.{verdicts_whole}
 use Rattle.reply_lines.proofs.by_multis.has_verdicts.Goals as goal
 
@@ -30,11 +27,7 @@ are_verdicts-requires g c =
     let r = c.requires.0 in
     let x = asked s k a r in
     let by = taken_by s.asking.by g.s.number in
-    let its = x.known.taken.each c.line_of-line.result by c.line_of-line.ensures c.index.result.now in
-    let here : AreTaken (base_of s).next k.places.events by c.index.result.now.items = subst (λ (v : Vec Taken). AreTaken (base_of s).next k.places.events by v.items) (sym c.index.ensures) its in
-    let taken : AreTaken k.places.base.next k.places.events by c.as_slice-2.result.now =
-    subst (λ (t : List Taken). AreTaken k.places.base.next k.places.events by t) (sym c.as_slice-2.ensures.value)
-    (subst (λ (b : Counters). AreTaken b.next k.places.events by c.index.result.now.items) (sym x.known.front.base_is) here) in
+    let taken : AreTaken k.places.base.next k.places.events by c.as_slice-2.result.now = taken_there s k a r c.line_of-line.result by c.index.result.now c.as_slice-2.result.now c.line_of-line.ensures c.index.ensures c.as_slice-2.ensures.value in
     (c.requires.1.0.committed, (subst (λ (t : List Home). AreHomes c.args.lives.now s.at.j.begun.recorded t) (sym c.as_slice.ensures.value) c.requires.1.0.homes, (taken, (multi_places_here s k a r c.places.result.now c.places.ensures, (x.to, x.within)))))
 
 pub returns : goal.returns

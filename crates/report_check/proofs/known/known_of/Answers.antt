@@ -36,6 +36,7 @@ use Rattle.place_columns.specs.Lined.{AreInOrder, Numbered, bys_of, line_by, lin
 use Rattle.place_columns.proofs.LineSteps.{bys_are}
 use Rattle.place_columns.specs.declared.own.Own.{Own}
 use Rattle.place_columns.specs.Owned.{AreAllOwn}
+use Rattle.turn_links.specs.Links.{AreAllLinks}
 use Rattle.report_law.specs.Steps.{gave_multi, lines_of}
 use Rattle.event_rules.specs.SnapsTold.{told_by}
 use Rattle.life_tables.specs.Lives.{LifeAt, is_multi_reply, judged_life}
@@ -153,8 +154,6 @@ returns g c =
     subst (λ (b : Counters). IsMultiFront b m.starts r.life.multis m) (sym base) (subst (λ (ss : List Start). IsMultiFront r.life.base ss r.life.multis m) (sym multi_front.starts_are) multi_front) in
     let multi_turns : AreAllOwn (map multi_by m.events) 64 c.in_ok-multi_turns.multi_turns.items =
     subst (λ (es : List MultiEvent). AreAllOwn (map multi_by es) 64 c.in_ok-multi_turns.multi_turns.items) c.events-2.ensures.value c.in_ok-multi_turns.ensures in
-    let few_front_bys : All (λ (b : By). b.session < 64) (map multi_by m.events) =
-    few_map multi_by m.events (subst (λ (es : List MultiEvent). All (λ (e : MultiEvent). (multi_by e).session < 64) es) (sym multi_front.events_are) (few_front multi_by (length m.events) r.life.multis (few_from multi_by r.life.multis numbered_r.multis))) in
     let held : AreHeldLimits g.at.begun.counters m.events c.in_ok-held.held.items =
     subst (λ (b : Counters). AreHeldLimits b m.events c.in_ok-held.held.items) (multi_front.base_is ∙ sym base) c.in_ok-held.ensures in
     let numbers : c.in_ok-multi_own.multi_own.numbers ≡ map (number_of table) (map multi_by r.life.multis) = ap (λ (n : Numbered). n.numbers) multi_own in
@@ -182,7 +181,7 @@ returns g c =
       multi_front = fronted;
       offsets = subst (λ (ss : List Start). (multi offset : ℕ) → Contains ss (start_of multi offset) ↔ ((members : List Member) × Contains g.at.begun.recorded (multi, offset, members))) (sym starts) c.requires.1.1.1.1;
       multi_turns = multi_turns;
-      in_turn = λ t. c.are_in_turn-multis_in_turn.ensures (map multi_by m.events) few_front_bys (subst (λ (vs : List (Vec Own)). AreAllOwn (map multi_by m.events) 64 vs) (sym c.as_slice-3.ensures.value) multi_turns) t;
+      links = subst (λ (vs : List (Vec Own)). AreAllLinks vs c.in_ok-multi_links.multi_links.items) c.as_slice-3.ensures.value c.in_ok-multi_links.ensures;
       held = held;
       oks = oks;
       late = late;

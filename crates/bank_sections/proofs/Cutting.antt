@@ -25,7 +25,7 @@ use Rattle.tx_core.specs.MultiEntries.{multi_of}
 use Rattle.tx_core.specs.OwnMultis.{own_multis}
 use Rattle.tx_core.specs.ProgramOrder.{IsInTurn}
 use Rattle.tx_core.proofs.ChangeLaws.{fault_law}
-use Rattle.tx_core.proofs.Cutting.{truncated_announced}
+use Rattle.tx_core.proofs.Cutting.{before_upto, truncated_announced}
 use Rattle.tx_core.proofs.Holding.{announced_from, xmin_from}
 use Rattle.tx_core.proofs.LastNumbers.{number_push, number_same}
 use Rattle.tx_core.proofs.Lasting.{flushed_grows, history_grows}
@@ -41,6 +41,7 @@ use Rattle.engine_parts.specs.Stand.{IsSubtransReach, IsXactReach, first_subtran
 use Rattle.engine_parts.specs.Steps.{WentMulti}
 use Rattle.engine_parts.proofs.Leaving.{stands_left}
 use Rattle.engine_parts.proofs.Stepping.{went_quiet}
+use Rattle.bank_sections.proofs.Nearing.{stop_tight}
 use Rattle.bank_sections.specs.Cuts.{cut_fault_by}
 
 pub is_xact_lock : (start : Start) (bank : ℕ) → bank < start.banks → IsPageLock start (xact_lock bank)
@@ -101,6 +102,8 @@ parents_reach start lists xmin is k w =
     let from = xmin_from start lists 0 k is (take w.0 (history lists)) (legal_take start.base (history lists) w.0 k.events.legal) in
     let up = before_rises start.base.next xmin (subst (λ z. start.base.next ≤ z) (sym w.2) from) in
     let near = before_near start.base.next in
+    let under = before_upto start.base.next in
+    let stop = stop_tight start.base.oldest in
     let next = is.next in
     let oldest = is.oldest in
     (omega arith, (omega arith, omega arith))

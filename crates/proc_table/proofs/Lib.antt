@@ -18,3 +18,5 @@ pub mod AskLemmas
 pub mod QuietStates
 pub mod KeptContents
 pub mod ReaderLemmas
+pub mod TailLemmas
+pub mod OpenAscend

@@ -1,7 +1,7 @@
 //! Running transactions together: what a snapshot lists of them, and which ids run.
 ghost use Rattle.std.specs.Prelude.{◌≡◌, ◌==◌, ◌<◌, ◌^◌, ℕ, [], false, not, map, min, nat_lt, IfSome, IfNone, IfOk, OnOk};
 ghost use Rattle.std.specs.List.{All, Any, filter, fold, list_any};
-ghost use Rattle.tx_events.specs.IdLists.{has};
+ghost use Rattle.tx_events.specs.IdLists.{has, Ascending};
 ghost use Rattle.proc_table.specs.declared.entry.Entry.{Entry};
 ghost use Rattle.proc_table.specs.Entries.{IsSame, IsAdded, IsTaken, IsEach, HasRoomFor, SubsAscend, is_of_entry};
 ghost use Rattle.proc_table.specs.Lists.{entries_below, tops_of, subs_of, some_overflowed, AreListed};
@@ -59,6 +59,8 @@ pub fn add_id(entries: &mut Vec<Entry>, session: u32, id: FullXid)
 
 /// Takes these ids from the entry of this session.
 pub fn take_ids(entries: &mut Vec<Entry>, session: u32, ids: &[FullXid])
+    requires subs { All SubsAscend entries.old.items }
+    requires ids { Ascending ids.now }
     ensures { IsEach (IsTaken session ids.now) entries.old.items entries.new.items }
 {
     for i in 0..entries.len() {

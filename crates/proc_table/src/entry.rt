@@ -1,5 +1,5 @@
 //! One running transaction and its open subids (`PGPROC`, and its cache of subids in `src/include/storage/proc.h`).
-ghost use Rattle.std.specs.Prelude.{◌≡◌, ◌++◌, ◌==◌, ◌^◌, ◌||◌, ◌<◌, [], ◌∷◌, not, true, false, max, OnOk};
+ghost use Rattle.std.specs.Prelude.{◌≡◌, ◌++◌, ◌==◌, ◌^◌, ◌||◌, ◌<◌, ◌≤◌, [], ◌∷◌, IsTrue, not, true, false, drop, length, max, OnOk};
 ghost use Rattle.std.specs.List.{filter, fold};
 ghost use Rattle.std.specs.Vec.{vec_len, vec_capacity};
 ghost use Rattle.tx_events.specs.IdLists.{has, Ascending};
@@ -69,8 +69,10 @@ impl Entry {
         }
     }
 
-    /// Loses these subids, if it is the entry of this session.
+    /// Loses these subids, which ascend as its own do, if it is the entry of this session.
     pub fn take(&mut self, session: u32, ids: &[FullXid])
+        requires subs { Ascending self.old.subs.items }
+        requires ids { Ascending ids.now }
         ensures { IsTaken session ids.now self.old self.new }
     {
         if self.session == session {
@@ -86,22 +88,32 @@ impl Entry {
     }
 }
 
-/// Whether the id is among these.
-fn has_id(ids: &[FullXid], id: FullXid) -> bool
-    ensures { result ≡ has ids.now id }
+fn are_same(some: &[FullXid], others: &[FullXid]) -> bool
+    ensures { IsTrue result → some.now ≡ others.now }
 {
-    for x in ids {
-        if id == *x {
-            return true;
-        }
-    }
-    false
+    some == others
 }
 
+/// The items from a place on.
+fn items_from(items: &[FullXid], from: usize) -> &[FullXid]
+    requires { from ≤ length items.now }
+    ensures { result.now ≡ drop from items.now }
+{
+    &items[from..]
+}
+
+/// Loses these. Mostly they are the last ones.
 fn without(items: &mut Vec<FullXid>, ids: &[FullXid])
+    requires items { Ascending items.old.items }
+    requires ids { Ascending ids.now }
     ensures { items.new.items ≡ filter (λ x. not (has ids.now x)) items.old.items }
 {
-    items.retain(|x| !has_id(ids, *x));
+    let from = items.len().saturating_sub(ids.len());
+    if are_same(items_from(items, from), ids) {
+        items.truncate(from);
+    } else {
+        items.retain(|x| !is_listed(ids, *x));
+    }
 }
 
 /// The greatest of an id and these.

@@ -4,10 +4,23 @@ use Rattle.tx_events.specs.Families.{is_top}
 use Rattle.tx_events.specs.Running.{open_ids}
 use Rattle.tx_events.specs.Savepoints.{is_inside}
 use Rattle.proc_table.specs.Table.{InTurn}
+use Rattle.tx_events.proofs.IdListSteps.{ascending_filtered}
+use Rattle.tx_events.specs.IdLists.{Ascending}
+use Rattle.proc_table.proofs.AskLemmas.{subs_ascend}
+use Rattle.proc_table.proofs.OpenAscend.{open_ascend}
 use Rattle.proc_table.proofs.EndStates.{is_promised}
 use Rattle.proc_table.proofs.UndoStates.{state_undo}
 use Rattle.proc_table.proofs.EntryLists.{zip_from_each}
 use Rattle.proc_table.proofs.table.ProcTable.undo.Goals as goal
+
+pub take_ids-requires-clause-subs : goal.take_ids-requires-clause-subs
+take_ids-requires-clause-subs c = subs_ascend _ _ _ _ _ _ _ _ c.self.invariant.0
+
+pub take_ids-requires-clause-ids : goal.take_ids-requires-clause-ids
+take_ids-requires-clause-ids c =
+    let view : c.self.inside.events.items ≡ c.args.self.now.events = ap (λ t. t.events) c.self.view_is in
+    let up : Ascending (open_ids c.args.by.session c.args.self.now.events) = subst (λ h. Ascending (open_ids c.args.by.session h)) view (open_ascend c.self.inside.base c.self.inside.events.items c.args.by.session c.self.invariant.0.legal) in
+    subst Ascending (sym c.requires.ids) (ascending_filtered (is_inside c.args.self.now.events c.args.id) (open_ids c.args.by.session c.args.self.now.events) up)
 
 pub invariant_of-self : goal.invariant_of-self
 invariant_of-self c =

@@ -1,5 +1,5 @@
 -- What is kept of the open ids goes along with the history.
-use Rattle.std.proofs.Common.{◌≡◌, ℕ, ◌+◌, ◌<◌, suc, zero, List, [], ◌∷◌, ◌++◌, Option, Some, None, refl, ap, sym, subst, ◌∙◌, inl, inr, ⊎_elim, Bool, true, false, cond, not, ◌==◌, ◌||◌, ◌&&◌, append-nil, take, length, get_or, arith, Contains, eqb-true, eq-eqb, is_none, is_some, IsTrue, ◌↔◌, Result, Ok, Err}
+use Rattle.std.proofs.Common.{◌≡◌, ℕ, ◌+◌, ◌<◌, suc, zero, List, [], ◌∷◌, ◌++◌, Option, Some, None, refl, ap, sym, subst, ◌∙◌, inl, inr, ⊎_elim, Bool, true, false, cond, not, ◌==◌, ◌||◌, ◌&&◌, take, length, get_or, arith, Contains, eqb-true, eq-eqb, is_none, is_some, IsTrue, ◌↔◌, Result, Ok, Err}
 use Rattle.std.specs.Global.{Vec}
 use Rattle.std.specs.Prelude.{IfOk}
 use Rattle.tx_events.specs.declared.sequence.Memory.{Memory}
@@ -8,21 +8,16 @@ use Rattle.std.proofs.lemmas.Bool.{false≢true}
 use Rattle.std.proofs.lemmas.List.{map_push, take_more}
 use Rattle.std.proofs.lemmas.List.Elements.{filter-append}
 use Rattle.tx_events.specs.declared.event.Event.{Event}
-use Rattle.tx_events.specs.declared.event.Event.TheVariants as events
 use Rattle.tx_events.specs.declared.record.Counters.{Counters}
-use Rattle.tx_events.specs.Events.{by_of, given, given_to}
 use Rattle.tx_events.specs.Families.{is_top}
-use Rattle.tx_events.specs.History.{IsLegal, MayCome, next_given}
+use Rattle.tx_events.specs.History.{IsLegal}
 use Rattle.tx_events.specs.IdLists.{has, Ascending}
-use Rattle.tx_events.specs.Running.{is_open, open_ids}
+use Rattle.tx_events.specs.Running.{open_ids}
 use Rattle.tx_events.specs.Savepoints.{is_inside}
-use Rattle.tx_events.proofs.GivenIds.{legal_front, legal_last, open_given}
-use Rattle.tx_events.proofs.GivenGrowth.{given_to_new, given_to_none}
-use Rattle.tx_events.proofs.NameBounds.{AreBelow, given_to_below}
-use Rattle.tx_events.proofs.IdListSteps.{ascending_filtered, ascending_push, has-filter, has_true}
-use Rattle.tx_events.proofs.Membership.{Has, all_at, by_end, contains_has, has_contains}
+use Rattle.tx_events.proofs.GivenIds.{open_given}
+use Rattle.tx_events.proofs.IdListSteps.{ascending_filtered, has-filter, has_true}
+use Rattle.tx_events.proofs.Membership.{Has, all_at, contains_has, has_contains}
 use Rattle.proc_table.proofs.OpenAscend.{open_ascend}
-use Rattle.tx_events.proofs.Soundness.{legal_sound}
 use Rattle.history_check.specs.declared.opened.OpenId.{OpenId}
 use Rattle.history_check.specs.Opened.{AreOpened, is_closed_below, is_inside_by, opened_ids, parent_of}
 use Rattle.history_check.proofs.Parents.{HasNone, HasParent, inside_above, inside_none, is_no_top, is_top_of_none, parent_below, parent_open, parents}

@@ -1,7 +1,7 @@
 -- The open ids from a place on: where those of a savepoint begin, and what is left where the last ones are closed.
-use Rattle.std.proofs.Common.{◌≡◌, ℕ, suc, zero, ◌+◌, ◌<◌, ◌≤◌, List, [], ◌∷◌, ◌++◌, None, Some, Option, refl, ap, sym, subst, ◌∙◌, Bool, true, false, cond, not, ◌==◌, ◌||◌, take, drop, length, get_or, nat_lt, arith, take-append-drop}
+use Rattle.std.proofs.Common.{◌≡◌, ℕ, suc, zero, ◌+◌, ◌<◌, ◌≤◌, List, [], ◌∷◌, ◌++◌, None, Some, Option, refl, ap, sym, subst, ◌∙◌, true, false, cond, not, ◌||◌, take, drop, length, get_or, nat_lt, arith, take-append-drop}
 use Rattle.std.proofs.lemmas.Bool.Decides.{nat_tests}
-use Rattle.std.proofs.lemmas.List.{get_or_default, get_or-drop}
+use Rattle.std.proofs.lemmas.List.{get_or_default}
 use Rattle.std.specs.List.{AllByRecursion, AllWithin, filter}
 use Rattle.tx_events.specs.declared.event.Event.{Event}
 use Rattle.tx_events.specs.declared.record.Counters.{Counters}
@@ -10,7 +10,7 @@ use Rattle.tx_events.specs.IdLists.{Ascending, has}
 use Rattle.tx_events.specs.Savepoints.{is_inside}
 use Rattle.tx_events.proofs.IdListSteps.{has_true}
 use Rattle.tx_events.proofs.ListSteps.{above_not, below_not}
-use Rattle.tx_events.proofs.Membership.{Has, filter_none_on, map_has}
+use Rattle.tx_events.proofs.Membership.{filter_none_on, map_has}
 use Rattle.history_check.specs.declared.opened.OpenId.{OpenId}
 use Rattle.history_check.specs.Opened.{AreOpened, is_closed_below, is_inside_by, opened_ids}
 use Rattle.history_check.proofs.OpenedSteps.{inside_more}

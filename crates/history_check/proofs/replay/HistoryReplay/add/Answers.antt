@@ -10,6 +10,8 @@ use Rattle.history_check.specs.Opened.{opened_after, opened_ids}
 use Rattle.history_check.specs.Replays.{IsLawfulNext, Replayed}
 use Rattle.history_check.proofs.AddLemmas.{replay_roomier, replay_stays, same_default, turn_of, view_after, within_table}
 use Rattle.history_check.proofs.GivenSteps.{kept_ascend}
+use Rattle.tx_events.specs.IdLists.{Ascending}
+use Rattle.history_check.proofs.OpenedSteps.{opened_ascend}
 use Rattle.history_check.proofs.ReplaySteps.{replay_after}
 use Rattle.history_check.proofs.TurnLemmas.{written_back}
 use Rattle.history_check.proofs.replay.HistoryReplay.add.Goals as goal
@@ -40,6 +42,13 @@ invariant_of-self-in_err-go_on c =
 pub note_given-requires-clause-order : goal.note_given-requires-clause-order
 note_given-requires-clause-order c =
     kept_ascend c.self.inside.table.base c.self.inside.table.events c.make_one_room.new.items.items c.events.ensures.legal (subst (AreKept c.self.inside.table.events) (sym c.make_one_room.ensures.items) c.self.invariant.given)
+
+pub note_opened-requires-clause-opened : goal.note_opened-requires-clause-opened
+note_opened-requires-clause-opened c =
+    let within = within_table c.self.inside.table c.args.self.now c.args.event.now c.self.view_is c.requires in
+    let roomier = replay_roomier c.self.inside.table c.self.inside.last.items c.self.inside.opened.items c.self.inside.given.items c.make_one_room.new.items.items c.args.event.now c.by_of-by.result c.make_one_room-2.new.items c.index_mut.result.now c.self.invariant within c.by_of-by.ensures c.index_mut.ensures.value c.make_one_room-2.ensures.items c.make_one_room.ensures.items in
+    let its = roomier.opened.each c.by_of-by.result.session (subst (λ (b : By). b.session < c.self.inside.table.sessions) (sym c.by_of-by.ensures) within) c.index_mut-2.result.now in
+    subst (λ (v : Vec OpenId). Ascending (opened_ids v.items)) (sym c.index_mut-2.ensures.value) (opened_ascend c.self.inside.table.base c.self.inside.table.events c.by_of-by.result.session _ c.events.ensures.legal its)
 
 pub invariant_of-self-2 : goal.invariant_of-self-2
 invariant_of-self-2 c =

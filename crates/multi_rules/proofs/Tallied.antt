@@ -14,7 +14,7 @@ use Rattle.tx_events.specs.declared.multi.MultiEvent.TheVariants as multis
 use Rattle.tx_events.specs.declared.record.Counters.{Counters}
 use Rattle.tx_events.specs.Multis.{AreLegalMultis, BaseOffset, Pin, pins, pins_after, same_pin, without_pin}
 use Rattle.counted_map.specs.declared.CountedMap.{CountedMap}
-use Rattle.counted_map.specs.Counts.{some_of, with_count}
+use Rattle.counted_map.specs.Counts.{with_count}
 use Rattle.counted_map.proofs.Counted.{cmp_eq}
 use Rattle.multi_store.proofs.Counts.{length_without, same_equal, same_refl}
 use Rattle.multi_store.proofs.MadeSteps.{pins_push}
@@ -88,12 +88,7 @@ pinned_most (p ∷ ps) m =
 -- one more fits
 pub more_fits : (ps : List Pin) (counts : CountedMap ℕ) (e : MultiEvent) → IsTally ps counts → length ps + 1 < 2 ^ 64 → FitsMore counts e
 more_fits ps counts (multis.Gen by multi offset members) t l = tt
-more_fits ps counts (multis.Hold by multi) t l =
-    subst (λ (o : Option ℕ). IfSome o (λ n. n + 1 < 2 ^ 64)) (sym (t multi)) (one (pinned ps multi) (let a = pinned_most ps multi in omega arith))
-  where
-    one : (n : ℕ) → n + 1 < 2 ^ 64 → IfSome (some_of n) (λ n. n + 1 < 2 ^ 64)
-    one zero f = tt
-    one (suc n) f = f
+more_fits ps counts (multis.Hold by multi) t l = let a = pinned_most ps multi in let e = t.each multi in omega arith
 more_fits ps counts (multis.Unhold by multi) t l = tt
 more_fits ps counts (multis.Raise by multi offset) t l = tt
 

@@ -1,10 +1,9 @@
 -- To which multixact the oldest one could be raised.
-use Rattle.std.specs.Prelude.{◌≡◌, ℕ, ◌+◌, ◌^◌, ◌<◌, ◌≤◌, ◌↔◌, ◌⊎◌, ◌==◌, ◌&&◌, ◌||◌, nat_lt, Bool, IfSome, List, Contains, length, take, slice_index_or}
-use Rattle.std.specs.BTreeMap.{get}
+use Rattle.std.specs.Prelude.{◌≡◌, ℕ, ◌+◌, ◌^◌, ◌<◌, ◌≤◌, ◌↔◌, ◌⊎◌, ◌==◌, ◌&&◌, ◌||◌, nat_lt, Bool, List, Contains, length, take, slice_index_or}
 use Rattle.std.specs.List.{HoldsAt, count_by}
 use Rattle.std.specs.Ordering.{nat_cmp}
 use Rattle.counted_map.specs.declared.CountedMap.{CountedMap}
-use Rattle.counted_map.specs.Counts.{Counts}
+use Rattle.counted_map.specs.Counts.{Counts, counted}
 use Rattle.tx_events.specs.declared.event.By.{By}
 use Rattle.tx_events.specs.declared.multi.MultiEvent.{MultiEvent}
 use Rattle.tx_events.specs.declared.multi.MultiEvent.TheVariants as multis
@@ -30,7 +29,7 @@ LetsGoHeld held e = Unit {0}
 
 -- one pin more can be counted
 abbrev pub FitsMore : CountedMap ℕ → MultiEvent → Type 0
-FitsMore counts (multis.Hold by multi) = IfSome (get nat_cmp counts.counts multi) (λ n. n + 1 < 2 ^ 64)
+FitsMore counts (multis.Hold by multi) = counted nat_cmp counts multi + 1 < 2 ^ 64
 FitsMore counts e = Unit {0}
 
 -- ---- limits

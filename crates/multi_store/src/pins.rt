@@ -1,7 +1,7 @@
 //! How often each session pins a multixact.
-ghost use Rattle.std.specs.Prelude.{◌≡◌, ℕ, ◌+◌, ◌^◌, ◌<◌, ◌↔◌, IsTrue, List, [], ◌∷◌, ◌++◌, Contains, IfSome, OnOk, OnErr, map, min};
+ghost use Rattle.std.specs.Prelude.{◌≡◌, ℕ, ◌+◌, ◌^◌, ◌<◌, ◌↔◌, IsTrue, List, [], ◌∷◌, ◌++◌, Contains, OnOk, OnErr, map, min};
 ghost use Rattle.std.specs.List.{fold};
-ghost use Rattle.std.specs.BTreeMap.{get};
+ghost use Rattle.counted_map.specs.Counts.{counted};
 ghost use Rattle.tx_events.specs.Multis.{Pin, without_pin};
 ghost use Rattle.multi_store.specs.Pins.{IsTally, pin_of, pin_cmp};
 
@@ -20,7 +20,7 @@ pub type PinCounts = CountedMap<PinKey>;
 
 /// Counts the pin once more. After want of memory nothing changed.
 pub fn add_pin(counts: &mut PinCounts, pin: PinKey) -> Result<(), Memory>
-    requires fits { IfSome (get pin_cmp counts.old.counts pin) (λ n. n + 1 < 2 ^ 64) }
+    requires fits { counted pin_cmp counts.old pin + 1 < 2 ^ 64 }
     ensures more { OnOk result ((pins : List Pin) → IsTally pins counts.old → IsTally (pins ++ pin_of pin ∷ []) counts.new) }
     ensures same { OnErr result ((pins : List Pin) → IsTally pins counts.old → IsTally pins counts.new) }
 {

@@ -7,7 +7,10 @@ use Rattle.std.specs.Ordering.{nat_cmp}
 use Rattle.counted_map.specs.declared.CountedMap.{CountedMap}
 use Rattle.counted_map.specs.Counts.{Counts}
 use Rattle.tx_events.specs.Horizon.{LiveSnap, is_snap_of}
+use Rattle.tx_events.specs.Events.{same_name}
 use Rattle.proc_table.specs.declared.live.LiveSnapshots.{LiveSnapshots}
+use Rattle.proc_table.specs.declared.named.NamedXmin.{NamedXmin}
+use Rattle.proc_table.specs.declared.named.NamedXmins.{NamedXmins}
 
 -- the xmin of the first snapshot of this session and name
 abbrev pub live_xmin : ℕ → List ℕ → List LiveSnap → Option ℕ
@@ -35,16 +38,24 @@ IsTally f counts = Counts nat_cmp f counts
 abbrev pub one_more : ℕ → (ℕ → ℕ) → ℕ → ℕ
 one_more x f y = f y + cond (x == y) 1 0
 
-module _ {Z : Type 0} where
-  -- the xmin that one session has under a name
-  abbrev pub xmin_under : List ℕ → BTreeMap (Vec ℕ Z) ℕ → Option ℕ
-  xmin_under name names = get_by (λ k. slice_cmp nat_cmp name k.items) names
+-- what is under a name, where the snapshot that was taken last is this one and the earlier ones have so much
+abbrev pub xmin_in_place : List ℕ → Option NamedXmin → Option ℕ → Option ℕ
+xmin_in_place name None earlier = earlier
+xmin_in_place name (Some last) earlier = cond (same_name last.name name) (Some last.xmin) earlier
 
-  -- the xmin that the session of this number has under a name
-  abbrev pub kept_xmin : List (BTreeMap (Vec ℕ Z) ℕ) → ℕ → List ℕ → Option ℕ
-  kept_xmin [] session name = None
-  kept_xmin (names ∷ sessions) zero name = xmin_under name names
-  kept_xmin (names ∷ sessions) (suc session) name = kept_xmin sessions session name
+-- the xmin that is kept under the bytes of a name
+abbrev pub xmin_of_bytes : {Z : Type 0} → List ℕ → BTreeMap (Vec ℕ Z) ℕ → Option ℕ
+xmin_of_bytes name earlier = get_by (λ k. slice_cmp nat_cmp name k.items) earlier
+
+-- the xmin that one session has under a name
+abbrev pub xmin_under : List ℕ → NamedXmins → Option ℕ
+xmin_under name names = xmin_in_place name names.last (xmin_of_bytes name names.earlier)
+
+-- the xmin that the session of this number has under a name
+abbrev pub kept_xmin : List NamedXmins → ℕ → List ℕ → Option ℕ
+kept_xmin [] session name = None
+kept_xmin (names ∷ sessions) zero name = xmin_under name names
+kept_xmin (names ∷ sessions) (suc session) name = kept_xmin sessions session name
 
 -- these are the live snapshots, in whatever order
 pub record HoldsLive (snaps : List LiveSnap) (l : LiveSnapshots) : Type 0 where

@@ -7,6 +7,7 @@ mod answers;
 mod entries;
 mod entry;
 mod live;
+mod named;
 mod table;
 mod xmins;
 

@@ -1,19 +1,15 @@
 //! The live snapshots, which hold back the oldest xmin.
-ghost use Rattle.std.specs.Prelude.{◌≡◌, ℕ, ◌+◌, ◌^◌, ◌<◌, List, [], ◌∷◌, ◌++◌, Some, None, cond, length, map, min, false, IfSome, IfNone, IfOk, OnOk, OnErr, option_map};
+ghost use Rattle.std.specs.Prelude.{◌≡◌, ℕ, ◌+◌, ◌^◌, ◌<◌, List, [], ◌∷◌, ◌++◌, None, length, map, min, false, IfSome, IfNone, IfOk, OnOk, OnErr};
 ghost use Rattle.std.specs.List.{fold, list_any};
-ghost use Rattle.std.specs.BTreeMap.{get};
 ghost use Rattle.std.specs.Ordering.{nat_cmp};
-ghost use Rattle.tx_events.specs.Events.{same_name};
+ghost use Rattle.counted_map.specs.Counts.{counted};
 ghost use Rattle.tx_events.specs.Horizon.{LiveSnap, is_snap_of};
-ghost use Rattle.proc_table.specs.Lives.{HoldsLive, xmin_under, live_xmin, others};
+ghost use Rattle.proc_table.specs.Lives.{HoldsLive, live_xmin, others};
 
+use crate::named::NamedXmins;
 use crate::xmins::{XminCounts, count_less, count_more, least_counted};
 use std::alloc::Global;
-use std::collections::BTreeMap;
 use tx_events::{FullXid, Memory, Name};
-
-/// The xmin of each live snapshot of one session, by the bytes of its name.
-type NamedXmins = BTreeMap<Vec<u8>, FullXid>;
 
 /// The live snapshots of all sessions. To find one, to add or take out one and to tell the least xmin takes the
 /// logarithm of how many there are.
@@ -32,7 +28,7 @@ impl LiveSnapshots {
     {
         let mut names = Vec::with_capacity(alloc, sessions as usize)?;
         for _ in 0..sessions {
-            names.push(BTreeMap::new(alloc))?;
+            names.push(NamedXmins::new(alloc))?;
         }
         Ok(LiveSnapshots {
             sessions: names,
@@ -45,7 +41,7 @@ impl LiveSnapshots {
         ensures { (snaps : List LiveSnap) → HoldsLive snaps self.now → result ≡ live_xmin session name.now snaps }
     {
         match self.sessions.get(session as usize) {
-            Some(names) => xmin_under(names, name),
+            Some(names) => names.get(name),
             None => None,
         }
     }
@@ -53,14 +49,14 @@ impl LiveSnapshots {
     /// Adds a snapshot under a name that the session has none of. After want of memory it holds what it held.
     pub fn insert(&mut self, session: u32, name: &Name, xmin: FullXid) -> Result<(), Memory>
         requires within { session < length self.old.sessions.items }
-        requires fits { IfSome (get nat_cmp self.old.xmins.counts xmin) (λ n. n + 1 < 2 ^ 64) }
+        requires fits { counted nat_cmp self.old.xmins xmin + 1 < 2 ^ 64 }
         ensures ok { OnOk result ((snaps : List LiveSnap) → HoldsLive snaps self.old → list_any (is_snap_of session name.now) snaps ≡ false → HoldsLive (snaps ++ record { session = session; name = name.now; xmin = xmin } ∷ []) self.new) }
         ensures err { OnErr result ((snaps : List LiveSnap) → HoldsLive snaps self.old → HoldsLive snaps self.new) }
         ensures sessions { length self.new.sessions.items ≡ length self.old.sessions.items }
     {
-        let key = bytes_of(*self.sessions.allocator(), name)?;
+        let alloc = *self.sessions.allocator();
         count_more(&mut self.xmins, xmin)?;
-        match put_name(&mut self.sessions[session as usize], key, xmin) {
+        match self.sessions[session as usize].put(alloc, name, xmin) {
             Ok(()) => Ok(()),
             Err(Memory) => {
                 count_less(&mut self.xmins, xmin);
@@ -77,10 +73,10 @@ impl LiveSnapshots {
         ensures none { IfNone result ((snaps : List LiveSnap) → HoldsLive snaps self.old → live_xmin session name.now snaps ≡ None) }
         ensures sessions { length self.new.sessions.items ≡ length self.old.sessions.items }
     {
-        match take_name(&mut self.sessions[session as usize], name) {
-            Some((name, xmin)) => {
+        match self.sessions[session as usize].take(name) {
+            Some(xmin) => {
                 count_less(&mut self.xmins, xmin);
-                Some(name)
+                Some(name.same())
             }
             None => None,
         }
@@ -91,41 +87,5 @@ impl LiveSnapshots {
         ensures { (snaps : List LiveSnap) → HoldsLive snaps self.now → result ≡ fold min from (map (λ s. s.xmin) snaps) }
     {
         least_counted(from, &self.xmins)
-    }
-}
-
-fn xmin_under(names: &NamedXmins, name: &Name) -> Option<FullXid>
-    ensures { result ≡ xmin_under name.now names.now }
-{
-    names.get(name.items()).copied()
-}
-
-fn bytes_of(alloc: Global, name: &Name) -> Result<Vec<u8>, Memory>
-    ensures { IfOk result (λ v. v.items ≡ name.now) }
-{
-    let mut bytes = Vec::new(alloc);
-    bytes.extend_from_slice(name.items())?;
-    Ok(bytes)
-}
-
-fn put_name(names: &mut NamedXmins, name: Vec<u8>, xmin: FullXid) -> Result<(), Memory>
-    ensures ok { OnOk result ((n : List ℕ) → xmin_under n names.new ≡ cond (same_name name.items n) (Some xmin) (xmin_under n names.old)) }
-    ensures err { OnErr result ((n : List ℕ) → xmin_under n names.new ≡ xmin_under n names.old) }
-{
-    names.insert(name, xmin)?;
-    Ok(())
-}
-
-/// Takes a name out, and gives it back with its xmin.
-fn take_name(names: &mut NamedXmins, name: &Name) -> Option<(Name, FullXid)>
-    ensures name { IfSome result (λ p. p.0 ≡ name.now) }
-    ensures xmin { IfSome result (λ p. xmin_under name.now names.old ≡ Some p.1) }
-    ensures left { IfSome result (λ _. (n : List ℕ) → xmin_under n names.new ≡ cond (same_name name.now n) None (xmin_under n names.old)) }
-    ensures none { IfNone result (xmin_under name.now names.old ≡ None) }
-    ensures same { IfNone result ((n : List ℕ) → xmin_under n names.new ≡ xmin_under n names.old) }
-{
-    match names.remove_entry(name.items()) {
-        Some((_key, xmin)) => Some((name.same(), xmin)),
-        None => None,
     }
 }

@@ -1,8 +1,8 @@
 //! How many live snapshots have each xmin.
-ghost use Rattle.std.specs.Prelude.{◌≡◌, ℕ, ◌+◌, ◌^◌, ◌<◌, List, IfSome, OnOk, OnErr, map, min};
+ghost use Rattle.std.specs.Prelude.{◌≡◌, ℕ, ◌+◌, ◌^◌, ◌<◌, List, OnOk, OnErr, map, min};
 ghost use Rattle.std.specs.List.{fold};
-ghost use Rattle.std.specs.BTreeMap.{get};
 ghost use Rattle.std.specs.Ordering.{nat_cmp};
+ghost use Rattle.counted_map.specs.Counts.{counted};
 ghost use Rattle.tx_events.specs.Horizon.{LiveSnap};
 ghost use Rattle.proc_table.specs.Lives.{IsTally, one_more, with_xmin};
 
@@ -14,7 +14,7 @@ pub type XminCounts = CountedMap<FullXid>;
 
 /// Counts one more of this xmin.
 pub fn count_more(counts: &mut XminCounts, xmin: FullXid) -> Result<(), Memory>
-    requires fits { IfSome (get nat_cmp counts.old.counts xmin) (λ n. n + 1 < 2 ^ 64) }
+    requires fits { counted nat_cmp counts.old xmin + 1 < 2 ^ 64 }
     ensures more { OnOk result ((f : ℕ → ℕ) → IsTally f counts.old → IsTally (one_more xmin f) counts.new) }
     ensures same { OnErr result ((f : ℕ → ℕ) → IsTally f counts.old → IsTally f counts.new) }
 {

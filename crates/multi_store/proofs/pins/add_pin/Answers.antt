@@ -1,14 +1,13 @@
-use Rattle.std.proofs.Common.{List, ◌∙◌, ap}
-use Rattle.counted_map.proofs.Counted.{on_err}
-use Rattle.counted_map.specs.Counts.{some_of}
+use Rattle.std.proofs.Common.{List}
+use Rattle.counted_map.proofs.Counted.{counts_alike, on_err}
 use Rattle.tx_events.specs.Multis.{Pin}
-use Rattle.multi_store.specs.Pins.{IsTally, pin_of}
+use Rattle.multi_store.specs.Pins.{IsTally, pin_cmp, pin_of}
 use Rattle.multi_store.proofs.Counts.{count}
 use Rattle.multi_store.proofs.Tallies.{tally_more}
 use Rattle.multi_store.proofs.pins.add_pin.Goals as goal
 
 pub returns-clause-more : goal.returns-clause-more
-returns-clause-more c = λ pins t k. c.in_ok-add.ensures.added (λ q. count (pin_of q) pins) t k ∙ ap some_of (tally_more pins c.args.pin k)
+returns-clause-more c = λ pins t. counts_alike pin_cmp _ _ _ (c.in_ok-add.ensures.added (λ q. count (pin_of q) pins) t) (tally_more pins c.args.pin)
 
 pub returns-in_err-add-clause-same : goal.returns-in_err-add-clause-same
 returns-in_err-add-clause-same c =

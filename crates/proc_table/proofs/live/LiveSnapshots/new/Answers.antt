@@ -8,4 +8,4 @@ loop-preserved c =
     let items : c.push.new.self.items ≡ c.loop.names.items ++ c.new.result ∷ [] = c.in_ok-push.ensures.items in
     let more : length c.push.new.self.items ≡ length c.loop.names.items + 1 = ap length items ∙ length_push c.loop.names.items c.new.result ∙ omega arith in
     let before : length c.loop.names.items ≡ c.loop.counter = c.loop.invariant.0 in
-    (omega arith, rw items (kept_push c.loop.names.items c.new.result c.new.ensures.empty c.loop.invariant.1))
+    (omega arith, rw items (kept_push c.loop.names.items c.new.result c.new.ensures c.loop.invariant.1))

@@ -14,7 +14,7 @@ returns-in-None-clause-none c =
     sym (h.names c.args.session c.args.name.now)
     ∙ kept_at c.args.self.now.sessions.items c.args.session c.index_mut.result.now c.args.name.now c.requires.within
     ∙ ap (xmin_under c.args.name.now) (sym c.index_mut.ensures.value)
-    ∙ c.in-None.ensures.none
+    ∙ sym c.in-None.ensures.xmin
 
 pub returns-in-Some-clause-left : goal.returns-in-Some-clause-left
 returns-in-Some-clause-left c = λ ss h.
@@ -23,10 +23,10 @@ returns-in-Some-clause-left c = λ ss h.
     sym (h.names c.args.session c.args.name.now)
     ∙ kept_at c.args.self.now.sessions.items c.args.session c.index_mut.result.now c.args.name.now c.requires.within
     ∙ ap (xmin_under c.args.name.now) (sym c.index_mut.ensures.value)
-    ∙ c.in-Some.ensures.xmin in
+    ∙ sym c.in-Some.ensures.xmin in
     let here : Has ss r =
     subst (λ o. IfSome o (λ x. Has ss (record { session = c.args.session; name = c.args.name.now; xmin = x }))) found (live_some ss c.args.session c.args.name.now) in
     holds_less ss c.args.self.now _ r h (has_contains ss r here)
-    (kept_after c.args.self.now.sessions.items c.args.session c.index_mut.result.now c.take_name.new.names c.args.name.now None c.requires.within
+    (kept_after c.args.self.now.sessions.items c.args.session c.index_mut.result.now c.take.new.self c.args.name.now None c.requires.within
     (λ ns. c.in-Some.ensures.left ns ∙ ap (λ m. cond (same_name c.args.name.now ns) None (xmin_under ns m)) c.index_mut.ensures.value))
     c.count_less.ensures

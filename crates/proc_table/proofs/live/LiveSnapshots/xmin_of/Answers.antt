@@ -11,7 +11,7 @@ returns-in-Some c = λ ss h.
     let test : true ≡ nat_lt c.args.session (length c.deref.result.now) = c.in-Some.ensures.lookup.0 in
     let same : length c.deref.result.now ≡ length c.args.self.now.sessions.items = ap length c.deref.ensures.value in
     let within : c.args.session < length c.args.self.now.sessions.items = grind (arith, nat_tests) in
-    c.xmin_under.ensures
+    c.get-in-Some.ensures
     ∙ ap (xmin_under c.args.name.now) (c.in-Some.ensures.lookup.1 ∙ ap (λ l. slice_index_or l c.args.session c.in-Some.names.now) c.deref.ensures.value)
     ∙ sym (kept_at c.args.self.now.sessions.items c.args.session c.in-Some.names.now c.args.name.now within)
     ∙ h.names c.args.session c.args.name.now

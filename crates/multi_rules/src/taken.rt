@@ -60,7 +60,7 @@ pub fn taken_by_lines(
     ensures { IfOk result (λ lists. AreTakenByLines life.first life.events (bys_of table.now) lists.items) }
 {
     let mut lists = Vec::new(alloc);
-    for line in 0..table.lines().len() as u64 {
+    for line in 0..table.count() {
         lists.push(taken_of(alloc, snaps, own.places(line))?)?;
     }
     Ok(lists)

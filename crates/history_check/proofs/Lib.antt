@@ -4,6 +4,7 @@ pub mod Marks
 pub mod GivenSteps
 pub mod Parents
 pub mod OpenedSteps
+pub mod OpenedTails
 pub mod OpenedChanges
 pub mod TurnLemmas
 pub mod OldestBounds

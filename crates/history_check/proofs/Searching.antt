@@ -22,7 +22,7 @@ module _ {X : Type 0} (key : X → ℕ) where
   all_at P (s ∷ xs) zero d a l = a.0
   all_at P (s ∷ xs) (suc k) d a l = all_at P xs k d a.1 (omega arith)
 
-  rises : (xs : List X) → Ascending (map key xs) → (i j : ℕ) (d : X) → i ≤ j → j < length xs → key (get_or xs i d) ≤ key (get_or xs j d)
+  pub rises : (xs : List X) → Ascending (map key xs) → (i j : ℕ) (d : X) → i ≤ j → j < length xs → key (get_or xs i d) ≤ key (get_or xs j d)
   rises [] a i j d l m = absurd (omega arith)
   rises (s ∷ xs) a zero zero d l m = omega arith
   rises (s ∷ xs) a zero (suc j) d l m = let f : key s < key (get_or xs j d) = all_at (λ y. key s < y) xs j d a.0 (omega arith) in omega arith

@@ -1,6 +1,6 @@
 //! The ids that a session has open, by which an event is judged and an undo finds what it closes.
-ghost use Rattle.std.specs.Prelude.{◌≡◌, ◌==◌, ◌<◌, List, [], ◌∷◌, ◌++◌, cond, length, IfOk, IfSome, IfNone, OnOk};
-ghost use Rattle.std.specs.List.{filter, find};
+ghost use Rattle.std.specs.Prelude.{◌≡◌, ◌==◌, ◌<◌, ◌≤◌, IsTrue, List, [], ◌∷◌, ◌++◌, cond, drop, length, not, IfOk, IfSome, IfNone, OnOk};
+ghost use Rattle.std.specs.List.{AllWithin, filter, find};
 ghost use Rattle.std.specs.Vec.{vec_len, vec_capacity};
 ghost use Rattle.tx_events.specs.declared.event.Event.{Event};
 ghost use Rattle.tx_events.specs.Events.{by_of};
@@ -62,7 +62,25 @@ fn push_where(found: &mut Vec<FullXid>, yes: bool, x: FullXid) -> Result<(), Mem
     Ok(())
 }
 
-/// Those of the session's open ids that were given in the savepoint of `id`. An id's parent stands before it.
+/// Before which place those of these stand, which ascend, that are below the id.
+fn place_from(opened: &[OpenId], id: FullXid) -> usize
+    requires { Ascending (opened_ids opened.now) }
+    ensures bound { result ≤ length opened.now }
+    ensures below { AllWithin (λ o. o.id < id) opened.now 0 result }
+{
+    opened.partition_point(|o| o.id < id)
+}
+
+/// Those from a place on.
+fn opened_from(opened: &[OpenId], from: usize) -> &[OpenId]
+    requires { from ≤ length opened.now }
+    ensures { result.now ≡ drop from opened.now }
+{
+    &opened[from..]
+}
+
+/// Those of the session's open ids that were given in the savepoint of `id`. None is below it, and an id's parent stands
+/// before it.
 fn ids_inside(
     alloc: Global,
     table: &ProcTable,
@@ -74,8 +92,9 @@ fn ids_inside(
     ensures { IfOk result (λ ids. ids.items ≡ filter (is_inside table.now.events id) (open_ids session table.now.events)) }
 {
     let _legal = table.events();
+    let from = place_from(opened, id);
     let mut found = Vec::new(alloc);
-    for o in opened {
+    for o in opened_from(opened, from) {
         let closed = is_closed_below(id, found.as_slice(), *o);
         push_where(&mut found, closed, o.id)?;
     }
@@ -107,8 +126,38 @@ fn is_closed(closed: &[FullXid], opened: &OpenId) -> bool
     is_listed(closed, opened.id)
 }
 
+/// Whether these are the open ones' ids.
+fn are_ids_of(ids: &[FullXid], opened: &[OpenId]) -> bool
+    ensures { IsTrue result → opened_ids opened.now ≡ ids.now }
+{
+    if ids.len() != opened.len() {
+        return false;
+    }
+    for (i, o) in opened.iter().enumerate() {
+        if ids[i] != o.id {
+            return false;
+        }
+    }
+    true
+}
+
+/// Loses those that are closed. Mostly they are the last ones.
+fn drop_closed(opened: &mut Vec<OpenId>, closed: &[FullXid])
+    requires opened { Ascending (opened_ids opened.old.items) }
+    requires closed { Ascending closed.now }
+    ensures { opened.new.items ≡ filter (λ (o : OpenId). not (has closed.now o.id)) opened.old.items }
+{
+    let from = opened.len().saturating_sub(closed.len());
+    if are_ids_of(closed, opened_from(opened, from)) {
+        opened.truncate(from);
+    } else {
+        opened.retain(|o| !is_closed(closed, o));
+    }
+}
+
 /// Keeps what the event leaves of its session's open ids, where an undo closes these. For one more there is room.
 pub fn note_opened(opened: &mut Vec<OpenId>, closed: &[FullXid], event: &Event)
+    requires opened { Ascending (opened_ids opened.old.items) }
     requires order { Ascending closed.now }
     requires room { vec_len opened.old < vec_capacity opened.old }
     ensures { opened.new.items ≡ opened_after closed.now event.now opened.old.items }
@@ -122,7 +171,7 @@ pub fn note_opened(opened: &mut Vec<OpenId>, closed: &[FullXid], event: &Event)
             id: *id,
             parent: Some(*parent),
         }),
-        Event::Undo { .. } => opened.retain(|o| !is_closed(closed, o)),
+        Event::Undo { .. } => drop_closed(opened, closed),
         Event::Commit { .. } => opened.clear(),
         Event::Abort { .. } => opened.clear(),
         _ => (),

@@ -18,7 +18,7 @@ use Rattle.recoverable.specs.Whole.{IsShort}
 use Rattle.recoverable.proofs.LogSteps.{log_goes_on}
 use Rattle.recoverable.proofs.Whole.{image_fits}
 use Rattle.bank_follows.proofs.Stores.{images_follow}
-use Rattle.engine_life.specs.Sections.{AsksVolume, IsBankLock, IsForget, MembersMoments, OffsetsMoments, SectionsFit, StatesMoments}
+use Rattle.engine_life.specs.Sections.{IsBankLock, IsBankOrForget, IsForget, MembersMoments, OffsetsMoments, SectionsFit, StatesMoments}
 
 -- a bank's lock is none of the others
 past_others : (lock : ℕ) → IsBankLock lock → 2 < lock
@@ -29,11 +29,11 @@ apart : (n lock : ℕ) → n < lock → n ≢ lock
 apart n lock lt e = absurd (omega (arith, lt, e))
 
 -- so the section adds neither events nor multixacts
-else_where : (lists : List (List Entry)) (lock : ℕ) (e : Entry) → AsksVolume lock e → (n : ℕ) → 0 < n → n < 3 → at (add lists lock e) n ≡ at lists n
+else_where : (lists : List (List Entry)) (lock : ℕ) (e : Entry) → IsBankOrForget lock e → (n : ℕ) → 0 < n → n < 3 → at (add lists lock e) n ≡ at lists n
 else_where lists lock e (inl bank) n some few = at_else lists lock n e (apart n lock (let far = past_others lock bank in omega (arith, far, few)))
 else_where lists lock e (inr log) n some few = at_else lists lock n e (λ same. let zero = log.0 in absurd (omega (arith, same, zero, some)))
 
-short_still : (lists : List (List Entry)) (lock : ℕ) (e : Entry) → AsksVolume lock e → IsShort lists → IsShort (add lists lock e)
+short_still : (lists : List (List Entry)) (lock : ℕ) (e : Entry) → IsBankOrForget lock e → IsShort lists → IsShort (add lists lock e)
 short_still lists lock e asks short = record {
   ids = subst (λ (es : List Entry). length (given (events_in es)) < 2900000) (sym (else_where lists lock e asks proc_lock (omega arith) (omega arith))) short.ids;
   multis = subst (λ (es : List Entry). length (made (multis_in es)) < 2900000) (sym (else_where lists lock e asks multi_lock (omega arith) (omega arith))) short.multis;
@@ -58,7 +58,7 @@ no_record e (kinds.Request changes) is forgets = absurd forgets
 no_record e kinds.Look is forgets = absurd forgets
 
 -- and the log is the same
-follows_still : (start : Start) (lists : List (List Entry)) (lock : ℕ) (e : Entry) (kept : KeptLog) → lock < length lists → AsksVolume lock e → LogFollows start lists kept → LogFollows start (add lists lock e) kept
+follows_still : (start : Start) (lists : List (List Entry)) (lock : ℕ) (e : Entry) (kept : KeptLog) → lock < length lists → IsBankOrForget lock e → LogFollows start lists kept → LogFollows start (add lists lock e) kept
 follows_still start lists lock e kept there (inl bank) follows =
     subst (λ (es : List Entry). LogOf start es kept) (sym (at_else lists lock log_lock e (apart log_lock lock (let far = past_others lock bank in omega (arith, far))))) follows
 follows_still start lists lock e kept there (inr log) follows =

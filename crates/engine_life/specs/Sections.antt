@@ -37,12 +37,12 @@ IsForget _ = ⊥
 
 -- The section asks a bank's volume, or forgets the log. A flush of the log does more: while it runs, the log's images are
 -- those of the list before it.
-abbrev pub AsksVolume : ℕ → Entry → Type 0
-AsksVolume lock e = IsBankLock lock ⊎ ((lock ≡ log_lock) × IsForget e.kind)
+abbrev pub IsBankOrForget : ℕ → Entry → Type 0
+IsBankOrForget lock e = IsBankLock lock ⊎ ((lock ≡ log_lock) × IsForget e.kind)
 
 -- A session is inside this lock. It has seen so much, and may add this entry to any lists that go on from there.
 pub record IsInside (start : Start) (lists seen : List (List Entry)) (lock : ℕ) (e : Entry) : Type 0 where
-  pub asks : AsksVolume lock e
+  pub asks : IsBankOrForget lock e
   pub there : lock < length lists
   pub knows : Knows session_of (session_of e) seen lists
   pub whole : at seen lock ≡ at lists lock

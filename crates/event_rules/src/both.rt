@@ -16,7 +16,7 @@ pub fn stands(table: &LineTable, by: By) -> bool
     requires { table.now ≡ lines_from 0 j.steps }
     ensures { IsTrue result ↔ StandsAt j by }
 {
-    table.number(by) < table.lines().len() as u64
+    table.number(by) < table.count()
 }
 
 /// Whether no event before the one at this place is of a later step.
@@ -31,7 +31,7 @@ pub fn is_in_time<E: Owned>(
     requires within { place < length events.now }
     ensures { (steps : List Step) → table.now ≡ lines_from 0 steps → IsTrue result ↔ IsNotLate steps (map E.by (take place events.now)) by }
 {
-    match table.lines().get(table.number(by) as usize) {
+    match table.line(table.number(by)) {
         Some(line) => own.latest_at(place) <= line.step,
         None => true,
     }

@@ -1,2 +1,3 @@
 pub mod LogSections
 pub mod MultiRecords
+pub mod Rooms

@@ -1,5 +1,5 @@
 //! The commit record is appended.
-ghost use Rattle.std.specs.Prelude.{◌≡◌, ℕ, ◌+◌, ◌*◌, ◌++◌, ◌∷◌, [], None};
+ghost use Rattle.std.specs.Prelude.{◌≡◌, ℕ, ◌+◌, ◌*◌, ◌++◌, ◌∷◌, [], None, IfErr};
 ghost use Rattle.hall.specs.declared.view.Stage.TheVariants.{Inside};
 ghost use Rattle.hall.specs.Calls.{view, IsOf, start_of};
 ghost use Rattle.notes.specs.Lists.{at};
@@ -14,6 +14,7 @@ ghost use Rattle.engine_parts.specs.Sessions.{IsAt, IsReady, MayCall, by_at};
 ghost use Rattle.engine_parts.specs.Stages.{AreUnasked};
 ghost use Rattle.engine_parts.specs.Steps.{WentOn};
 ghost use Rattle.log_sections.specs.LogSections.{AppendSection, Appends, IsCommitOf};
+ghost use Rattle.log_sections.specs.Rooms.{MetFull};
 
 use crate::refusals::refusal_of;
 use disk_core::{LogDisk, PageDisk};
@@ -99,6 +100,8 @@ pub fn append_commit<R: Passing, L: LogDisk, P: PageDisk>(
         (view caller.new.pass) result }
     ensures appends { Appends (start_of hall.now) (view caller.new.pass).seen rec.now caller.old.session
         caller.new.session result }
+    ensures full { IfErr result (MetFull L.LogDisk (start_of hall.now) (view caller.new.pass).seen
+        (by_at caller.old.number caller.old.session.levels.commands) (λ z. z ≡ rec.now)) }
     ensures number { caller.new.number ≡ caller.old.number }
 {
     let mut held = enter_log(rt, hall, caller);

@@ -1,5 +1,5 @@
 //! The record of a multixact is appended.
-ghost use Rattle.std.specs.Prelude.{◌≡◌, ℕ, ◌+◌, ◌*◌, ◌++◌, ◌∷◌, []};
+ghost use Rattle.std.specs.Prelude.{◌≡◌, ℕ, ◌+◌, ◌*◌, ◌++◌, ◌∷◌, [], IfErr};
 ghost use Rattle.hall.specs.declared.view.Stage.TheVariants.{Inside};
 ghost use Rattle.hall.specs.Calls.{view, IsOf, start_of};
 ghost use Rattle.notes.specs.Lists.{at};
@@ -13,6 +13,7 @@ ghost use Rattle.engine_parts.specs.Sessions.{IsAt, IsReady, MayCall, by_at};
 ghost use Rattle.engine_parts.specs.Steps.{WentOn};
 ghost use Rattle.log_sections.specs.LogSections.{AppendSection};
 ghost use Rattle.log_sections.specs.MultiRecords.{IsMakingRecord, TakesMulti, making_logged, session_logged};
+ghost use Rattle.log_sections.specs.Rooms.{MetFull};
 
 use crate::appending::Appended;
 use crate::refusals::refusal_of;
@@ -91,6 +92,8 @@ pub fn append_multi<R: Passing, L: LogDisk, P: PageDisk>(
     ensures went { WentOn caller.old.number [] (view caller.old.pass).seen (view caller.new.pass).seen }
     ensures takes { TakesMulti (start_of hall.now) (view caller.new.pass).seen rec.now caller.old.session
         caller.new.session result }
+    ensures full { IfErr result (MetFull L.LogDisk (start_of hall.now) (view caller.new.pass).seen
+        (by_at caller.old.number caller.old.session.levels.commands) (λ z. z ≡ rec.now)) }
     ensures number { caller.new.number ≡ caller.old.number }
 {
     let mut held = enter_log(rt, hall, caller);

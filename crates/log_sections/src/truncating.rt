@@ -12,6 +12,7 @@ ghost use Rattle.engine_parts.specs.Parts.{IsLogOf};
 ghost use Rattle.engine_parts.specs.Sessions.{IsAt, IsReady, MayCall, by_at};
 ghost use Rattle.engine_parts.specs.Steps.{WentOn};
 ghost use Rattle.log_sections.specs.LogSections.{IsAppendRefused, IsTruncationOf, StandsUnder, TruncationSection};
+ghost use Rattle.log_sections.specs.Rooms.{MetFull};
 
 use crate::forms::tell_forms;
 use crate::refusals::refusal_of;
@@ -76,6 +77,8 @@ pub fn append_truncation<R: Passing, L: LogDisk, P: PageDisk>(
     ensures stands { IfOk result (StandsUnder (start_of hall.now) (view caller.new.pass).seen
         (by_at caller.old.number caller.old.session.levels.commands) rec.now) }
     ensures refused { IfErr result (IsAppendRefused (start_of hall.now) (view caller.new.pass).seen) }
+    ensures full { IfErr result (MetFull L.LogDisk (start_of hall.now) (view caller.new.pass).seen
+        (by_at caller.old.number caller.old.session.levels.commands) (λ z. z ≡ rec.now)) }
     ensures own { IsOf hall.now caller.new.pass }
     ensures may { MayCall (start_of hall.now) (view caller.new.pass) caller.new.number caller.new.session }
     ensures went { WentOn caller.old.number [] (view caller.old.pass).seen (view caller.new.pass).seen }

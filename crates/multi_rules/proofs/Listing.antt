@@ -1,8 +1,8 @@
 -- The snapshots at a command's places.
-use Rattle.std.proofs.Common.{◌≡◌, ℕ, suc, zero, ◌+◌, ◌<◌, ◌≤◌, ◌↔◌, List, [], ◌∷◌, ◌++◌, Option, Some, None, Bool, true, false, cond, ◌==◌, length, get_or, map, take, inl, inr, refl, ap, sym, subst, ◌∙◌, arith, ⊎_elim}
+use Rattle.std.proofs.Common.{◌≡◌, ℕ, suc, zero, ◌+◌, ◌-◌, ◌<◌, ◌≤◌, ◌↔◌, List, [], ◌∷◌, ◌++◌, Option, Some, None, Bool, true, false, cond, ◌==◌, length, get_or, map, take, inl, inr, refl, ap, sym, subst, ◌∙◌, arith, ⊎_elim}
 use Rattle.std.specs.Global.{Vec}
 use Rattle.std.specs.List.{AllByRecursion, Contains, HoldsAt, cons_option, filter_map, slice_get}
-use Rattle.std.specs.Option.{option_map}
+use Rattle.std.specs.Option.{is_some, option_map}
 use Rattle.std.proofs.Math.ListN.{get_or-append}
 use Rattle.std.proofs.Math.Seq.{get_or-append_seam}
 use Rattle.std.proofs.lemmas.Bool.{cases_lt}
@@ -22,7 +22,7 @@ use Rattle.history_places.specs.SnapMarks.{AreSnapMarks, IsMarkOf, IsSnapMark}
 use Rattle.place_columns.specs.Lined.{places_from, places_of}
 use Rattle.report_law.specs.Kinds.{IsSnapAt}
 use Rattle.multi_rules.specs.declared.taken.Taken.{Taken}
-use Rattle.multi_rules.specs.Snapped.{AreTaken, taken_at, taken_here}
+use Rattle.multi_rules.specs.Snapped.{AreNoneTaken, AreTaken, taken_at, taken_here, taken_in}
 
 -- ---- one place more
 
@@ -33,6 +33,10 @@ taken_more snaps places n l =
 pub none_here : (o : Option Taken) → ((t : Taken) → o ≡ Some t → ⊥) → cons_option o [] ≡ []
 none_here None never = refl
 none_here (Some t) never = absurd (never t refl)
+
+pub no_one : (o : Option Taken) → false ≡ is_some o → cons_option o [] ≡ []
+no_one None e = refl
+no_one (Some t) e = absurd cc
 
 -- ---- what stands at a place
 
@@ -203,4 +207,39 @@ listed_more snaps numbers lists n v size before is k l d = ⊎_elim
     let at : k ≡ length lists = omega arith in
     let here : n ≡ k = omega arith in
     ap (λ (j : ℕ). (get_or (lists ++ v ∷ []) j d).items) at ∙ ap (λ (w : Vec Taken). w.items) (get_or-append_seam lists v [] d) ∙ is ∙ ap (λ (j : ℕ). filter_map (taken_at snaps) (places_of j numbers)) here)
+    (cases_lt k n)
+
+pub in_lists : (lists : List (Vec Taken)) (i : ℕ) (v : Vec Taken) → i < length lists → v ≡ get_or lists i v → v.items ≡ taken_in lists i
+in_lists [] i v l is = absurd (omega arith)
+in_lists (x ∷ lists) zero v l is = ap (λ (w : Vec Taken). w.items) is
+in_lists (x ∷ lists) (suc i) v l is = in_lists lists i v (omega arith) is
+
+pub past_lists : (lists : List (Vec Taken)) (i : ℕ) → length lists ≤ i → [] ≡ taken_in lists i
+past_lists [] i l = refl
+past_lists (x ∷ lists) zero l = absurd (omega arith)
+past_lists (x ∷ lists) (suc i) l = past_lists lists i (omega arith)
+
+listed_in : (snaps : List (Option SnapMark)) (numbers : List ℕ) (lists : List (Vec Taken)) (n i : ℕ) → length lists ≡ n → AreListed snaps numbers lists n → i < n → taken_in lists i ≡ filter_map (taken_at snaps) (places_of i numbers)
+listed_in snaps numbers lists n i size listed l =
+    let v = some_at lists i (omega arith) in
+    let same : get_or lists i v.0 ≡ v.0 = got lists i v.0 v.1 in
+    sym (in_lists lists i v.0 (omega arith) (sym same)) ∙ ap (λ (w : Vec Taken). w.items) (sym same) ∙ listed i l v.0
+  where
+    got : (xs : List (Vec Taken)) (i : ℕ) (x : Vec Taken) → slice_get xs i ≡ Some x → get_or xs i x ≡ x
+    got [] i x e = absurd cc
+    got (y ∷ xs) zero x e = let same : y ≡ x = cc in same
+    got (y ∷ xs) (suc i) x e = got xs i x e
+
+-- also past the last line that took one
+pub all_listed : (snaps : List (Option SnapMark)) (numbers : List ℕ) (lists : List (Vec Taken)) (n count i : ℕ) → length lists ≡ n → AreListed snaps numbers lists n → AreNoneTaken snaps numbers n count → i < count
+    → taken_in lists i ≡ filter_map (taken_at snaps) (places_of i numbers)
+all_listed snaps numbers lists n count i size listed none l = ⊎_elim
+    (λ (u : i < n). listed_in snaps numbers lists n i size listed u)
+    (λ (u : n ≤ i). sym (past_lists lists i (omega arith)) ∙ sym (none i u l))
+    (cases_lt i n)
+
+pub none_more : (snaps : List (Option SnapMark)) (numbers : List ℕ) (n count : ℕ) → 0 < n → filter_map (taken_at snaps) (places_of (n - 1) numbers) ≡ [] → AreNoneTaken snaps numbers n count → AreNoneTaken snaps numbers (n - 1) count
+none_more snaps numbers n count some here none k l m = ⊎_elim
+    (λ (u : k < n). let same : n - 1 ≡ k = omega arith in subst (λ i. filter_map (taken_at snaps) (places_of i numbers) ≡ []) same here)
+    (λ (u : n ≤ k). none k u m)
     (cases_lt k n)

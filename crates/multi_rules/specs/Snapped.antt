@@ -1,7 +1,8 @@
 -- The snapshots that a command took, in order.
-use Rattle.std.specs.Prelude.{◌≡◌, ℕ, ◌+◌, ◌^◌, ◌<◌, ◌≤◌, ◌↔◌, nat_le, Bool, List, Option, Some, None, length, slice_get, take}
+use Rattle.std.specs.Prelude.{◌≡◌, ℕ, zero, suc, ◌+◌, ◌^◌, ◌<◌, ◌≤◌, ◌↔◌, nat_le, Bool, List, [], ◌∷◌, Option, Some, None, length, slice_get, take}
 use Rattle.std.specs.Global.{Vec}
-use Rattle.std.specs.List.{HoldsAt}
+use Rattle.std.specs.List.{filter_map}
+use Rattle.place_columns.specs.Lined.{places_of}
 use Rattle.tx_events.specs.declared.event.By.{By}
 use Rattle.tx_events.specs.declared.event.Event.{Event}
 use Rattle.tx_events.specs.declared.snapshot.SnapData.{SnapData}
@@ -17,10 +18,15 @@ pub record AreTaken (first : ℕ) (h : List Event) (by : By) (taken : List Taken
   pub each : (i : ℕ) (t : Taken) → slice_get taken i ≡ Some t → IsSnapAt h by t.place × (t.xmax ≡ snapshot_xmax first (take t.place h))
   pub all : (p : ℕ) → IsSnapAt h by p → (i : ℕ) × (t : Taken) × (slice_get taken i ≡ Some t) × (t.place ≡ p)
 
+-- the list of this line; there is none past the end of the lists
+abbrev pub taken_in : List (Vec Taken) → ℕ → List Taken
+taken_in [] i = []
+taken_in (l ∷ lists) zero = l.items
+taken_in (l ∷ lists) (suc i) = taken_in lists i
+
 -- those of each line's command
-pub record AreTakenByLines (first : ℕ) (h : List Event) (bys : List By) (lists : List (Vec Taken)) : Type 0 where
-  pub within : (i : ℕ) (by : By) → slice_get bys i ≡ Some by → i < length lists
-  pub each : (i : ℕ) (by : By) → slice_get bys i ≡ Some by → HoldsAt (λ (l : Vec Taken). AreTaken first h by l.items) lists i
+abbrev pub AreTakenByLines : ℕ → List Event → List By → List (Vec Taken) → Type 0
+AreTakenByLines first h bys lists = (i : ℕ) (by : By) → slice_get bys i ≡ Some by → AreTaken first h by (taken_in lists i)
 
 -- a life's whole history and the front of it that is judged, its first id, and what the replies tell of snapshots
 pub record LifeEvents : Type 0 where
@@ -36,6 +42,10 @@ taken_here place mark = None
 
 abbrev pub taken_at : List (Option SnapMark) → ℕ → Option Taken
 taken_at snaps place = taken_here place (slice_get snaps place)
+
+-- at the places of none of these lines a snapshot is taken
+abbrev pub AreNoneTaken : List (Option SnapMark) → List ℕ → ℕ → ℕ → Type 0
+AreNoneTaken snaps numbers from end = (n : ℕ) → from ≤ n → n < end → filter_map (taken_at snaps) (places_of n numbers) ≡ []
 
 -- ---- which of them
 

@@ -35,6 +35,6 @@ pub use own::is_pinned_or_next;
 pub use reading::{MultiReading, multi_reading_of};
 pub use rules::{is_member_stop_at, is_multi_backward_at, is_multi_stop_at};
 pub use seen::{is_seen, is_too_old_for};
-pub use taken::{Taken, taken_by_lines};
+pub use taken::{Taken, taken_by_lines, taken_in};
 pub use verdicts::are_verdicts;
 pub use warned::is_multi_warned;

@@ -9,6 +9,8 @@ pub mod CountingLines
 pub mod LinePlaces
 pub mod LineSteps
 pub mod Making
+pub mod Parts
+pub mod Rows
 pub mod Numbering
 pub mod Placing
 pub mod Slots

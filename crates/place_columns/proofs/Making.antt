@@ -10,10 +10,13 @@ use Rattle.tx_model.specs.Rounds.{lines_in}
 use Rattle.place_columns.specs.declared.own.Own.{Own}
 use Rattle.place_columns.specs.Owned.{AreAllOwn}
 use Rattle.place_columns.specs.declared.lines.LineAt.{LineAt}
+use Rattle.place_columns.specs.declared.lines.OwnLine.{OwnLine}
 use Rattle.place_columns.specs.Lined.{AreInOrder, bys_of, line_by, lines_from, number_of, places_of}
+use Rattle.place_columns.specs.Rows.{AreOwnLines, own_line}
 use Rattle.place_columns.specs.Tables.{AreCounts, AreOwnEvents, IsLineTable}
 use Rattle.place_columns.proofs.LineSteps.{bys_are}
 use Rattle.place_columns.proofs.Numbering.{number_within}
+use Rattle.place_columns.proofs.Rows.{as_many, own_lines_are}
 use Rattle.place_columns.proofs.Slots.{slots_are, slots_from, slots_upto}
 
 -- ---- lines
@@ -24,15 +27,18 @@ whose lines steps is = ap (λ (t : List LineAt). bys_of t) is ∙ bys_are 0 step
 pub sessions_are : (lines : List LineAt) (steps : List Step) (bys : List By) (sessions : ℕ) → lines ≡ lines_from 0 steps → bys ≡ bys_of lines → All (λ b. b.session < sessions) (map line_by (flat_map lines_in steps)) → All (λ b. b.session < sessions) bys
 sessions_are lines steps bys sessions is bys_is a = subst (λ (t : List By). All (λ b. b.session < sessions) t) (sym (bys_is ∙ whose lines steps is)) a
 
-pub table_is : (lines : List LineAt) (steps : List Step) (bys : List By) (sessions : ℕ) (own : List (Vec Own)) → lines ≡ lines_from 0 steps → bys ≡ bys_of lines
-    → All (λ b. b.session < sessions) (map line_by (flat_map lines_in steps)) → AreInOrder (map line_by (flat_map lines_in steps)) → AreAllOwn bys sessions own → IsLineTable lines own
-table_is lines steps bys sessions own is bys_is a order o =
-    let here = subst (λ (t : List By). AreAllOwn t sessions own) bys_is o in
-    record {
+pub table_is : (lines table : List LineAt) (steps : List Step) (bys : List By) (sessions : ℕ) (places : List (Vec Own)) (own : List (Vec OwnLine)) → table ≡ lines → lines ≡ lines_from 0 steps → bys ≡ bys_of lines
+    → All (λ b. b.session < sessions) (map line_by (flat_map lines_in steps)) → AreInOrder (map line_by (flat_map lines_in steps)) → AreAllOwn bys sessions places
+    → map (λ (l : Vec OwnLine). map own_line l.items) own ≡ map (λ (l : Vec Own). l.items) places → IsLineTable table own
+table_is lines table steps bys sessions places own same is bys_is a order o alike =
+    let here : AreOwnLines (bys_of lines) own = subst (λ (t : List By). AreOwnLines t own) bys_is (own_lines_are bys sessions places own o alike) in
+    let size : sessions ≡ length own = sym (as_many own places alike ∙ o.size) in
+    subst (λ (t : List LineAt). IsLineTable t own) (sym same)
+    (record {
       order = subst AreInOrder (sym (whose lines steps is)) order;
-      within = subst (λ n. All (λ b. b.session < n) (bys_of lines)) (sym o.size) (subst (λ (t : List By). All (λ b. b.session < sessions) t) (sym (whose lines steps is)) a);
-      listed = subst (λ n. AreAllOwn (bys_of lines) n own) (sym o.size) here;
-    }
+      within = subst (λ n. All (λ b. b.session < n) (bys_of lines)) size (subst (λ (t : List By). All (λ b. b.session < sessions) t) (sym (whose lines steps is)) a);
+      listed = here;
+    })
 
 -- ---- events
 

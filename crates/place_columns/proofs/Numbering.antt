@@ -10,6 +10,7 @@ use Rattle.place_columns.specs.declared.own.Own.{Own}
 use Rattle.place_columns.specs.Owned.{own_of}
 use Rattle.place_columns.proofs.Entries.{IsOwn, commands_rise, of_each, sound}
 use Rattle.place_columns.specs.declared.lines.LineAt.{LineAt}
+use Rattle.place_columns.specs.declared.lines.OwnLine.{OwnLine}
 use Rattle.place_columns.specs.Lined.{AreInOrder, bys_of, number_of}
 use Rattle.place_columns.specs.Tables.{IsLineTable}
 
@@ -186,7 +187,7 @@ none_at bys b xs at is order below past other = each_of (λ (o : Own). o.command
         (λ i j d l m. commands_rise b.session bys i j d (rises bys order) l m)
 
 -- no line's session is that far
-pub number_beyond : (lines : List LineAt) (own : List (Vec Own)) (b : By) → IsLineTable lines own → length own ≤ b.session → length lines ≡ number_of lines b
+pub number_beyond : (lines : List LineAt) (own : List (Vec OwnLine)) (b : By) → IsLineTable lines own → length own ≤ b.session → length lines ≡ number_of lines b
 number_beyond lines own b t far = sym (number_none lines b (λ i e. beyond (bys_of lines) i t.within e))
   where
     beyond : (bys : List By) (i : ℕ) → All (λ (b : By). b.session < length own) bys → slice_get bys i ≡ Some b → ⊥

@@ -3,15 +3,15 @@ use Rattle.std.specs.Prelude.{◌≡◌, ℕ, ◌+◌, ◌<◌, ◌≤◌, ◌==
 use Rattle.std.specs.Global.{Vec}
 use Rattle.std.specs.List.{All, count_by}
 use Rattle.place_columns.specs.Columns.{IsColumn}
-use Rattle.place_columns.specs.declared.own.Own.{Own}
-use Rattle.place_columns.specs.Owned.{AreAllOwn}
 use Rattle.place_columns.specs.declared.lines.LineAt.{LineAt}
+use Rattle.place_columns.specs.declared.lines.OwnLine.{OwnLine}
 use Rattle.place_columns.specs.Lined.{AreInOrder, bys_of, most_of, step_at}
+use Rattle.place_columns.specs.Rows.{AreOwnLines}
 
-pub record IsLineTable (lines : List LineAt) (own : List (Vec Own)) : Type 0 where
+pub record IsLineTable (lines : List LineAt) (own : List (Vec OwnLine)) : Type 0 where
   pub order : AreInOrder (bys_of lines)
   pub within : All (λ b. b.session < length own) (bys_of lines)
-  pub listed : AreAllOwn (bys_of lines) (length own) own
+  pub listed : AreOwnLines (bys_of lines) own
 
 -- how often each of these numbers stands
 abbrev pub AreTotals : List ℕ → List ℕ → Type 0

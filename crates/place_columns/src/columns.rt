@@ -2,12 +2,11 @@
 ghost use Rattle.std.specs.Prelude.{◌≡◌, ◌+◌, ◌^◌, ◌<◌, IfOk, length, map};
 ghost use Rattle.std.specs.List.{All};
 ghost use Rattle.place_columns.specs.Columns.{IsColumn};
-ghost use Rattle.place_columns.specs.declared.lines.LineAt.{LineAt};
 ghost use Rattle.place_columns.specs.Lined.{most_of, number_of, step_at};
 ghost use Rattle.place_columns.specs.Tables.{AreCounts, ArePlaced, AreRanks, AreTotals};
 
 use crate::column_of;
-use crate::lines::{LineAt, LineTable};
+use crate::lines::{LineTable, small};
 use std::alloc::Global;
 use tx_events::{By, Memory};
 
@@ -16,16 +15,6 @@ use tx_events::{By, Memory};
 pub struct Tally {
     pub totals: Vec<u32>,
     pub ranks: Vec<u32>,
-}
-
-/// The number in 32 bits. No report that is read has so many items.
-fn small(number: u64) -> Result<u32, Memory>
-    ensures { IfOk result (λ n. n ≡ number) }
-{
-    match u32::try_from(number) {
-        Ok(n) => Ok(n),
-        Err(_e) => Err(Memory),
-    }
 }
 
 /// The number of each command's line.
@@ -37,17 +26,6 @@ pub fn numbers_of(alloc: Global, table: &LineTable, bys: &[By]) -> Result<Vec<u3
         numbers.push(small(table.number(*by))?)?;
     }
     Ok(numbers)
-}
-
-/// The step of each line.
-pub fn steps_of(alloc: Global, lines: &[LineAt]) -> Result<Vec<u32>, Memory>
-    ensures { IfOk result (λ steps. steps.items ≡ map (λ (l : LineAt). l.step) lines.now) }
-{
-    let mut steps = Vec::with_capacity(alloc, lines.len())?;
-    for line in lines {
-        steps.push(small(line.step)?)?;
-    }
-    Ok(steps)
 }
 
 /// The step of each number's line.

@@ -3,9 +3,7 @@ ghost use Rattle.std.specs.Prelude.{◌≡◌, ◌<◌, ◌≤◌, ◌==◌, nat
 ghost use Rattle.std.specs.List.{between, count_by};
 ghost use Rattle.place_columns.specs.Lined.{most_of, numbered, places_of, step_at};
 
-use crate::columns::{
-    Tally, counts_of, numbers_of, placed, running_most, steps_at, steps_of, tally_of,
-};
+use crate::columns::{Tally, counts_of, numbers_of, placed, running_most, steps_at, tally_of};
 use crate::lines::LineTable;
 use std::alloc::Global;
 use std::marker::Model;
@@ -50,7 +48,7 @@ impl OwnEvents {
     pub fn new(alloc: Global, table: &LineTable, bys: &[By]) -> Result<OwnEvents, Memory>
         ensures { IfOk result (λ o. o ≡ numbered table.now bys.now) }
     {
-        let steps = steps_of(alloc, table.lines())?;
+        let steps = table.steps(alloc)?;
         let numbers = numbers_of(alloc, table, bys)?;
         if numbers.len() > u32::MAX as usize {
             return Err(Memory);

@@ -36,7 +36,7 @@ use Rattle.report_law.proofs.Theirs.{multis_within, theirs_within}
 use Rattle.reply_lines.specs.At.{IsAsking, IsLineOfSnap, IsSnapAsked, IsSpot, SnapSpot, Spot, base_of, history_of, lines_at, multi_round_of, multis_of_life, round_of, rounds_at}
 use Rattle.event_rules.specs.SnapsTold.{told_by}
 use Rattle.place_rules.specs.Runs.{AreItsPlaces, AreReadPlaces}
-use Rattle.multi_rules.specs.Snapped.{AreTaken}
+use Rattle.multi_rules.specs.Snapped.{AreTaken, taken_in}
 use Rattle.multi_rules.specs.declared.taken.Taken.{Taken}
 use Rattle.reply_lines.specs.declared.known.Known.{Known}
 use Rattle.reply_lines.specs.declared.reading.Asking.{Asking}
@@ -115,11 +115,10 @@ module _ (s : Spot) (k : Known) (a : Asking) (is : IsSpot s k a) where
   read_places = λ p. reading_here.read p
 
   -- the snapshots of a line's command
-  pub taken_there : (line : ℕ) (by : By) (v : Vec Taken) (taken : List Taken) → slice_get (bys_of (lines_from 0 s.at.j.steps)) line ≡ Some by → v ≡ get_or k.taken.items line v → taken ≡ v.items → AreTaken k.places.base.next k.places.events by taken
-  taken_there line by v taken at is same =
-      let here : AreTaken (base_of s).next k.places.events by v.items = subst (λ (w : Vec Taken). AreTaken (base_of s).next k.places.events by w.items) (sym is) (asked.known.taken.each line by at v) in
-      subst (λ (t : List Taken). AreTaken k.places.base.next k.places.events by t) (sym same)
-      (subst (λ (b : Counters). AreTaken b.next k.places.events by v.items) (sym asked.known.front.base_is) here)
+  pub taken_there : (line : ℕ) (by : By) (lists : List (Vec Taken)) (taken : List Taken) → slice_get (bys_of (lines_from 0 s.at.j.steps)) line ≡ Some by → lists ≡ k.taken.items → taken ≡ taken_in lists line → AreTaken k.places.base.next k.places.events by taken
+  taken_there line by lists taken at is same =
+      subst (λ (t : List Taken). AreTaken k.places.base.next k.places.events by t) (sym (same ∙ ap (λ (ls : List (Vec Taken)). taken_in ls line) is))
+      (subst (λ (b : Counters). AreTaken b.next k.places.events by (taken_in k.taken.items line)) (sym asked.known.front.base_is) (asked.known.taken line by at))
 
   pub lift : (D : Counters → List Event → Type 0) (t : Bool) → D (base_of s) (take (length k.places.events) (history_of s)) ↔ D (base_of s) (history_of s)
       → IsTrue t ↔ D k.places.base k.places.events → IsTrue t ↔ D (base_of s) (history_of s)

@@ -8,7 +8,7 @@ ghost use Rattle.event_rules.specs.SnapsTold.{told_by};
 use crate::by_events::is_carried;
 use crate::known::{Kept, Known};
 use crate::reading::Asking;
-use multi_rules::{is_seen, is_too_old_for};
+use multi_rules::{is_seen, is_too_old_for, taken_in};
 use place_rules::{
     is_did_at, is_did_too_old, is_future_at, is_not_given, is_old_member, is_snapped, is_status_at,
 };
@@ -50,7 +50,7 @@ pub fn sees(
     is_seen(
         &known.places,
         committed,
-        known.taken[line as usize].as_slice(),
+        taken_in(known.taken.as_slice(), line),
         x,
         visible,
     )
@@ -67,7 +67,7 @@ pub fn is_older_than(known: &Known, asking: Asking, number: u64, x: Xid, oldest:
     let line = line_of(known, asking, number);
     is_too_old_for(
         &known.places,
-        known.taken[line as usize].as_slice(),
+        taken_in(known.taken.as_slice(), line),
         x,
         oldest,
         is_carried(known, asking, oldest),

@@ -12,7 +12,7 @@ use crate::reading::{Asking, multi_reading_at};
 use multi_rules::{
     MultiReading, are_verdicts, is_held_back, is_member_stop_at, is_multi_backward_at,
     is_multi_future_at, is_multi_stop_at, is_multi_too_old_at, is_multi_warned, is_not_yet,
-    is_pinned_or_next,
+    is_pinned_or_next, taken_in,
 };
 use tx_events::{By, FullMulti, MultiEvent, MultiId};
 use tx_model::{LifeReport, MemberVerdict};
@@ -178,7 +178,7 @@ pub fn has_verdicts(
         &kept.committed,
         lives,
         kept.homes.as_slice(),
-        known.taken[line as usize].as_slice(),
+        taken_in(known.taken.as_slice(), line),
         known.multis.places(asking.number),
         asking.to,
         verdicts,

@@ -25,7 +25,8 @@ use Rattle.place_columns.proofs.LineSteps.{bys_are}
 use Rattle.report_law.specs.Events.{StandsAt, rounds_before}
 use Rattle.report_law.specs.Places.{multis_of}
 use Rattle.report_law.specs.Steps.{HasFirstMultis, Judged, lines_of}
-use Rattle.report_check.proofs.Stepped.{at_table, before_step, count_few, count_rises, front_lines, next_lines}
+use Rattle.place_columns.proofs.Parts.{before_step}
+use Rattle.report_check.proofs.Stepped.{at_table, count_few, count_rises, front_lines, next_lines}
 
 number_there : (f : By → ℕ) (h : List MultiEvent) (p : ℕ) (e : MultiEvent) → slice_get h p ≡ Some e → get_or (map f (map multi_by h)) p 0 ≡ f (multi_by e)
 number_there f [] p e at = absurd cc

@@ -19,18 +19,10 @@ ghost use Rattle.reply_lines.specs.Known.{IsKnown};
 
 use command_events::{is_told_multi, reach_of};
 use event_rules::count_of_events;
-use place_columns::LineTable;
 use reply_lines::{Known, multis_at};
 use std::alloc::Global;
 use tx_events::Memory;
 use tx_model::{LifeReport, Line, Step};
-
-/// How many lines are of the steps before this one.
-fn lines_before(table: &LineTable, step: u64) -> u64
-    ensures { (steps : List Step) → table.now ≡ lines_from 0 steps → result ≡ length (flat_map lines_in (take step steps)) }
-{
-    table.lines().partition_point(|l| l.step < step) as u64
-}
 
 /// The line at this place of the step, if there is one.
 fn line_in(step: &Step, place: u64) -> Option<&Line>
@@ -97,7 +89,7 @@ fn is_told_in(
     requires step { (l : LineAt) × (slice_get (lines_from 0 j.steps) number ≡ Some l) × (l.step ≡ step) }
     ensures { IfOk result (λ b. (e : MultiEvent) → slice_get j.life.multis place ≡ Some e → (s : StandsAt j (multi_by e)) → IsTrue b ↔ IsToldMulti j place e s) }
 {
-    let first = lines_before(&known.table, step);
+    let first = known.table.lines_before(step);
     let round = match report.steps.items().get(step as usize) {
         Some(round) => round,
         None => return Ok(false),
@@ -106,7 +98,7 @@ fn is_told_in(
         Some(line) => line,
         None => return Ok(false),
     };
-    let end = lines_before(&known.table, step + 1);
+    let end = known.table.lines_before(step + 1);
     let from = count_of_events(&known.events, first);
     let to = count_of_events(&known.events, end);
     is_told_of(alloc, report, known, from, to, number, line, place)
@@ -127,7 +119,7 @@ pub fn is_told_multi_at(
     ensures { IfOk result (λ b. (e : MultiEvent) → slice_get j.life.multis place ≡ Some e → (s : StandsAt j (multi_by e)) → IsTrue b ↔ IsToldMulti j place e s) }
 {
     let number = known.multis.number_at(place);
-    match known.table.lines().get(number as usize) {
+    match known.table.line(number) {
         Some(at) => is_told_in(alloc, report, known, number, at.step, place),
         None => Ok(false),
     }

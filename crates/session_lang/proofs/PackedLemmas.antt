@@ -31,6 +31,7 @@ longer all old more n e l = let sum = ap length e ∙ length-append old more in 
 module _ (before after : Apart) (bytes : List ℕ) (pairs : List Pair) (places : List Span) (more : HasMore before after bytes pairs places) where
   item_stays : (p : PackedItem) → IsPacked before p → unpacked after p ≡ unpacked before p
   item_stays (packs.Plain session command) i = refl
+  item_stays (packs.Short session command size name number) i = refl
   item_stays (packs.Named session command size at number) i = ap (λ name. items.Run session (named_command command name number)) (part_stays after.names.items before.names.items bytes at size more.names i.1)
   item_stays (packs.Did session x) i = refl
   item_stays (packs.OfId session command id) i = refl
@@ -42,6 +43,7 @@ module _ (before after : Apart) (bytes : List ℕ) (pairs : List Pair) (places :
 
   still_packed : (p : PackedItem) → IsPacked before p → IsPacked after p
   still_packed (packs.Plain session command) i = tt
+  still_packed (packs.Short session command size name number) i = i
   still_packed (packs.Named session command size at number) i = (i.0, longer after.names.items before.names.items bytes (at + size) more.names i.1)
   still_packed (packs.Did session x) i = tt
   still_packed (packs.OfId session command id) i = i

@@ -1,5 +1,5 @@
 -- The items of a script in short, and what stands apart.
-use Rattle.std.specs.Prelude.{ℕ, ◌+◌, ◌*◌, ◌^◌, ◌<◌, ◌≤◌, List, drop, get_or, length, map, take}
+use Rattle.std.specs.Prelude.{◌≡◌, ℕ, ◌+◌, ◌*◌, ◌^◌, ◌<◌, ◌≤◌, List, drop, get_or, length, map, take}
 use Rattle.std.specs.List.{All}
 use Rattle.tx_events.specs.Ids.{IsFullMulti, IsXidNumber}
 use Rattle.tx_model.specs.declared.command.Command.{Command}
@@ -68,6 +68,8 @@ no_span = record { at = record { high = 0; low = 0 }; length = 0 }
 -- the item that is meant
 abbrev pub unpacked : Apart → PackedItem → Item
 unpacked apart (packs.Plain session command) = items.Run session (plain_command command)
+unpacked apart (packs.Short session command size name number) =
+    items.Run session (named_command command (take size name) number)
 unpacked apart (packs.Named session command size at number) =
     items.Run session (named_command command (take size (drop at apart.names.items)) number)
 unpacked apart (packs.Did session x) = items.Run session (commands.Did x)
@@ -79,8 +81,9 @@ unpacked apart packs.Checkpoint = items.Checkpoint
 unpacked apart (packs.Crash how) = items.Crash how
 unpacked apart (packs.Dump kind page at) = dump_item (dump_of kind page) (get_or apart.spans.items at no_span)
 
--- what stands apart is there, and an id is one
+-- a name has its bytes, what stands apart is there, and an id is one
 abbrev pub IsPacked : Apart → PackedItem → Type 0
+IsPacked apart (packs.Short session command size name number) = (size ≤ 4) × (length name ≡ 4)
 IsPacked apart (packs.Named session command size at number) = (size ≤ 16) × (at + size ≤ length apart.names.items)
 IsPacked apart (packs.OfId session command id) = IsIdOf command (whole id)
 IsPacked apart (packs.Multi session at count) = at + count ≤ length apart.members.items

@@ -18,8 +18,8 @@ use std::alloc::Global;
 use std::marker::Model;
 use tx_model::{Command, DumpOf, How, Memory, Name, PairList};
 
-/// The items of a script, in order: twelve bytes for each, the bytes of its name, eight for each of its members, and
-/// twelve more for a dump. That is at most twice the text of any line. A contract sees the list of them.
+/// The items of a script, in order: twelve bytes for each, the bytes of a name of more than four, eight for each of its
+/// members, and twelve more for a dump. That is at most twice the text of any line. A contract sees the list of them.
 #[derive(Drop)]
 pub struct ItemList {
     packed: Vec<PackedItem>,
@@ -113,6 +113,30 @@ impl ItemList {
         Ok(())
     }
 
+    /// Adds a command that names a snapshot by at most four bytes.
+    fn push_short(
+        &mut self,
+        session: u8,
+        command: NamedCommand,
+        name: &[u8],
+        number: u32,
+    ) -> Result<(), Memory>
+        requires { length name.now ≤ 4 }
+        ensures { OnOk result (self.new
+            ≡ self.old ++ items.Run session (named_command command name.now number) ∷ []) }
+    {
+        let mut bytes = [0; 4];
+        bytes[..name.len()].copy_from_slice(name);
+        self.packed.push(PackedItem::Short {
+            session,
+            command,
+            length: name.len() as u8,
+            name: bytes,
+            number,
+        })?;
+        Ok(())
+    }
+
     /// Adds a command that names a snapshot.
     fn push_named(
         &mut self,
@@ -126,6 +150,9 @@ impl ItemList {
             ≡ self.old ++ items.Run session (named_command command name.now number) ∷ []) }
     {
         let bytes = name.items();
+        if bytes.len() <= 4 {
+            return self.push_short(session, command, bytes, number);
+        }
         let at = place_of(self.apart.names.len())?;
         self.apart.names.extend_from_slice(bytes)?;
         self.packed.push(PackedItem::Named {

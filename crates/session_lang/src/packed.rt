@@ -73,7 +73,15 @@ pub enum PackedItem {
         session: u8,
         command: PlainCommand,
     },
-    /// `length` bytes are the name. `number` is 0 where the command has none.
+    /// A name of up to four bytes stands in the item. `number` is 0 where the command has none.
+    Short {
+        session: u8,
+        command: NamedCommand,
+        length: u8,
+        name: [u8; 4],
+        number: u32,
+    },
+    /// A longer name, of `length` bytes.
     Named {
         session: u8,
         command: NamedCommand,
@@ -115,7 +123,7 @@ const _: () = prove!(size_of::<Pair>() == 8);
 
 const _: () = prove!(size_of::<Span>() == 12);
 
-/// What items in short have no room for: the bytes of names, the members of multixacts, and the spans of dumps, each kind
+/// What items in short have no room for: the bytes of longer names, the members of multixacts, and the spans of dumps, each kind
 /// in the order of the items.
 #[derive(Drop)]
 pub struct Apart {
@@ -254,6 +262,7 @@ pub fn packed_session(packed: &PackedItem) -> Option<u32>
 {
     match packed {
         PackedItem::Plain { session, .. }
+        | PackedItem::Short { session, .. }
         | PackedItem::Named { session, .. }
         | PackedItem::Did { session, .. }
         | PackedItem::OfId { session, .. }
@@ -302,6 +311,19 @@ pub fn unpack(apart: &Apart, packed: &PackedItem) -> Result<Item, Memory>
             session: u32::from(session),
             command: plain_command(command),
         },
+        PackedItem::Short {
+            session,
+            command,
+            length,
+            name,
+            number,
+        } => {
+            let name = Name::of(&name[..length as usize]);
+            Item::Run {
+                session: u32::from(session),
+                command: named_command(command, name, number),
+            }
+        }
         PackedItem::Named {
             session,
             command,

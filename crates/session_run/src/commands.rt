@@ -88,16 +88,10 @@ fn given(answer: Result<MultiGiven, Refusal>) -> Reply
     ensures { result ≡ reply_of given_reply answer }
 {
     match answer {
-        Ok(
-            MultiGiven {
-                multi,
-                offset,
-                warn,
-            },
-        ) => Reply::Multi {
-            multi,
-            offset,
-            warn,
+        Ok(given) => Reply::Multi {
+            multi: given.multi,
+            offset: given.offset,
+            warn: given.warn,
         },
         Err(refusal) => Reply::Refused { refusal },
     }

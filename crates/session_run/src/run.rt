@@ -320,10 +320,9 @@ where
         Err(refusal) => return Err(Stopped::NoLife(refusal)),
     };
     let Script {
-        base: _,
-        banks: _,
         names,
         items: list,
+        ..
     } = script;
     let mut items = list.items();
     let mut number = 1;

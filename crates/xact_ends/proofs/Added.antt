@@ -1,5 +1,5 @@
 -- What the steps of an end add.
-use Rattle.std.proofs.Common.{◌≡◌, ℕ, ◌≤◌, ◌<◌, List, ◌∷◌, Result, Ok, Err, ⊎_elim, arith, drop, length, refl, sym, ap, subst}
+use Rattle.std.proofs.Common.{◌≡◌, ℕ, ◌≤◌, ◌<◌, List, ◌∷◌, Result, Ok, Err, ⊎_elim, arith, drop, length, refl, ap, subst}
 use Rattle.std.specs.List.{slice_index_or}
 use Rattle.tx_events.specs.declared.event.By.{By}
 use Rattle.tx_events.specs.declared.record.Rec.{Rec}

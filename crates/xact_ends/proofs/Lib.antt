@@ -9,3 +9,4 @@ pub mod RolledBack
 pub mod Undone
 pub mod Truncating
 pub mod Landing
+pub mod Rooms

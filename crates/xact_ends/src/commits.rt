@@ -1,11 +1,14 @@
 //! The call that commits.
-ghost use Rattle.std.specs.Prelude.{◌≡◌, ◌≤◌, length};
+ghost use Rattle.std.specs.Prelude.{◌≡◌, ◌≤◌, IfErr, length};
+ghost use Rattle.hall.specs.Calls.{view, start_of};
 ghost use Rattle.tx_model.specs.declared.command.Command.TheVariants as commands;
 ghost use Rattle.tx_model.specs.declared.reply.Reply.TheVariants as replies;
 ghost use Rattle.engine_parts.specs.declared.session.Stage.TheVariants as stages;
+ghost use Rattle.engine_parts.specs.Adding.{IsOfCommit};
 ghost use Rattle.engine_parts.specs.Answers.{reply_of};
 ghost use Rattle.engine_parts.specs.Calls.{MayRun, MayStep, Ran, next_command};
-ghost use Rattle.engine_parts.specs.Sessions.{stance_of};
+ghost use Rattle.engine_parts.specs.Sessions.{by_at, stance_of};
+ghost use Rattle.log_sections.specs.Rooms.{MetFull};
 
 use crate::committing::{finish, flush_and_finish, start_commit};
 use crate::idless::close_idless;
@@ -27,8 +30,11 @@ fn commit_anew<R: Passing, L: LogDisk, P: PageDisk>(
     requires step { MayStep hall.now banks caller.old }
     requires stage { caller.old.session.stage ≡ stages.Clear }
     requires levels { 1 ≤ length (stance_of caller.old.session).levels }
-    ensures { Ran hall.now caller.old.session.levels.commands commands.Commit (reply_of (λ _. replies.Done) result)
+    ensures ran { Ran hall.now caller.old.session.levels.commands commands.Commit (reply_of (λ _. replies.Done) result)
         caller.old caller.new }
+    ensures full { IfErr result (MetFull L.LogDisk (start_of hall.now) (view caller.new.pass).seen
+        (by_at caller.old.number caller.old.session.levels.commands)
+        (IsOfCommit caller.old.session.levels.open_ids.items)) }
 {
     if caller.session.levels.open_ids.is_empty() {
         close_idless(caller);
@@ -54,8 +60,11 @@ pub fn commit<R: Passing, L: LogDisk, P: PageDisk>(
     alloc: Global,
 ) -> Result<(), Refusal>
     requires { MayRun hall.now banks caller.old }
-    ensures { Ran hall.now (next_command caller.old) commands.Commit (reply_of (λ _. replies.Done) result)
+    ensures ran { Ran hall.now (next_command caller.old) commands.Commit (reply_of (λ _. replies.Done) result)
         caller.old caller.new }
+    ensures full { IfErr result (MetFull L.LogDisk (start_of hall.now) (view caller.new.pass).seen
+        (by_at caller.old.number (next_command caller.old))
+        (IsOfCommit caller.old.session.levels.open_ids.items)) }
 {
     count(caller);
     if depth(&caller.session.levels) == 0 {

@@ -7,6 +7,7 @@ ghost use Rattle.engine_parts.specs.Sessions.{MayCall, by_at};
 ghost use Rattle.engine_parts.specs.Stages.{may_be_aborted, may_be_recorded};
 ghost use Rattle.engine_parts.specs.Steps.{WentOn};
 ghost use Rattle.log_sections.specs.LogSections.{Appends, IsAbortOf, IsAppendRefused, IsCommitOf, TakesAbort};
+ghost use Rattle.log_sections.specs.Rooms.{MetFull};
 ghost use Rattle.log_takes.specs.Takes.{IsOldestTold};
 ghost use Rattle.xact_ends.specs.Logged.{IsNumbered};
 
@@ -36,6 +37,8 @@ fn log_truncation<R: Passing, L: LogDisk, P: PageDisk>(
         (view caller.new.pass).seen) }
     ensures refused { IfErr result (IsAppendRefused (start_of hall.now) (view caller.new.pass).seen) }
     ensures same { (caller.new.session ≡ caller.old.session) × (caller.new.number ≡ caller.old.number) }
+    ensures full { IfErr result (MetFull L.LogDisk (start_of hall.now) (view caller.new.pass).seen
+        (by_at caller.old.number caller.old.session.levels.commands) IsTruncation) }
 {
     let rec = read_truncation(rt, hall, caller);
     append_truncation(rt, hall, caller, &rec)
@@ -64,6 +67,9 @@ fn log_commit_behind<R: Passing, L: LogDisk, P: PageDisk>(
         caller.new.session result }
     ensures numbered { IsNumbered result }
     ensures number { caller.new.number ≡ caller.old.number }
+    ensures full { IfErr result (MetFull L.LogDisk (start_of hall.now) (view caller.new.pass).seen
+        (by_at caller.old.number caller.old.session.levels.commands)
+        (IsOfCommit caller.old.session.levels.open_ids.items)) }
 {
     match log_truncation(rt, hall, caller) {
         Ok(_) => append_commit(rt, hall, caller, rec),
@@ -98,6 +104,9 @@ pub(crate) fn log_commit_record<R: Passing, L: LogDisk, P: PageDisk>(
         caller.new.session result }
     ensures numbered { IsNumbered result }
     ensures number { caller.new.number ≡ caller.old.number }
+    ensures full { IfErr result (MetFull L.LogDisk (start_of hall.now) (view caller.new.pass).seen
+        (by_at caller.old.number caller.old.session.levels.commands)
+        (IsOfCommit caller.old.session.levels.open_ids.items)) }
 {
     match append_commit(rt, hall, caller, rec) {
         Ok(appended) => match appended {

@@ -1,16 +1,14 @@
 -- In a life of few ids a trim cuts at the pages of the numbers that it names, or near them.
-use Rattle.std.proofs.Common.{List, [], arith, drop, length, map, subst, sym, take, take-append-drop, ℕ, ⊎_elim, ◌+◌, ◌*◌, ◌/◌, ◌%◌, ◌^◌, ◌<◌, ◌≡◌, ◌≤◌, ◌⊎◌}
+use Rattle.std.proofs.Common.{List, arith, drop, length, map, subst, sym, take, take-append-drop, ℕ, ⊎_elim, ◌+◌, ◌%◌, ◌^◌, ◌<◌, ◌≡◌, ◌≤◌, ◌⊎◌}
 use Rattle.store_pages.specs.Layouts.{subtrans_cut_page, xact_cut_page}
 use Rattle.tx_events.specs.Base.{IsBase}
 use Rattle.tx_events.specs.Events.{given}
 use Rattle.tx_events.specs.Ids.{id_before}
 use Rattle.tx_events.specs.declared.event.By.{By}
 use Rattle.tx_events.specs.declared.event.Event.{Event}
-use Rattle.tx_events.specs.declared.record.Counters.{Counters}
 use Rattle.tx_events.specs.declared.record.Rec.TheVariants as records
 use Rattle.tx_events.specs.History.{IsLegal, next_given}
-use Rattle.tx_events.specs.Horizon.{LiveSnap, live_snaps, oldest_id, oldest_xmin}
-use Rattle.tx_events.specs.Limits.{stop_limit}
+use Rattle.tx_events.specs.Horizon.{LiveSnap, live_snaps, oldest_xmin}
 use Rattle.tx_events.specs.Running.{running_tops}
 use Rattle.tx_events.specs.Snapshots.{snapshot_xmax, snapshot_xmin}
 use Rattle.tx_events.proofs.Extremes.{fold_min_start}

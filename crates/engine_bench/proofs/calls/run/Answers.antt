@@ -30,7 +30,7 @@ returns-in-Undo g c =
 pub returns-in-Commit : goal.returns-in-Commit
 returns-in-Commit g c =
     let few = c.if-caller-ge-MOST_COMMANDS.false in
-    ran_one c.args.hall.now c.args.banks _ _ c.is_ok-in-Commit.result c.args.caller.now c.commit.new.caller c.requires (omega (arith, few)) c.commit.ensures
+    ran_one c.args.hall.now c.args.banks _ _ c.is_ok-in-Commit.result c.args.caller.now c.commit.new.caller c.requires (omega (arith, few)) c.commit.ensures.ran
 
 pub returns-in-Snap : goal.returns-in-Snap
 returns-in-Snap g c =

@@ -19,6 +19,7 @@ use Rattle.engine_parts.proofs.Leaving.{call_left}
 use Rattle.engine_parts.proofs.Logging.{appends, begins_untouched, failed_more, first_same, goes_on, log_looks, unflushed, up_more}
 use Rattle.engine_parts.proofs.Sectioning.{same_command, section_of}
 use Rattle.engine_parts.proofs.Stepping.{went_quiet}
+use Rattle.log_sections.proofs.Rooms.{found_full}
 use Rattle.log_sections.proofs.Sections.{append_refused, base_of_log, down_left, log_refused, may_follow, not_down, same_err, up_left}
 use Rattle.tx_core.specs.FaultsRise.{count_in, faults_at, faults_told}
 use Rattle.tx_core.proofs.LastNumbers.{number_same}
@@ -177,3 +178,17 @@ leave_recorded-requires-clause-up g c = (subst (λ l. IsLogOf (start_of c.args.h
 
 pub leave_recorded-requires-clause-record : goal.leave_recorded-requires-clause-record
 leave_recorded-requires-clause-record g c = subst (λ (z : Session). IsMakingRecord z.making c.args.rec.now) (sym c.enter_log-held.ensures.same.0) c.requires.record
+
+-- the log was full
+pub returns-in-Err-clause-full : goal.returns-in-Err-clause-full
+returns-in-Err-clause-full g c =
+    let start = start_of c.args.hall.now in
+    let e = c.enter_log-held.ensures in
+    let u = c.enter_log-held.new.caller in
+    let s = c.args.caller.now.session in
+    let n = c.args.caller.now.number in
+    let wide = c.requires.may.ready.at.wide in
+    let long = e.entered.learns.long in
+    found_full g.L.LogDisk start (view u.pass) (view c.leave_looked-in-Err.new.caller.pass) (by_at u.number u.session.levels.commands) (by_at n s.levels.commands) c.deref_mut-log.result.now c.args.rec.now c.in-Err.refusal c.refusal_of.result
+    (same_command n u.number s u.session e.same.1 e.same.0) (omega arith) c.leave_looked-in-Err.ensures.left
+    (subst (λ l. IsLogOf start l (at (view u.pass).seen log_lock)) (sym c.deref_mut-log.ensures.value) e.stands) (λ is. c.in-Err.ensures.full (ap Err is)) c.refusal_of.ensures

@@ -1,4 +1,4 @@
-use Rattle.std.proofs.Common.{arith, length}
+use Rattle.std.proofs.Common.{length}
 use Rattle.tx_model.specs.Replies.{taken_by}
 use Rattle.report_law.specs.Steps.{IsSeen}
 use Rattle.report_law.proofs.FrontsAtEvents.{seen_whole}
@@ -6,13 +6,8 @@ use Rattle.reply_lines.specs.At.{base_of, history_of}
 use Rattle.reply_lines.proofs.Spots.{asked, lift, taken_there, within_of}
 use Rattle.reply_lines.proofs.by_ids.sees.Goals as goal
 
-pub index-requires : goal.index-requires
-index-requires g c =
-    let l = (asked g.s.spot c.args.known.now c.args.asking c.requires.0).known.taken.within c.line_of-line.result (taken_by g.s.spot.asking.by g.s.number) c.line_of-line.ensures in
-    omega (arith, c.args.known.now.taken.ok.0)
-
 pub is_seen-requires : goal.is_seen-requires
-is_seen-requires g c = (c.requires.1.1.1, taken_there g.s.spot c.args.known.now c.args.asking c.requires.0 c.line_of-line.result (taken_by g.s.spot.asking.by g.s.number) c.index.result.now c.as_slice.result.now c.line_of-line.ensures c.index.ensures c.as_slice.ensures.value)
+is_seen-requires g c = (c.requires.1.1.1, taken_there g.s.spot c.args.known.now c.args.asking c.requires.0 c.line_of-line.result (taken_by g.s.spot.asking.by g.s.number) c.as_slice.result.now c.taken_in.result.now c.line_of-line.ensures c.as_slice.ensures.value c.taken_in.ensures)
 
 pub returns : goal.returns
 returns g c =

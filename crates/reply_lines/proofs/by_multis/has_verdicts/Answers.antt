@@ -1,4 +1,4 @@
-use Rattle.std.proofs.Common.{◌↔◌, List, arith, length, subst, sym, take}
+use Rattle.std.proofs.Common.{◌↔◌, List, length, subst, sym, take}
 use Rattle.std.specs.Prelude.{IsTrue}
 use Rattle.tx_events.specs.declared.multi.MultiEvent.{MultiEvent}
 use Rattle.tx_model.specs.Replies.{taken_by}
@@ -11,11 +11,6 @@ use Rattle.reply_lines.proofs.Spots.{asked, few_multis, fits, its_multis_within,
 use Rattle.report_law.proofs.FrontsOfMultis.{verdicts_whole}
 use Rattle.reply_lines.proofs.by_multis.has_verdicts.Goals as goal
 
-pub index-requires : goal.index-requires
-index-requires g c =
-    let l = (asked g.s.spot c.args.known.now c.args.asking c.requires.0).known.taken.within c.line_of-line.result (taken_by g.s.spot.asking.by g.s.number) c.line_of-line.ensures in
-    omega (arith, c.args.known.now.taken.ok.0)
-
 pub places-requires : goal.places-requires
 places-requires g c = few_multis g.s.spot c.args.known.now c.args.asking c.requires.0
 
@@ -27,7 +22,7 @@ are_verdicts-requires g c =
     let r = c.requires.0 in
     let x = asked s k a r in
     let by = taken_by s.asking.by g.s.number in
-    let taken : AreTaken k.places.base.next k.places.events by c.as_slice-2.result.now = taken_there s k a r c.line_of-line.result by c.index.result.now c.as_slice-2.result.now c.line_of-line.ensures c.index.ensures c.as_slice-2.ensures.value in
+    let taken : AreTaken k.places.base.next k.places.events by c.taken_in.result.now = taken_there s k a r c.line_of-line.result by c.as_slice-2.result.now c.taken_in.result.now c.line_of-line.ensures c.as_slice-2.ensures.value c.taken_in.ensures in
     (c.requires.1.0.committed, (subst (λ (t : List Home). AreHomes c.args.lives.now s.at.j.begun.recorded t) (sym c.as_slice.ensures.value) c.requires.1.0.homes, (taken, (multi_places_here s k a r c.places.result.now c.places.ensures, (x.to, x.within)))))
 
 pub returns : goal.returns

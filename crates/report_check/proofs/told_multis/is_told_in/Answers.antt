@@ -11,7 +11,7 @@ use Rattle.report_law.specs.Events.{StandsAt}
 use Rattle.report_law.specs.Places.{multis_of}
 use Rattle.report_law.specs.Steps.{HasFirstMultis}
 use Rattle.life_tables.proofs.Lining.{if_ok}
-use Rattle.report_check.proofs.Stepped.{front_most}
+use Rattle.place_columns.proofs.Parts.{front_most}
 use Rattle.report_check.proofs.ToldAt.{forward, its_by, no_line, no_step, number_is, told_same}
 use Rattle.report_check.proofs.told_multis.is_told_in.Goals as goal
 

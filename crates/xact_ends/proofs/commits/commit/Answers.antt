@@ -1,4 +1,4 @@
-use Rattle.std.proofs.Common.{refl, ◌≡◌, ℕ, ◌≤◌, [], ap, ◌∙◌, sym, subst, ◌==◌, None, Some, length, arith, eq-eqb, ne_eqb}
+use Rattle.std.proofs.Common.{refl, ◌≡◌, ℕ, ◌≤◌, [], List, ap, ◌∙◌, sym, subst, ◌==◌, None, Some, length, arith, eq-eqb, ne_eqb}
 use Rattle.std.proofs.lemmas.List.{nil_from_length}
 use Rattle.hall.specs.Calls.{start_of, view}
 use Rattle.tx_events.specs.declared.refusal.Refusal.TheVariants as refusals
@@ -11,6 +11,10 @@ use Rattle.engine_parts.specs.Stages.{pending_in}
 use Rattle.life_law.specs.Refused.{held_by}
 use Rattle.engine_parts.proofs.Calling.{may_counted, ran_counted, ran_held, ran_refused, step_counted}
 use Rattle.engine_parts.proofs.Refusing.{first_fails, first_holds, held_up}
+use Rattle.engine_parts.specs.Adding.{IsOfCommit}
+use Rattle.engine_parts.specs.Calls.{next_command}
+use Rattle.log_sections.proofs.Rooms.{met_then}
+use Rattle.xact_ends.proofs.Rooms.{recorded_never}
 use Rattle.xact_ends.proofs.Acts.{ran_commit, logged_leaves}
 use Rattle.xact_ends.proofs.Finishing.{logged_at, settling_at, some_logged, some_settling}
 use Rattle.engine_parts.proofs.Adding.{adds_wider}
@@ -22,8 +26,8 @@ use Rattle.xact_ends.proofs.commits.commit.Goals as goal
 pub depth-requires : goal.depth-requires
 depth-requires g c = (may_counted c.args.hall.now c.args.caller.now c.count.new.caller c.count.ensures c.requires).ready.at.stands.depth
 
-pub returns-then-depth-eq0 : goal.returns-then-depth-eq0
-returns-then-depth-eq0 g c =
+pub returns-then-depth-eq0-clause-ran : goal.returns-then-depth-eq0-clause-ran
+returns-then-depth-eq0-clause-ran g c =
     let old = c.args.caller.now in
     let s = stance_of old.session in
     let empty : length s.levels ≡ 0 = let d = c.depth.ensures in let t = c.if-depth-eq0.true in let same = ap (λ z. length (levels.levels_of z.level_ids.items z.unnamed)) c.count.ensures.levels in omega arith in
@@ -42,11 +46,11 @@ flush_and_finish-requires-clause-step g c = step_counted c.args.hall.now c.args.
 pub finish-requires-clause-step : goal.finish-requires-clause-step
 finish-requires-clause-step g c = step_counted c.args.hall.now c.args.caller.now c.count.new.caller c.count.ensures c.requires
 
-pub returns-in-Clear : goal.returns-in-Clear
-returns-in-Clear g c = ran_counted c.args.hall.now c.args.caller.now c.count.new.caller c.commit_anew.new.caller commands.Commit _ c.count.ensures c.commit_anew.ensures
+pub returns-in-Clear-clause-ran : goal.returns-in-Clear-clause-ran
+returns-in-Clear-clause-ran g c = ran_counted c.args.hall.now c.args.caller.now c.count.new.caller c.commit_anew.new.caller commands.Commit _ c.count.ensures c.commit_anew.ensures.ran
 
-pub returns-in-Logged : goal.returns-in-Logged
-returns-in-Logged g c =
+pub returns-in-Logged-clause-ran : goal.returns-in-Logged-clause-ran
+returns-in-Logged-clause-ran g c =
     let hall = c.args.hall.now in
     let old = c.args.caller.now in
     let u = c.count.new.caller in
@@ -58,8 +62,8 @@ returns-in-Logged g c =
     (ap (λ (z : Stage). held_by commands.Commit (pending_in z)) c.in-Logged.is)
     (adds_wider (by_at u.number u.session.levels.commands) _ _ (view u.pass).seen (view f.new.caller.pass).seen (logged_leaves (start_of hall) (view u.pass) u.number u.session m.ready.at f.result c.in-Logged.number c.in-Logged.is) f.ensures.adds) f.ensures.commits)
 
-pub returns-in-Settling : goal.returns-in-Settling
-returns-in-Settling g c =
+pub returns-in-Settling-clause-ran : goal.returns-in-Settling-clause-ran
+returns-in-Settling-clause-ran g c =
     let hall = c.args.hall.now in
     let old = c.args.caller.now in
     let u = c.count.new.caller in
@@ -71,8 +75,8 @@ returns-in-Settling g c =
     (ap (λ (z : Stage). held_by commands.Commit (pending_in z)) c.in-Settling.is)
     (adds_wider (by_at u.number u.session.levels.commands) _ _ (view u.pass).seen (view f.new.caller.pass).seen (fault_leaves commands.Commit (stance_of u.session) u.session.stage (open_ids u.number (history (view u.pass).seen)) f.result) f.ensures.adds) f.ensures.commits)
 
-pub returns-in-Aborting : goal.returns-in-Aborting
-returns-in-Aborting g c =
+pub returns-in-Aborting-clause-ran : goal.returns-in-Aborting-clause-ran
+returns-in-Aborting-clause-ran g c =
     let old = c.args.caller.now in
     let s = stance_of old.session in
     let stage = old.session.stage in
@@ -81,8 +85,8 @@ returns-in-Aborting g c =
     (first_fails (length s.levels == 0) refusals.NoTransaction _ (ne_eqb (length s.levels) 0 (λ e. let d = c.depth.ensures in let t = c.if-depth-eq0.false in let same = ap (λ z. length (levels.levels_of z.level_ids.items z.unnamed)) c.count.ensures.levels in omega arith))
     ∙ held_up (held_by commands.Commit (pending_in stage)) refusals.AbortPending _ (ap (λ (z : Stage). held_by commands.Commit (pending_in z)) is))
 
-pub returns-in-Undoing : goal.returns-in-Undoing
-returns-in-Undoing g c =
+pub returns-in-Undoing-clause-ran : goal.returns-in-Undoing-clause-ran
+returns-in-Undoing-clause-ran g c =
     let old = c.args.caller.now in
     let s = stance_of old.session in
     let stage = old.session.stage in
@@ -90,3 +94,39 @@ returns-in-Undoing g c =
     ran_held c.args.hall.now old c.count.new.caller commands.Commit refusals.UndoPending c.count.ensures c.requires refl (ap pending_in is)
     (first_fails (length s.levels == 0) refusals.NoTransaction _ (ne_eqb (length s.levels) 0 (λ e. let d = c.depth.ensures in let t = c.if-depth-eq0.false in let same = ap (λ z. length (levels.levels_of z.level_ids.items z.unnamed)) c.count.ensures.levels in omega arith))
     ∙ held_up (held_by commands.Commit (pending_in stage)) refusals.UndoPending _ (ap (λ (z : Stage). held_by commands.Commit (pending_in z)) is))
+
+-- the log was full
+pub returns-in-Clear-clause-full : goal.returns-in-Clear-clause-full
+returns-in-Clear-clause-full g c =
+    let old = c.args.caller.now in
+    let u = c.count.new.caller in
+    let opened = old.session.levels.open_ids.items in
+    let counted : u.session.levels.commands ≡ next_command old = ap (λ k. k.commands) c.count.ensures.levels in
+    let same : u.session.levels.open_ids.items ≡ opened = ap (λ k. k.open_ids.items) c.count.ensures.levels in
+    met_then g.L.LogDisk (start_of c.args.hall.now) (view c.commit_anew.new.caller.pass).seen (by_at u.number u.session.levels.commands) (by_at old.number (next_command old)) (IsOfCommit u.session.levels.open_ids.items) (IsOfCommit opened) c.commit_anew.result
+    (λ j. by_at (c.count.ensures.number j) (counted j)) (λ z of. subst (λ (l : List ℕ). IsOfCommit l z) same of) c.commit_anew.ensures.full
+
+pub returns-in-Logged-clause-full : goal.returns-in-Logged-clause-full
+returns-in-Logged-clause-full g c =
+    let old = c.args.caller.now in
+    let u = c.count.new.caller in
+    let x = c.flush_and_finish.new.caller in
+    recorded_never g.L.LogDisk (start_of c.args.hall.now) (by_at old.number (next_command old)) (IsOfCommit old.session.levels.open_ids.items) u.number u.session x.session (view u.pass).seen (view x.pass).seen c.flush_and_finish.result c.flush_and_finish.ensures.commits
+    (λ clear. let two : stages.Logged c.in-Logged.number ≡ stages.Clear = sym c.in-Logged.is ∙ clear in absurd cc)
+
+pub returns-in-Settling-clause-full : goal.returns-in-Settling-clause-full
+returns-in-Settling-clause-full g c =
+    let old = c.args.caller.now in
+    let u = c.count.new.caller in
+    let x = c.finish.new.caller in
+    recorded_never g.L.LogDisk (start_of c.args.hall.now) (by_at old.number (next_command old)) (IsOfCommit old.session.levels.open_ids.items) u.number u.session x.session (view u.pass).seen (view x.pass).seen c.finish.result c.finish.ensures.commits
+    (λ clear. let two : stages.Settling c.in-Settling.steps ≡ stages.Clear = sym c.in-Settling.is ∙ clear in absurd cc)
+
+pub returns-then-depth-eq0-clause-full : goal.returns-then-depth-eq0-clause-full
+returns-then-depth-eq0-clause-full g c is = let two : refusals.NoTransaction ≡ refusals.Full = is in absurd cc
+
+pub returns-in-Aborting-clause-full : goal.returns-in-Aborting-clause-full
+returns-in-Aborting-clause-full g c is = let two : refusals.AbortPending ≡ refusals.Full = is in absurd cc
+
+pub returns-in-Undoing-clause-full : goal.returns-in-Undoing-clause-full
+returns-in-Undoing-clause-full g c is = let two : refusals.UndoPending ≡ refusals.Full = is in absurd cc

@@ -10,13 +10,13 @@ use Rattle.engine_parts.specs.Stages.{pending_in}
 use Rattle.engine_parts.specs.declared.session.Stage.{Stage}
 use Rattle.xact_ends.proofs.commits.commit_anew.Goals as goal
 
-pub returns-then-is_empty : goal.returns-then-is_empty
-returns-then-is_empty g c =
+pub returns-then-is_empty-clause-ran : goal.returns-then-is_empty-clause-ran
+returns-then-is_empty-clause-ran g c =
     let none : c.args.caller.now.session.levels.open_ids.items ≡ [] = search rules in
     ran_idless c.args.hall.now ends.Commit c.args.caller.now c.close_idless.new.caller c.requires.step.own c.requires.step.may none c.requires.levels (ap (λ (z : Stage). held_by commands.Commit (pending_in z)) c.requires.stage) c.close_idless.ensures
 
-pub returns : goal.returns
-returns g c =
+pub returns-clause-ran : goal.returns-clause-ran
+returns-clause-ran g c =
     let f = c.start_commit in
     let u = c.args.caller.now in
     let some : 1 ≤ length c.args.caller.now.session.levels.open_ids.items = search rules in

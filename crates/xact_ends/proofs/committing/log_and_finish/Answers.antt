@@ -1,5 +1,6 @@
 use Rattle.std.proofs.Common.{◌≡◌, ℕ, List, Ok, ap, ◌∙◌, subst, sym}
 use Rattle.hall.specs.Calls.{view, start_of}
+use Rattle.tx_events.specs.declared.refusal.Refusal.TheVariants as refusals
 use Rattle.engine_parts.specs.declared.session.Session.{Session}
 use Rattle.engine_parts.specs.declared.session.Stage.{Stage}
 use Rattle.engine_parts.specs.declared.session.Stage.TheVariants as stages
@@ -9,6 +10,7 @@ use Rattle.log_sections.specs.declared.appending.Appended.TheVariants as came
 use Rattle.log_sections.specs.LogSections.{Appends, IsCommitOf}
 use Rattle.xact_ends.specs.Logged.{IsNumbered}
 use Rattle.xact_ends.specs.Stops.{Stops}
+use Rattle.xact_ends.proofs.Rooms.{recorded_never}
 use Rattle.xact_ends.proofs.Finishing.{append_stops, commits_then, stops_appended}
 use Rattle.engine_parts.specs.Adding.{IsOfCommit, IsToldBy, MayAdd}
 use Rattle.engine_parts.proofs.Adding.{adds_nothing, adds_wider, may_wider}
@@ -86,3 +88,19 @@ returns-in-At-clause-adds g c =
 
 pub unreachable-requires : goal.unreachable-requires
 unreachable-requires g c = subst (λ (a : Appended). IsNumbered (Ok a)) c.in-NoBase.is c.in-Ok-log_commit_record.ensures.numbered
+
+pub returns-in-Err-clause-full : goal.returns-in-Err-clause-full
+returns-in-Err-clause-full g c is = let two : refusals.Memory ≡ refusals.Full = is in absurd cc
+
+pub returns-clause-full : goal.returns-clause-full
+returns-clause-full g c = c.in-Err-log_commit_record.ensures.full
+
+pub returns-in-At-clause-full : goal.returns-in-At-clause-full
+returns-in-At-clause-full g c =
+    let start = start_of c.args.hall.now in
+    let s = c.args.caller.now.session in
+    let t = c.log_commit_record.new.caller in
+    let x = c.flush_and_finish.new.caller in
+    let appends : Appends start (view t.pass).seen c.in-Ok.rec s t.session (Ok (came.At c.in-At.number)) = subst (λ (a : Appended). Appends start (view t.pass).seen c.in-Ok.rec s t.session (Ok a)) c.in-At.is c.in-Ok-log_commit_record.ensures.appends in
+    recorded_never g.L.LogDisk start (by_at c.args.caller.now.number s.levels.commands) (IsOfCommit s.levels.open_ids.items) t.number t.session x.session (view t.pass).seen (view x.pass).seen c.flush_and_finish.result c.flush_and_finish.ensures.commits
+    (λ clear. let two : stages.Logged c.in-At.number ≡ stages.Clear = sym (ap (λ (z : Session). z.stage) appends) ∙ clear in absurd cc)

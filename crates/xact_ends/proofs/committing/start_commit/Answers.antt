@@ -1,9 +1,12 @@
-use Rattle.std.proofs.Common.{◌≡◌, ℕ, ◌≤◌, None, ap, ◌∙◌, subst, sym, refl, length, List, Err}
+use Rattle.std.proofs.Common.{◌≡◌, ℕ, ◌≤◌, None, ap, ◌∙◌, subst, sym, refl, length, List, Err, Result}
 use Rattle.hall.specs.Calls.{view, start_of}
+use Rattle.tx_events.specs.declared.refusal.Refusal.{Refusal}
 use Rattle.engine_parts.specs.declared.session.Session.{Session}
 use Rattle.engine_parts.specs.declared.session.Stage.{Stage}
 use Rattle.engine_parts.specs.declared.session.Stage.TheVariants as stages
 use Rattle.engine_parts.specs.Sessions.{by_at}
+use Rattle.bank_sections.specs.Faults.{IsSubtransFault}
+use Rattle.log_sections.proofs.Rooms.{met_never, met_then}
 use Rattle.xact_ends.specs.Stops.{Stops}
 use Rattle.xact_ends.proofs.Finishing.{commits_then, link_stops}
 use Rattle.engine_parts.specs.Adding.{IsOfCommit, IsPlain, IsToldBy, MayAdd, MayMeet}
@@ -71,3 +74,21 @@ returns-in-Err-clause-adds g c =
     let old = c.args.caller.now in
     let r = c.in-Err.refusal in
     adds_wider (by_at old.number old.session.levels.commands) (MayMeet r) _ (view old.pass).seen (view c.record_parent.new.caller.pass).seen (fault_wider (IsOfCommit old.session.levels.open_ids.items) (Unit {0}) {T = Unit {0}} (Err r)) c.in-Err.ensures.adds
+
+pub returns-in-Ok-clause-full : goal.returns-in-Ok-clause-full
+returns-in-Ok-clause-full g c =
+    let old = c.args.caller.now in
+    let t = c.record_parent.new.caller in
+    let recorded = c.in-Ok.ensures.recorded in
+    let opened = old.session.levels.open_ids.items in
+    let same : t.session.levels.open_ids.items ≡ opened = ap (λ (z : Session). z.levels.open_ids.items) recorded in
+    met_then g.L.LogDisk (start_of c.args.hall.now) (view c.log_and_finish.new.caller.pass).seen (by_at t.number t.session.levels.commands) (by_at old.number old.session.levels.commands) (IsOfCommit t.session.levels.open_ids.items) (IsOfCommit opened) c.log_and_finish.result
+    (λ j. by_at (c.record_parent.ensures.number j) (recorded j).levels.commands) (λ z of. subst (λ (l : List ℕ). IsOfCommit l z) same of) c.log_and_finish.ensures.full
+
+pub returns-in-Err-clause-full : goal.returns-in-Err-clause-full
+returns-in-Err-clause-full g c =
+    let old = c.args.caller.now in
+    let by = by_at old.number old.session.levels.commands in
+    let seen = (view c.record_parent.new.caller.pass).seen in
+    let refused : Result (Unit {0}) Refusal = Err c.in-Err.refusal in
+    met_never g.L.LogDisk (start_of c.args.hall.now) seen by (IsOfCommit old.session.levels.open_ids.items) (IsSubtransFault seen by) refused c.in-Err.ensures.recorded.1 (λ none. none)

@@ -1,5 +1,6 @@
-use Rattle.std.proofs.Common.{◌≡◌, ◌∙◌, ap, sym, subst}
+use Rattle.std.proofs.Common.{Err, Result, inl, inr, ℕ, ◌≡◌, ◌∙◌, ap, refl, sym, subst}
 use Rattle.hall.specs.Calls.{view, start_of}
+use Rattle.tx_events.specs.declared.refusal.Refusal.{Refusal}
 use Rattle.engine_parts.specs.declared.session.Session.{Session}
 use Rattle.engine_parts.specs.Adding.{IsCommitOf, IsOfCommit, IsTruncation, MayAdd}
 use Rattle.engine_parts.specs.Sessions.{by_at}
@@ -7,6 +8,7 @@ use Rattle.engine_parts.proofs.Adding.{adds_wider}
 use Rattle.engine_parts.proofs.Sectioning.{same_command}
 use Rattle.log_sections.specs.LogSections.{Appends}
 use Rattle.log_sections.proofs.Added.{append_adds}
+use Rattle.log_sections.proofs.Rooms.{met_then}
 use Rattle.xact_ends.proofs.Added.{both_add}
 use Rattle.xact_ends.proofs.Landing.{commit_lands}
 use Rattle.xact_ends.proofs.Truncating.{commit_wider, truncation_wider, went_on}
@@ -67,3 +69,20 @@ returns-in-Ok-clause-numbered g c =
     let w = c.append_commit.new.caller in
     let a = c.append_commit.ensures in
     commit_lands (start_of c.args.hall.now) (view old.pass) (view t.pass).seen (view w.pass).seen old.number old.session t.session w.session c.args.rec.now c.append_commit.result c.requires.may.ready.at c.requires.record a.may.ready.at.kept c.in-Ok.ensures.told a.went.on.grows a.appends
+
+pub returns-in-Ok-clause-full : goal.returns-in-Ok-clause-full
+returns-in-Ok-clause-full g c =
+    let old = c.args.caller.now in
+    let t = c.log_truncation.new.caller in
+    let e = c.in-Ok.ensures in
+    let rec = c.args.rec.now in
+    let opened = old.session.levels.open_ids.items in
+    met_then g.L.LogDisk (start_of c.args.hall.now) (view c.append_commit.new.caller.pass).seen (by_at t.number t.session.levels.commands) (by_at old.number old.session.levels.commands) (λ z. z ≡ rec) (IsOfCommit opened) c.append_commit.result
+    (same_command old.number t.number old.session t.session e.same.1 e.same.0) (λ z is. inl (subst (IsCommitOf opened) (sym is) c.requires.record)) c.append_commit.ensures.full
+
+pub returns-in-Err-clause-full : goal.returns-in-Err-clause-full
+returns-in-Err-clause-full g c =
+    let old = c.args.caller.now in
+    let by = by_at old.number old.session.levels.commands in
+    let refused : Result ℕ Refusal = Err c.in-Err.refusal in
+    met_then g.L.LogDisk (start_of c.args.hall.now) (view c.log_truncation.new.caller.pass).seen by by IsTruncation (IsOfCommit old.session.levels.open_ids.items) refused refl (λ z of. inr of) c.in-Err.ensures.full

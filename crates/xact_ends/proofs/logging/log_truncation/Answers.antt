@@ -7,6 +7,7 @@ use Rattle.engine_parts.proofs.Adding.{may_wider, plain_wider}
 use Rattle.engine_parts.proofs.Sectioning.{same_command}
 use Rattle.engine_parts.proofs.Unmoved.{call_read, look_adds}
 use Rattle.log_sections.proofs.Added.{truncation_adds}
+use Rattle.log_sections.proofs.Rooms.{met_then}
 use Rattle.xact_ends.proofs.Added.{both_add}
 use Rattle.xact_ends.proofs.Landing.{truncation_tells}
 use Rattle.xact_ends.proofs.Truncating.{is_truncation, truncation_found, went_on}
@@ -56,3 +57,13 @@ returns-clause-told g c =
     let e = c.read_truncation-rec.ensures in
     let wide = e.ready.at.wide in
     truncation_tells start (view old.pass).seen (view t.pass) (view w.pass) (by_at t.number t.session.levels.commands) c.read_truncation-rec.result c.append_truncation.result e.ready.at.kept e.went.on.grows (omega arith) e.record c.append_truncation.ensures.section
+
+pub returns-clause-full : goal.returns-clause-full
+returns-clause-full g c =
+    let start = start_of c.args.hall.now in
+    let old = c.args.caller.now in
+    let t = c.read_truncation-rec.new.caller in
+    let e = c.read_truncation-rec.ensures in
+    let rec : Rec = c.read_truncation-rec.result in
+    met_then g.L.LogDisk start (view c.append_truncation.new.caller.pass).seen (by_at t.number t.session.levels.commands) (by_at old.number old.session.levels.commands) (λ z. z ≡ rec) IsTruncation c.append_truncation.result
+    (same_command old.number t.number old.session t.session e.same.1 e.same.0) (λ z is. subst IsTruncation (sym is) (is_truncation start (view t.pass).seen rec e.record)) c.append_truncation.ensures.full

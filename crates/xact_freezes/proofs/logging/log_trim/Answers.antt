@@ -1,4 +1,4 @@
-use Rattle.std.proofs.Common.{ℕ, IfErr, Result, Ok, Err, [], sym, subst, ◌∙◌}
+use Rattle.std.proofs.Common.{ℕ, IfErr, Result, Ok, Err, [], sym, subst}
 use Rattle.hall.specs.Calls.{view, start_of}
 use Rattle.tx_events.specs.declared.record.Rec.{Rec}
 use Rattle.tx_events.specs.declared.refusal.Refusal.{Refusal}

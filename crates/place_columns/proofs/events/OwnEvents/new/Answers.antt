@@ -11,7 +11,7 @@ pub tally_of-requires-clause-within : goal.tally_of-requires-clause-within
 tally_of-requires-clause-within c =
     let steps = c.in_ok-steps.steps in
     let numbers = c.in_ok-numbers.numbers.items in
-    let is : steps.items ≡ map (λ (l : LineAt). l.step) c.args.table.now = c.in_ok-steps.ensures ∙ ap (λ (t : List LineAt). map (λ (l : LineAt). l.step) t) c.lines.ensures in
+    let is : steps.items ≡ map (λ (l : LineAt). l.step) c.args.table.now = c.in_ok-steps.ensures in
     let size : c.len-2.result ≡ length steps.items = omega (arith, c.len-2.ensures, steps.ok.0) in
     below_next steps.items c.as_slice.result.now c.len-2.result size
     (subst (λ (t : List ℕ). All (λ k. k ≤ length steps.items) t) (sym c.as_slice.ensures.value) (numbers_upto c.args.table.now c.args.bys.now steps.items numbers is c.in_ok-numbers.ensures))
@@ -20,7 +20,7 @@ pub placed-requires-clause-within : goal.placed-requires-clause-within
 placed-requires-clause-within c =
     let steps = c.in_ok-steps.steps in
     let numbers = c.in_ok-numbers.numbers.items in
-    let is : steps.items ≡ map (λ (l : LineAt). l.step) c.args.table.now = c.in_ok-steps.ensures ∙ ap (λ (t : List LineAt). map (λ (l : LineAt). l.step) t) c.lines.ensures in
+    let is : steps.items ≡ map (λ (l : LineAt). l.step) c.args.table.now = c.in_ok-steps.ensures in
     let lines : c.len-2.result ≡ length steps.items = omega (arith, c.len-2.ensures, steps.ok.0) in
     let totals : length c.as_slice-2.result.now ≡ c.len-2.result + 1 = ap (λ (t : List ℕ). length t) c.as_slice-2.ensures.value ∙ c.in_ok-totals.ensures.size in
     let counts : length c.as_slice-5.result.now ≡ length c.as_slice-2.result.now + 1 = ap (λ (t : List ℕ). length t) c.as_slice-5.ensures.value ∙ c.in_ok-counts.ensures.size in
@@ -34,7 +34,7 @@ invariant_of-result c =
     let ranks = c.in_ok-totals.field-0.ranks.items in
     let counts = c.in_ok-counts.counts.items in
     let places = c.in_ok-places.places.items in
-    let is : steps.items ≡ map (λ (l : LineAt). l.step) c.args.table.now = c.in_ok-steps.ensures ∙ ap (λ (t : List LineAt). map (λ (l : LineAt). l.step) t) c.lines.ensures in
+    let is : steps.items ≡ map (λ (l : LineAt). l.step) c.args.table.now = c.in_ok-steps.ensures in
     let lines : c.len-2.result ≡ length steps.items = omega (arith, c.len-2.ensures, steps.ok.0) in
     let totals : length c.as_slice-2.result.now ≡ c.len-2.result + 1 = ap (λ (t : List ℕ). length t) c.as_slice-2.ensures.value ∙ c.in_ok-totals.ensures.size in
     let whole : length c.as_slice-2.result.now + 1 ≡ length steps.items + 2 = omega arith in

@@ -65,7 +65,7 @@ multi_leaves pairs s stage opened result =
 
 -- ---- its words
 
-words_are : (pairs : List Pair) (r : Refusal) → refused_by_members (commands.Multi pairs) ≡ Some r → (r ≡ refusals.MemberCount) ⊎ (r ≡ refusals.TwoUpdaters)
+pub words_are : (pairs : List Pair) (r : Refusal) → refused_by_members (commands.Multi pairs) ≡ Some r → (r ≡ refusals.MemberCount) ⊎ (r ≡ refusals.TwoUpdaters)
 words_are pairs r = of _ _ r
   where
     of : (a b : Bool) (r : Refusal) → option_or (then_some a refusals.MemberCount) (option_or (then_some b refusals.TwoUpdaters) None) ≡ Some r → (r ≡ refusals.MemberCount) ⊎ (r ≡ refusals.TwoUpdaters)

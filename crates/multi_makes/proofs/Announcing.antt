@@ -89,7 +89,7 @@ of_truncation _ t = absurd t
 pub truncation_wider : (lock : ℕ) (kind : Kind) → MayAdd IsTruncation ⊥ (λ r. ⊥) lock kind → MayAdd IsOfMulti ⊥ (λ r. ⊥) lock kind
 truncation_wider = may_wider IsTruncation IsOfMulti ⊥ ⊥ (λ r. ⊥) (λ r. ⊥) of_truncation (λ m. m) (λ r m. m)
 
-making_of_multi : (o : Option Making) (rec : Rec) → IsMakingRecord o rec → IsOfMulti rec
+pub making_of_multi : (o : Option Making) (rec : Rec) → IsMakingRecord o rec → IsOfMulti rec
 making_of_multi None rec p = absurd p
 making_of_multi (Some m) rec p = subst IsOfMulti (sym p.0) tt
 

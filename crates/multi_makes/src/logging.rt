@@ -7,6 +7,7 @@ ghost use Rattle.engine_parts.specs.Sessions.{MayCall, by_at};
 ghost use Rattle.engine_parts.specs.Steps.{WentOn};
 ghost use Rattle.log_sections.specs.LogSections.{IsAppendRefused};
 ghost use Rattle.log_sections.specs.MultiRecords.{IsMakingRecord};
+ghost use Rattle.log_sections.specs.Rooms.{MetFull};
 ghost use Rattle.multi_makes.specs.Logged.{LogsMulti};
 
 use disk_core::{LogDisk, PageDisk};
@@ -37,6 +38,8 @@ fn log_truncation<R: Passing, L: LogDisk, P: PageDisk>(
         (view caller.new.pass).seen) }
     ensures refused { IfErr result (IsAppendRefused (start_of hall.now) (view caller.new.pass).seen) }
     ensures same { (caller.new.session ≡ caller.old.session) × (caller.new.number ≡ caller.old.number) }
+    ensures full { IfErr result (MetFull L.LogDisk (start_of hall.now) (view caller.new.pass).seen
+        (by_at caller.old.number caller.old.session.levels.commands) IsTruncation) }
 {
     let oldest = read_oldest(rt, hall, caller);
     let multis = read_multis(rt, hall, caller);
@@ -68,6 +71,8 @@ fn log_behind<R: Passing, L: LogDisk, P: PageDisk>(
     ensures logs { LogsMulti (start_of hall.now) (view caller.new.pass).seen caller.old.session caller.new.session
         result }
     ensures number { caller.new.number ≡ caller.old.number }
+    ensures full { IfErr result (MetFull L.LogDisk (start_of hall.now) (view caller.new.pass).seen
+        (by_at caller.old.number caller.old.session.levels.commands) IsOfMulti) }
 {
     tell_forms(rec);
     match log_truncation(rt, hall, caller) {
@@ -103,6 +108,8 @@ pub(crate) fn log_multi<R: Passing, L: LogDisk, P: PageDisk>(
     ensures logs { LogsMulti (start_of hall.now) (view caller.new.pass).seen caller.old.session caller.new.session
         result }
     ensures number { caller.new.number ≡ caller.old.number }
+    ensures full { IfErr result (MetFull L.LogDisk (start_of hall.now) (view caller.new.pass).seen
+        (by_at caller.old.number caller.old.session.levels.commands) IsOfMulti) }
 {
     match append_multi(rt, hall, caller, rec) {
         Ok(Appended::At { .. }) => Ok(()),

@@ -55,7 +55,7 @@ use Rattle.engine_parts.proofs.Adding.{adds_nothing, may_cut, plain_wider}
 use Rattle.engine_parts.proofs.Sectioning.{shared_adds}
 use Rattle.log_sections.specs.LogSections.{FlushSection, IsAppendRefused, IsFlushRefused, IsFlushedPast, IsTruncationOf, StandsUnder, TruncationSection}
 use Rattle.multi_banks.proofs.Later.{grows_same}
-use Rattle.xact_freezes.specs.Trims.{HasFlushed, IsOfBank, IsTrimMet, MayTrim, WasOldestXmin}
+use Rattle.xact_freezes.specs.Trims.{HasFlushed, IsCutMet, IsOfBank, IsTrimMet, MayTrim, WasOldestXmin}
 use Rattle.xact_freezes.specs.Visits.{Visited}
 use Rattle.xact_freezes.proofs.Going.{visited_then, visited_wider}
 use Rattle.xact_freezes.proofs.Ranning.{ran_multi}
@@ -174,6 +174,12 @@ append_met start lists by (refusals.LogDown down) m = m
 append_met start lists by refusals.Full m = tt
 append_met start lists by refusals.Memory m = tt
 append_met start lists by r m = absurd m
+
+-- a cut that was refused stops the trim
+pub cut_met : {T : Type 0} (start : Start) (lists : List (List Entry)) (by : By) (result : Result T Refusal) → IfErr result (IsCutMet lists by) → IfErr result (IsTrimMet start lists by)
+cut_met start lists by (Ok x) met = tt
+cut_met start lists by (Err (refusals.DiskFault lock)) met = met
+cut_met start lists by (Err _) met = absurd met
 
 -- ---- what is announced
 

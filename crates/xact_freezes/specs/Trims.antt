@@ -35,16 +35,19 @@ IsOfBank (locks.Offsets bank) = Unit {0}
 IsOfBank (locks.Members bank) = Unit {0}
 IsOfBank lock = ⊥
 
--- Why a step of a trim was refused: memory was wanting, the log is full, or down, or its volume failed, or that of a
--- bank did.
+-- why a cut was refused: the volume of a bank failed
+abbrev pub IsCutMet : List (List Entry) → By → Refusal → Type 0
+IsCutMet lists by (refusals.DiskFault lock) = IsOfBank lock × MetFault lists (number_of lock) by
+IsCutMet lists by r = ⊥
+
+-- Why a trim was: memory was wanting, the log is full, or down, or its volume failed, or a cut was refused.
 abbrev pub IsTrimMet : Start → List (List Entry) → By → Refusal → Type 0
 IsTrimMet start lists by refusals.Memory = Unit {0}
 IsTrimMet start lists by refusals.Full = Unit {0}
 IsTrimMet start lists by refusals.LogFault =
     MetLogFault lists by × ((down : ℕ) × IsDownAt start (at lists log_lock) down)
 IsTrimMet start lists by (refusals.LogDown down) = IsDownAt start (at lists log_lock) down
-IsTrimMet start lists by (refusals.DiskFault lock) = IsOfBank lock × MetFault lists (number_of lock) by
-IsTrimMet start lists by r = ⊥
+IsTrimMet start lists by r = IsCutMet lists by r
 
 -- the command appended the record, which is below the number of a flush
 pub record HasFlushed (start : Start) (lists : List (List Entry)) (by : By) (rec : Rec) : Type 0 where

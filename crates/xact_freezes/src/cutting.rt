@@ -7,7 +7,7 @@ ghost use Rattle.tx_core.specs.Locks.{member_page_in_full, members_lock, offset_
 ghost use Rattle.tx_core.specs.Locks.{subtrans_lock, xact_lock};
 ghost use Rattle.engine_parts.specs.Calls.{MayStep};
 ghost use Rattle.engine_parts.specs.Sessions.{by_at};
-ghost use Rattle.xact_freezes.specs.Trims.{AreCut, IsCutBy, IsTrimMet, MayTrim, WasOldestXmin};
+ghost use Rattle.xact_freezes.specs.Trims.{AreCut, IsCutBy, IsCutMet, MayTrim, WasOldestXmin};
 ghost use Rattle.xact_freezes.specs.Visits.{Visited};
 
 use bank_sections::{cut_parents, cut_states};
@@ -38,7 +38,7 @@ fn let_states<R: Passing, L: LogDisk, P: PageDisk>(
     ensures cut { IfOk result (λ _. IsCutBy (view caller.new.pass).seen
         (by_at caller.old.number caller.old.session.levels.commands) (xact_lock bank)
         (xact_cut_page (start_of hall.now).base.oldest oldest)) }
-    ensures met { IfErr result (IsTrimMet (start_of hall.now) (view caller.new.pass).seen
+    ensures met { IfErr result (IsCutMet (view caller.new.pass).seen
         (by_at caller.old.number caller.old.session.levels.commands)) }
 {
     match cut_states(rt, hall, caller, bank, base.oldest, oldest) {
@@ -69,7 +69,7 @@ fn let_parents<R: Passing, L: LogDisk, P: PageDisk>(
     ensures cut { IfOk result (λ _. IsCutBy (view caller.new.pass).seen
         (by_at caller.old.number caller.old.session.levels.commands) (subtrans_lock bank)
         (subtrans_cut_page (start_of hall.now).base.oldest xmin)) }
-    ensures met { IfErr result (IsTrimMet (start_of hall.now) (view caller.new.pass).seen
+    ensures met { IfErr result (IsCutMet (view caller.new.pass).seen
         (by_at caller.old.number caller.old.session.levels.commands)) }
 {
     match cut_parents(rt, hall, caller, bank, base.oldest, xmin) {
@@ -98,7 +98,7 @@ fn let_offsets<R: Passing, L: LogDisk, P: PageDisk>(
     ensures cut { IfOk result (λ _. IsCutBy (view caller.new.pass).seen
         (by_at caller.old.number caller.old.session.levels.commands) (offsets_lock bank)
         (offset_page (multi_before multi))) }
-    ensures met { IfErr result (IsTrimMet (start_of hall.now) (view caller.new.pass).seen
+    ensures met { IfErr result (IsCutMet (view caller.new.pass).seen
         (by_at caller.old.number caller.old.session.levels.commands)) }
 {
     match cut_offsets(rt, hall, caller, bank, multi) {
@@ -127,7 +127,7 @@ fn let_members<R: Passing, L: LogDisk, P: PageDisk>(
     ensures cut { IfOk result (λ _. IsCutBy (view caller.new.pass).seen
         (by_at caller.old.number caller.old.session.levels.commands) (members_lock bank)
         (member_page_in_full offset)) }
-    ensures met { IfErr result (IsTrimMet (start_of hall.now) (view caller.new.pass).seen
+    ensures met { IfErr result (IsCutMet (view caller.new.pass).seen
         (by_at caller.old.number caller.old.session.levels.commands)) }
 {
     match cut_members(rt, hall, caller, bank, offset) {
@@ -161,7 +161,7 @@ fn cut_bank<R: Passing, L: LogDisk, P: PageDisk>(
     ensures cut { IfOk result (λ _. AreCut (start_of hall.now) (view caller.new.pass).seen
         (by_at caller.old.number caller.old.session.levels.commands) found.now.oldest found.now.oldest_xmin
         multis.now.oldest_multi multis.now.oldest_offset bank) }
-    ensures met { IfErr result (IsTrimMet (start_of hall.now) (view caller.new.pass).seen
+    ensures met { IfErr result (IsCutMet (view caller.new.pass).seen
         (by_at caller.old.number caller.old.session.levels.commands)) }
 {
     match let_states(rt, hall, caller, banks, base, bank, found.oldest) {
@@ -199,7 +199,7 @@ pub(crate) fn cut_all<R: Passing, L: LogDisk, P: PageDisk>(
     ensures cut { IfOk result (λ _. (bank : ℕ) → bank < banks → AreCut (start_of hall.now)
         (view caller.new.pass).seen (by_at caller.old.number caller.old.session.levels.commands) found.now.oldest
         found.now.oldest_xmin multis.now.oldest_multi multis.now.oldest_offset bank) }
-    ensures met { IfErr result (IsTrimMet (start_of hall.now) (view caller.new.pass).seen
+    ensures met { IfErr result (IsCutMet (view caller.new.pass).seen
         (by_at caller.old.number caller.old.session.levels.commands)) }
 {
     for bank in 0..banks {

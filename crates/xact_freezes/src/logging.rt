@@ -1,9 +1,11 @@
 //! The record of a truncation comes to the log, and onto the disk.
 ghost use Rattle.std.specs.Prelude.{[], IfErr, IfOk};
 ghost use Rattle.hall.specs.Calls.{view, start_of};
+ghost use Rattle.engine_parts.specs.Adding.{IsTruncation};
 ghost use Rattle.engine_parts.specs.Calls.{MayStep};
 ghost use Rattle.engine_parts.specs.Sessions.{by_at};
 ghost use Rattle.log_sections.specs.LogSections.{IsTruncationOf};
+ghost use Rattle.log_sections.specs.Rooms.{MetFull};
 ghost use Rattle.xact_freezes.specs.Trims.{HasFlushed, IsTrimMet, MayTrim};
 ghost use Rattle.xact_freezes.specs.Visits.{Visited};
 
@@ -28,6 +30,8 @@ pub(crate) fn log_trim<R: Passing, L: LogDisk, P: PageDisk>(
         (by_at caller.old.number caller.old.session.levels.commands) rec.now) }
     ensures met { IfErr result (IsTrimMet (start_of hall.now) (view caller.new.pass).seen
         (by_at caller.old.number caller.old.session.levels.commands)) }
+    ensures full { IfErr result (MetFull L.LogDisk (start_of hall.now) (view caller.new.pass).seen
+        (by_at caller.old.number caller.old.session.levels.commands) IsTruncation) }
 {
     match append_truncation(rt, hall, caller, rec) {
         Ok(number) => flush_log(rt, hall, caller, number),

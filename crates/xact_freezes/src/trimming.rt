@@ -1,11 +1,13 @@
 //! The stores are truncated.
-ghost use Rattle.std.specs.Prelude.{◌≡◌, IfOk};
+ghost use Rattle.std.specs.Prelude.{◌≡◌, IfErr, IfOk};
 ghost use Rattle.hall.specs.Calls.{view, start_of};
 ghost use Rattle.tx_model.specs.declared.command.Command.TheVariants as commands;
 ghost use Rattle.tx_model.specs.declared.reply.Reply.TheVariants as replies;
+ghost use Rattle.engine_parts.specs.Adding.{IsTruncation};
 ghost use Rattle.engine_parts.specs.Answers.{reply_of};
 ghost use Rattle.engine_parts.specs.Calls.{MayRun, Ran, next_command};
 ghost use Rattle.engine_parts.specs.Sessions.{by_at};
+ghost use Rattle.log_sections.specs.Rooms.{MetFull};
 ghost use Rattle.xact_freezes.specs.Trims.{HasTrimmed};
 
 use crate::cutting::cut_all;
@@ -38,6 +40,8 @@ pub fn trim<R: Passing, L: LogDisk, P: PageDisk>(
         caller.old caller.new }
     ensures trimmed { IfOk result (λ _. HasTrimmed (start_of hall.now) (view caller.old.pass).seen
         (view caller.new.pass).seen (by_at caller.old.number (next_command caller.old))) }
+    ensures full { IfErr result (MetFull L.LogDisk (start_of hall.now) (view caller.new.pass).seen
+        (by_at caller.old.number (next_command caller.old)) IsTruncation) }
 {
     count(caller);
     let base = read_base(rt, hall, caller);

@@ -1,11 +1,14 @@
-use Rattle.std.proofs.Common.{◌≡◌, Err, None, Option, sym, ap, subst, ◌∙◌}
+use Rattle.std.proofs.Common.{◌≡◌, Err, None, Option, Result, sym, ap, subst, ◌∙◌}
 use Rattle.hall.specs.Calls.{view, start_of}
+use Rattle.tx_events.specs.declared.refusal.Refusal.{Refusal}
 use Rattle.engine_parts.specs.declared.session.Making.{Making}
 use Rattle.engine_parts.specs.declared.session.Session.{Session}
 use Rattle.engine_parts.specs.Adding.{IsOfMulti, IsPlain, MayAdd, MayMeet}
 use Rattle.engine_parts.specs.Makings.{Makes}
+use Rattle.engine_parts.specs.Sessions.{by_at}
 use Rattle.engine_parts.proofs.Adding.{plain_wider}
-use Rattle.multi_makes.specs.Pending.{IsPending, IsRecDone}
+use Rattle.multi_makes.specs.Pending.{IsMultiFault, IsPending, IsRecDone}
+use Rattle.log_sections.proofs.Rooms.{met_never}
 use Rattle.multi_makes.proofs.Announcing.{fault_wider, told_wider}
 use Rattle.multi_makes.proofs.Going.{visited_then, visited_wider}
 use Rattle.multi_makes.proofs.Making.{call_over, done_pending, pending_logged, recorded_of, same_logged}
@@ -62,3 +65,11 @@ returns-in-Ok-set_pending-clause-finishes g c =
     let rec = c.args.rec.now in
     let done : IsRecDone start (view x.pass).seen old.number rec = subst (λ z. IsRecDone start (view x.pass).seen z rec) c.log_pending.ensures.visited.number c.in-Ok-set_pending.ensures.done in
     (ap (λ (s : Session). record s { making = None }) (c.set_pending.ensures.session ∙ c.in-Ok.ensures.logs), done_pending start (view x.pass).seen old.number old.session.making rec c.requires.record done)
+
+pub returns-in-Err-set_pending-clause-full : goal.returns-in-Err-set_pending-clause-full
+returns-in-Err-set_pending-clause-full g c =
+    let old = c.args.caller.now in
+    let w = c.log_pending.new.caller in
+    let seen = (view c.set_pending.new.caller.pass).seen in
+    let refused : Result (Unit {0}) Refusal = Err c.in-Err-set_pending.refusal in
+    met_never g.L.LogDisk (start_of c.args.hall.now) seen (by_at old.number old.session.levels.commands) IsOfMulti (IsMultiFault seen (by_at w.number w.session.levels.commands)) refused c.in-Err-set_pending.ensures.fault (λ none. none)

@@ -1,11 +1,13 @@
-use Rattle.std.proofs.Common.{◌≡◌}
+use Rattle.std.proofs.Common.{◌≡◌, Err, Result, refl, subst, sym}
 use Rattle.hall.specs.Calls.{view, start_of}
+use Rattle.tx_events.specs.declared.refusal.Refusal.{Refusal}
 use Rattle.engine_parts.specs.Adding.{IsOfMulti, IsTruncation, MayAdd}
 use Rattle.engine_parts.specs.Sessions.{by_at}
 use Rattle.engine_parts.proofs.Adding.{adds_wider}
 use Rattle.engine_parts.proofs.Sectioning.{same_command}
 use Rattle.log_sections.proofs.Added.{append_adds}
-use Rattle.multi_makes.proofs.Announcing.{record_wider, truncation_wider}
+use Rattle.log_sections.proofs.Rooms.{met_then}
+use Rattle.multi_makes.proofs.Announcing.{making_of_multi, of_truncation, record_wider, truncation_wider}
 use Rattle.multi_makes.proofs.Going.{both_add, on_then}
 use Rattle.multi_makes.proofs.Landing.{multi_lands}
 use Rattle.multi_makes.proofs.logging.log_behind.Goals as goal
@@ -66,3 +68,20 @@ unreachable-requires g c =
     let a = c.append_multi.ensures in
     multi_lands (start_of c.args.hall.now) (view old.pass) (view t.pass).seen (view w.pass).seen old.number old.session t.session w.session c.args.rec.now c.in-Ok-NoBase.field-0 c.requires.may.ready.at c.requires.record c.tell_forms.ensures.multi a.may.ready.at.kept c.in-Ok.ensures.told e.went.on.grows a.went.on.grows
     c.in-Ok-NoBase.field-0-is c.in-Ok-NoBase.ensures.takes
+
+pub returns-in-Err-append_multi-clause-full : goal.returns-in-Err-append_multi-clause-full
+returns-in-Err-append_multi-clause-full g c =
+    let old = c.args.caller.now in
+    let t = c.log_truncation.new.caller in
+    let e = c.log_truncation.ensures in
+    let rec = c.args.rec.now in
+    let refused : Result (Unit {0}) Refusal = Err c.in-Err-append_multi.refusal in
+    met_then g.L.LogDisk (start_of c.args.hall.now) (view c.append_multi.new.caller.pass).seen (by_at t.number t.session.levels.commands) (by_at old.number old.session.levels.commands) (λ z. z ≡ rec) IsOfMulti refused
+    (same_command old.number t.number old.session t.session e.same.1 e.same.0) (λ z is. subst IsOfMulti (sym is) (making_of_multi old.session.making rec c.requires.record)) c.in-Err-append_multi.ensures.full
+
+pub returns-in-Err-clause-full : goal.returns-in-Err-clause-full
+returns-in-Err-clause-full g c =
+    let old = c.args.caller.now in
+    let by = by_at old.number old.session.levels.commands in
+    let refused : Result (Unit {0}) Refusal = Err c.in-Err.refusal in
+    met_then g.L.LogDisk (start_of c.args.hall.now) (view c.log_truncation.new.caller.pass).seen by by IsTruncation IsOfMulti refused refl of_truncation c.in-Err.ensures.full

@@ -1,11 +1,13 @@
-use Rattle.std.proofs.Common.{◌≡◌}
+use Rattle.std.proofs.Common.{◌≡◌, Err, Result, refl, subst, sym}
 use Rattle.hall.specs.Calls.{view, start_of}
+use Rattle.tx_events.specs.declared.refusal.Refusal.{Refusal}
 use Rattle.engine_parts.specs.Adding.{IsOfMulti, MayAdd}
 use Rattle.engine_parts.specs.Sessions.{by_at}
 use Rattle.engine_parts.proofs.Adding.{adds_wider}
 use Rattle.engine_parts.proofs.Sectioning.{same_command}
 use Rattle.log_sections.proofs.Added.{append_adds}
-use Rattle.multi_makes.proofs.Announcing.{record_wider, unlogged_same}
+use Rattle.log_sections.proofs.Rooms.{met_then}
+use Rattle.multi_makes.proofs.Announcing.{making_of_multi, record_wider, unlogged_same}
 use Rattle.multi_makes.proofs.Going.{both_add, on_then}
 use Rattle.multi_makes.proofs.logging.log_multi.Goals as goal
 
@@ -47,3 +49,20 @@ returns-in-Ok-NoBase-clause-adds g c =
     (same_command old.number t.number old.session t.session c.append_multi.ensures.number same) (record_wider old.session.making rec c.requires.record) (λ lock kind m. m)
     (append_adds start (view old.pass) (view t.pass) by old.session rec c.append_multi.result c.requires.may.ready.at c.append_multi.ensures.section)
     c.log_behind.ensures.adds
+
+pub returns-in-Err-clause-full : goal.returns-in-Err-clause-full
+returns-in-Err-clause-full g c =
+    let old = c.args.caller.now in
+    let rec = c.args.rec.now in
+    let by = by_at old.number old.session.levels.commands in
+    let refused : Result (Unit {0}) Refusal = Err c.in-Err.refusal in
+    met_then g.L.LogDisk (start_of c.args.hall.now) (view c.append_multi.new.caller.pass).seen by by (λ z. z ≡ rec) IsOfMulti refused refl (λ z is. subst IsOfMulti (sym is) (making_of_multi old.session.making rec c.requires.record)) c.in-Err.ensures.full
+
+pub returns-in-Ok-NoBase-clause-full : goal.returns-in-Ok-NoBase-clause-full
+returns-in-Ok-NoBase-clause-full g c =
+    let start = start_of c.args.hall.now in
+    let old = c.args.caller.now in
+    let t = c.append_multi.new.caller in
+    let same = unlogged_same start (view t.pass).seen c.args.rec.now old.session t.session c.in-Ok-NoBase.field-0 c.in-Ok-NoBase.field-0-is c.in-Ok-NoBase.ensures.takes in
+    met_then g.L.LogDisk start (view c.log_behind.new.caller.pass).seen (by_at t.number t.session.levels.commands) (by_at old.number old.session.levels.commands) IsOfMulti IsOfMulti c.log_behind.result
+    (same_command old.number t.number old.session t.session c.append_multi.ensures.number same) (λ z of. of) c.log_behind.ensures.full

@@ -9,6 +9,7 @@ use Rattle.engine_parts.proofs.Leaving.{grows_then}
 use Rattle.engine_parts.proofs.Sectioning.{same_command}
 use Rattle.engine_parts.proofs.Unmoved.{call_read, look_adds}
 use Rattle.log_sections.proofs.Added.{truncation_adds}
+use Rattle.log_sections.proofs.Rooms.{met_then}
 use Rattle.multi_makes.proofs.Announcing.{multi_look_adds, truncation_found}
 use Rattle.multi_makes.proofs.Going.{both_add, call_multi, on_then, same_making, went_on}
 use Rattle.multi_makes.proofs.Landing.{truncation_tells}
@@ -75,3 +76,13 @@ returns-clause-told g c =
     let wide = f.ready.at.wide in
     truncation_tells start (view old.pass).seen (view u.pass).seen (view t.pass) (view w.pass) (by_at t.number t.session.levels.commands) c.append_truncation.result c.read_oldest-oldest.result c.read_multis-multis.result e.ready.at.base e.ready.at.kept f.ready.at.kept
     e.went.on.grows (grows_then (view old.pass).seen (view u.pass).seen (view t.pass).seen e.went.on.grows f.went.grows) (omega arith) e.oldest f.counters c.append_truncation.ensures.section
+
+pub returns-clause-full : goal.returns-clause-full
+returns-clause-full g c =
+    let old = c.args.caller.now in
+    let t = c.read_multis-multis.new.caller in
+    let e = c.read_oldest-oldest.ensures in
+    let f = c.read_multis-multis.ensures in
+    let rec : Rec = records.Truncate c.read_oldest-oldest.result c.read_multis-multis.result.oldest_multi c.read_multis-multis.result.oldest_offset in
+    met_then g.L.LogDisk (start_of c.args.hall.now) (view c.append_truncation.new.caller.pass).seen (by_at t.number t.session.levels.commands) (by_at old.number old.session.levels.commands) (λ z. z ≡ rec) IsTruncation c.append_truncation.result
+    (same_command old.number t.number old.session t.session (f.same.1 ∙ e.same.1) (f.same.0 ∙ e.same.0)) (λ z is. subst IsTruncation (sym is) tt) c.append_truncation.ensures.full

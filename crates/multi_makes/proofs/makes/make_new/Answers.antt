@@ -1,5 +1,6 @@
-use Rattle.std.proofs.Common.{◌≡◌, ℕ, ◌<◌, [], length, inl, ap, subst, ◌∙◌, arith}
+use Rattle.std.proofs.Common.{◌≡◌, ℕ, ◌<◌, [], Err, Result, length, inl, ap, subst, ◌∙◌, arith}
 use Rattle.hall.specs.Calls.{view, start_of}
+use Rattle.tx_events.specs.declared.refusal.Refusal.{Refusal}
 use Rattle.tx_events.proofs.IdOrder.{nth_from}
 use Rattle.tx_events.specs.Events.{given}
 use Rattle.tx_events.specs.Horizon.{oldest_id}
@@ -11,6 +12,7 @@ use Rattle.engine_parts.specs.Sessions.{by_at}
 use Rattle.engine_parts.proofs.Adding.{adds_wider, plain_wider}
 use Rattle.engine_parts.proofs.Sectioning.{same_command}
 use Rattle.engine_parts.proofs.Unmoved.{look_adds}
+use Rattle.log_sections.proofs.Rooms.{met_never, met_then}
 use Rattle.multi_makes.specs.Full.{AreFullOf, AreNotFull}
 use Rattle.multi_makes.specs.Makes.{MakesOf}
 use Rattle.multi_makes.proofs.Going.{both_add, same_making, step_of, went_none}
@@ -105,3 +107,18 @@ returns-in-Err-clause-makes g c =
       went_none old.number (view old.pass).seen (view u.pass).seen e.went,
       inl (subst (λ (z : ℕ × ℕ). AreNotFull z.0 z.1 c.args.pairs.now c.in-Err.refusal) (λ j. (e.horizons.next j, e.horizons.oldest j)) c.in-Err.ensures),
     )
+
+pub returns-in-Ok-clause-full : goal.returns-in-Ok-clause-full
+returns-in-Ok-clause-full g c =
+    let old = c.args.caller.now in
+    let u = c.read_horizons-found.new.caller in
+    let e = c.read_horizons-found.ensures in
+    met_then g.L.LogDisk (start_of c.args.hall.now) (view c.make_of.new.caller.pass).seen (by_at u.number u.session.levels.commands) (by_at old.number old.session.levels.commands) IsOfMulti IsOfMulti c.make_of.result
+    (same_command old.number u.number old.session u.session e.same.1 e.same.0) (λ z of. of) c.make_of.ensures.full
+
+pub returns-in-Err-clause-full : goal.returns-in-Err-clause-full
+returns-in-Err-clause-full g c =
+    let old = c.args.caller.now in
+    let found = c.read_horizons-found.result in
+    let refused : Result (Unit {0}) Refusal = Err c.in-Err.refusal in
+    met_never g.L.LogDisk (start_of c.args.hall.now) (view c.read_horizons-found.new.caller.pass).seen (by_at old.number old.session.levels.commands) IsOfMulti (AreNotFull found.next found.oldest c.args.pairs.now) refused c.in-Err.ensures (λ none. none.refused)

@@ -3,6 +3,7 @@ use Rattle.hall.specs.Calls.{view, start_of}
 use Rattle.engine_parts.specs.declared.session.Session.{Session}
 use Rattle.engine_parts.specs.Adding.{IsOfMulti, IsToldBy, MayAdd}
 use Rattle.engine_parts.specs.Sessions.{by_at}
+use Rattle.log_sections.proofs.Rooms.{met_then}
 use Rattle.multi_makes.specs.Makes.{MakesNew}
 use Rattle.multi_makes.proofs.Announcing.{told_wider}
 use Rattle.multi_makes.proofs.Going.{both_add, command_kept}
@@ -35,3 +36,12 @@ pub returns-in-Err-clause-makes : goal.returns-in-Err-clause-makes
 returns-in-Err-clause-makes g c =
     let f = c.in-Err.ensures in
     inl (record { went = f.visited.went; old = f.finishes.1; new = f.finishes.2; stops = f.finishes.3 })
+
+pub returns-in-Ok-clause-full : goal.returns-in-Ok-clause-full
+returns-in-Ok-clause-full g c =
+    let old = c.args.caller.now in
+    let t = c.finish.new.caller in
+    let f = c.in-Ok.ensures in
+    let same : t.session ≡ record old.session { making = t.session.making } = f.finishes.0 ∙ (λ j. record old.session { making = (sym f.finishes.0 j).making }) in
+    met_then g.L.LogDisk (start_of c.args.hall.now) (view c.make_new.new.caller.pass).seen (by_at t.number t.session.levels.commands) (by_at old.number old.session.levels.commands) IsOfMulti IsOfMulti c.make_new.result
+    (command_kept old.number t.number old.session t.session f.visited.number same) (λ z of. of) c.make_new.ensures.full

@@ -1,13 +1,18 @@
-use Rattle.std.proofs.Common.{◌≡◌, List, Some, sym, ap, ◌∙◌}
+use Rattle.std.proofs.Common.{◌≡◌, List, Some, sym, ap, ◌∙◌, ⊎_elim}
 use Rattle.hall.specs.Calls.{view, start_of}
+use Rattle.tx_events.specs.declared.refusal.Refusal.TheVariants as refusals
 use Rattle.tx_model.specs.declared.command.Command.TheVariants as commands
 use Rattle.tx_model.specs.declared.command.Pair.{Pair}
 use Rattle.tx_model.specs.declared.reply.Reply.TheVariants as replies
 use Rattle.life_law.specs.Refused.{refused_by_members}
+use Rattle.engine_parts.specs.Adding.{IsOfMulti}
 use Rattle.engine_parts.specs.Answers.{reply_of}
+use Rattle.engine_parts.specs.Calls.{next_command}
+use Rattle.engine_parts.specs.Sessions.{by_at}
 use Rattle.engine_parts.proofs.Calling.{ran_counted, step_counted}
+use Rattle.log_sections.proofs.Rooms.{met_then}
 use Rattle.multi_makes.specs.Makes.{given_reply}
-use Rattle.multi_makes.proofs.Acts.{makes_items, makes_ran, words_ran}
+use Rattle.multi_makes.proofs.Acts.{makes_items, makes_ran, words_are, words_ran}
 use Rattle.multi_makes.proofs.makes.multi.Goals as goal
 
 pub make_next-requires-clause-step : goal.make_next-requires-clause-step
@@ -34,3 +39,18 @@ returns-in-None-clause-ran g c =
     let e = m.ensures in
     ran_counted hall old u x (commands.Multi pairs) (reply_of given_reply m.result) c.count.ensures
     (makes_ran hall u x pairs m.result e.step e.left e.adds (makes_items (start_of hall) u.number u.session x.session _ pairs (view u.pass).seen (view x.pass).seen m.result c.items-in-None.ensures e.makes))
+
+-- the log was full
+pub returns-in-None-clause-full : goal.returns-in-None-clause-full
+returns-in-None-clause-full g c =
+    let old = c.args.caller.now in
+    let u = c.count.new.caller in
+    let counted : u.session.levels.commands ≡ next_command old = ap (λ k. k.commands) c.count.ensures.levels in
+    met_then g.L.LogDisk (start_of c.args.hall.now) (view c.make_next.new.caller.pass).seen (by_at u.number u.session.levels.commands) (by_at old.number (next_command old)) IsOfMulti IsOfMulti c.make_next.result
+    (λ j. by_at (c.count.ensures.number j) (counted j)) (λ z of. of) c.make_next.ensures.full
+
+pub returns-in-Some-clause-full : goal.returns-in-Some-clause-full
+returns-in-Some-clause-full g c = λ is.
+    let r = c.in-Some.refusal in
+    let words : refused_by_members (commands.Multi c.args.members.now) ≡ Some r = ap (λ (l : List Pair). refused_by_members (commands.Multi l)) (sym c.items.ensures) ∙ (sym c.refused_pairs.ensures ∙ c.in-Some.is) in
+    ⊎_elim (λ m. let two : refusals.MemberCount ≡ refusals.Full = sym m ∙ is in absurd cc) (λ m. let two : refusals.TwoUpdaters ≡ refusals.Full = sym m ∙ is in absurd cc) (words_are c.args.members.now r words)

@@ -3,7 +3,7 @@ use Rattle.hall.specs.Calls.{view, start_of}
 use Rattle.tx_events.specs.declared.event.By.{By}
 use Rattle.multi_banks.proofs.Adding.{truncated_later}
 use Rattle.engine_parts.specs.Sessions.{by_at}
-use Rattle.xact_freezes.specs.Trims.{AreCut, IsTrimMet, MayTrim}
+use Rattle.xact_freezes.specs.Trims.{AreCut, IsCutMet, MayTrim}
 use Rattle.xact_freezes.proofs.Going.{command_kept}
 use Rattle.xact_freezes.proofs.Letting.{cut_more, xmin_later}
 use Rattle.xact_freezes.proofs.TrimSteps.{trim_then, visited_still}
@@ -49,4 +49,4 @@ returns-in-Err-clause-met g c =
     let old = c.args.caller.now in
     let t = c.loop-bank.caller in
     let v = c.loop-bank.invariant.visited in
-    subst (λ (z : By). IsTrimMet (start_of c.args.hall.now) (view c.cut_bank.new.caller.pass).seen z c.in-Err.refusal) (command_kept old.number t.number old.session t.session v.number v.session) c.in-Err.ensures.met
+    subst (λ (z : By). IsCutMet (view c.cut_bank.new.caller.pass).seen z c.in-Err.refusal) (command_kept old.number t.number old.session t.session v.number v.session) c.in-Err.ensures.met

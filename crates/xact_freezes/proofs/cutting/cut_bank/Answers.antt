@@ -7,7 +7,7 @@ use Rattle.tx_core.specs.Locks.{member_page_in_full, members_lock, offset_page, 
 use Rattle.bank_sections.proofs.Cutting.{truncated_later, xmin_later}
 use Rattle.engine_parts.specs.Sessions.{by_at}
 use Rattle.engine_parts.proofs.Leaving.{grows_then}
-use Rattle.xact_freezes.specs.Trims.{AreCut, IsCutBy, IsTrimMet}
+use Rattle.xact_freezes.specs.Trims.{AreCut, IsCutBy, IsCutMet}
 use Rattle.xact_freezes.proofs.Going.{command_kept}
 use Rattle.xact_freezes.proofs.Letting.{cut_by_grows}
 use Rattle.xact_freezes.proofs.TrimSteps.{ok_maps, trim_then}
@@ -28,7 +28,7 @@ returns-in-Err-let_parents-clause-met g c =
     let old = c.args.caller.now in
     let a = c.let_states.new.caller in
     let v = c.in-Ok.ensures.visited in
-    subst (λ z. IsTrimMet (start_of c.args.hall.now) (view c.let_parents.new.caller.pass).seen z c.in-Err-let_parents.refusal) (command_kept old.number a.number old.session a.session v.number v.session) c.in-Err-let_parents.ensures.met
+    subst (λ z. IsCutMet (view c.let_parents.new.caller.pass).seen z c.in-Err-let_parents.refusal) (command_kept old.number a.number old.session a.session v.number v.session) c.in-Err-let_parents.ensures.met
 
 pub let_offsets-requires-clause-told : goal.let_offsets-requires-clause-told
 let_offsets-requires-clause-told g c =
@@ -56,7 +56,7 @@ returns-in-Err-let_offsets-clause-met g c =
     let b = c.let_parents.new.caller in
     let v = c.in-Ok.ensures.visited in
     let w = c.in-Ok-let_parents.ensures.visited in
-    subst (λ z. IsTrimMet (start_of c.args.hall.now) (view c.let_offsets.new.caller.pass).seen z c.in-Err-let_offsets.refusal) (command_kept old.number b.number old.session b.session (w.number ∙ v.number) (w.session ∙ v.session)) c.in-Err-let_offsets.ensures.met
+    subst (λ z. IsCutMet (view c.let_offsets.new.caller.pass).seen z c.in-Err-let_offsets.refusal) (command_kept old.number b.number old.session b.session (w.number ∙ v.number) (w.session ∙ v.session)) c.in-Err-let_offsets.ensures.met
 
 pub let_members-requires-clause-told : goal.let_members-requires-clause-told
 let_members-requires-clause-told g c =
@@ -123,4 +123,4 @@ returns-clause-met g c =
     let v = c.in-Ok.ensures.visited in
     let w = c.in-Ok-let_parents.ensures.visited in
     let x = c.in-Ok-let_offsets.ensures.visited in
-    subst (λ z. IfErr c.let_members.result (IsTrimMet (start_of c.args.hall.now) (view c.let_members.new.caller.pass).seen z)) (command_kept old.number d.number old.session d.session (x.number ∙ (w.number ∙ v.number)) (x.session ∙ (w.session ∙ v.session))) c.let_members.ensures.met
+    subst (λ z. IfErr c.let_members.result (IsCutMet (view c.let_members.new.caller.pass).seen z)) (command_kept old.number d.number old.session d.session (x.number ∙ (w.number ∙ v.number)) (x.session ∙ (w.session ∙ v.session))) c.let_members.ensures.met

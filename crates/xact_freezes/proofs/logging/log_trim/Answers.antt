@@ -1,10 +1,11 @@
-use Rattle.std.proofs.Common.{ℕ, IfErr, Result, Ok, Err, [], sym, subst}
+use Rattle.std.proofs.Common.{ℕ, ◌≡◌, IfErr, Result, Ok, Err, [], refl, sym, subst, ◌∙◌}
 use Rattle.hall.specs.Calls.{view, start_of}
 use Rattle.tx_events.specs.declared.record.Rec.{Rec}
 use Rattle.tx_events.specs.declared.refusal.Refusal.{Refusal}
 use Rattle.tx_core.specs.declared.entry.Kind.{Kind}
 use Rattle.engine_parts.specs.Adding.{IsTruncation}
 use Rattle.engine_parts.specs.Sessions.{by_at}
+use Rattle.log_sections.proofs.Rooms.{met_flush, met_then}
 use Rattle.xact_freezes.specs.Trims.{HasFlushed, IsTrimMet, MayTrim}
 use Rattle.xact_freezes.specs.Visits.{Visited}
 use Rattle.xact_freezes.proofs.Going.{command_kept, visited_now, went_none}
@@ -69,3 +70,17 @@ returns-in-Err-clause-visited g c =
 
 pub returns-in-Err-clause-met : goal.returns-in-Err-clause-met
 returns-in-Err-clause-met g c = append_met (start_of c.args.hall.now) (view c.append_truncation.new.caller.pass).seen (by_at c.args.caller.now.number c.args.caller.now.session.levels.commands) c.in-Err.refusal c.in-Err.ensures.refused
+
+-- the log was full
+pub returns-in-Ok-clause-full : goal.returns-in-Ok-clause-full
+returns-in-Ok-clause-full g c =
+    let old = c.args.caller.now in
+    let mid = c.append_truncation.new.caller in
+    met_flush g.L.LogDisk (start_of c.args.hall.now) (view c.flush_log.new.caller.pass).seen (by_at old.number old.session.levels.commands) (by_at mid.number mid.session.levels.commands) c.in-Ok.number IsTruncation _ c.flush_log.result c.flush_log.ensures.flushes
+
+pub returns-in-Err-clause-full : goal.returns-in-Err-clause-full
+returns-in-Err-clause-full g c =
+    let old = c.args.caller.now in
+    let by = by_at old.number old.session.levels.commands in
+    let refused : Result ℕ Refusal = Err c.in-Err.refusal in
+    met_then g.L.LogDisk (start_of c.args.hall.now) (view c.append_truncation.new.caller.pass).seen by by (λ z. z ≡ c.args.rec.now) IsTruncation refused refl (λ z is. subst IsTruncation (sym (is ∙ c.requires.record.is)) tt) c.in-Err.ensures.full

@@ -13,17 +13,19 @@ use Rattle.tx_core.specs.MultiEntries.{multi_history}
 use Rattle.tx_core.specs.RecordsFollow.{IsMultiAnnounced}
 use Rattle.tx_core.proofs.Posting.{oldest_rises}
 use Rattle.log_takes.proofs.Announced.{multis_rise}
+use Rattle.engine_parts.specs.Adding.{IsTruncation}
 use Rattle.engine_parts.specs.Calls.{next_command}
 use Rattle.engine_parts.specs.Sessions.{by_at}
 use Rattle.engine_parts.proofs.Calling.{step_counted}
 use Rattle.engine_parts.proofs.Leaving.{grows_then}
-use Rattle.xact_freezes.specs.Trims.{AreCut, HasFlushed, HasTrimmed, IsTrimMet}
+use Rattle.log_sections.proofs.Rooms.{met_never, met_then}
+use Rattle.xact_freezes.specs.Trims.{AreCut, HasFlushed, HasTrimmed, IsCutMet, IsTrimMet}
 use Rattle.xact_freezes.proofs.Going.{command_kept}
 use Rattle.xact_freezes.proofs.Letting.{xmin_later}
 use Rattle.xact_freezes.proofs.Looks.{trim_looks}
 use Rattle.xact_freezes.proofs.Rising.{xmin_since}
 use Rattle.xact_freezes.proofs.Starting.{announced_now}
-use Rattle.xact_freezes.proofs.TrimSteps.{has_flushed_later, horizon_from, is_truncated, look_then, ok_maps, trim_ran, trim_record, trim_then, xmin_now}
+use Rattle.xact_freezes.proofs.TrimSteps.{cut_met, has_flushed_later, horizon_from, is_truncated, look_then, ok_maps, trim_ran, trim_record, trim_then, xmin_now}
 use Rattle.xact_freezes.proofs.trimming.trim.Goals as goal
 
 pub read_base-base-requires-clause-ready : goal.read_base-base-requires-clause-ready
@@ -109,7 +111,8 @@ returns-in-Ok-clause-ran g c =
     let result = c.cut_all.result in
     let v = c.in-Ok.ensures.visited in
     trim_ran hall {banks = banks} result old u w c.count.ensures (look_then hall banks result u d w seen (trim_then hall banks {T = Unit {0}} tt result d f w v c.cut_all.ensures.visited))
-    (subst (λ k. IfErr result (IsTrimMet start (view w.pass).seen k)) (command_kept u.number f.number u.session f.session (v.number ∙ seen.number) (v.session ∙ seen.session)) c.cut_all.ensures.met)
+    (subst (λ k. IfErr result (IsTrimMet start (view w.pass).seen k)) (command_kept u.number f.number u.session f.session (v.number ∙ seen.number) (v.session ∙ seen.session))
+    (cut_met start (view w.pass).seen (by_at f.number f.session.levels.commands) result c.cut_all.ensures.met))
 
 pub returns-in-Ok-clause-trimmed : goal.returns-in-Ok-clause-trimmed
 returns-in-Ok-clause-trimmed g c =
@@ -179,3 +182,29 @@ returns-clause-ran g c =
     let refused : Result (Unit {0}) Refusal = Err c.in-Err.refusal in
     trim_ran hall {banks = banks} refused old u f c.count.ensures (look_then hall banks refused u d f seen c.in-Err.ensures.visited)
     (subst (λ k. IsTrimMet start (view f.pass).seen k c.in-Err.refusal) (command_kept u.number d.number u.session d.session seen.number seen.session) c.in-Err.ensures.met)
+
+-- the log was full
+pub returns-in-Ok-clause-full : goal.returns-in-Ok-clause-full
+returns-in-Ok-clause-full g c =
+    let f = c.log_trim.new.caller in
+    let seen = (view c.cut_all.new.caller.pass).seen in
+    met_never g.L.LogDisk (start_of c.args.hall.now) seen (by_at c.args.caller.now.number (next_command c.args.caller.now)) IsTruncation (IsCutMet seen (by_at f.number f.session.levels.commands)) c.cut_all.result c.cut_all.ensures.met (λ none. none)
+
+pub returns-clause-full : goal.returns-clause-full
+returns-clause-full g c =
+    let hall = c.args.hall.now in
+    let start = start_of hall in
+    let banks = c.args.banks in
+    let old = c.args.caller.now in
+    let u = c.count.new.caller in
+    let b = c.read_horizons-found.new.caller in
+    let d = c.read_multis-multis.new.caller in
+    let x = c.read_base-base.ensures in
+    let y = c.read_horizons-found.ensures in
+    let z = c.read_multis-multis.ensures in
+    let looks = trim_looks hall banks u c.read_base-base.new.caller b d (step_counted hall old u c.count.ensures c.requires.may) x.section x.own x.ready x.went x.same y.section y.own y.ready y.went y.same z.section z.own z.ready z.went z.same in
+    let seen = looks.all in
+    let refused : Result (Unit {0}) Refusal = Err c.in-Err.refusal in
+    let counted : u.session.levels.commands ≡ next_command old = ap (λ k. k.commands) c.count.ensures.levels in
+    met_then g.L.LogDisk start (view c.log_trim.new.caller.pass).seen (by_at d.number d.session.levels.commands) (by_at old.number (next_command old)) IsTruncation IsTruncation refused
+    (command_kept u.number d.number u.session d.session seen.number seen.session ∙ (λ j. by_at (c.count.ensures.number j) (counted j))) (λ z of. of) c.in-Err.ensures.full

@@ -6,7 +6,6 @@
 mod aborting;
 mod appending;
 mod flushing;
-mod forms;
 mod recording;
 mod refusals;
 mod truncating;
@@ -14,7 +13,6 @@ mod truncating;
 pub use aborting::append_abort;
 pub use appending::{Appended, append_commit};
 pub use flushing::flush_log;
-pub use forms::tell_forms;
 pub use recording::append_multi;
 pub use refusals::refusal_of;
 pub use truncating::append_truncation;

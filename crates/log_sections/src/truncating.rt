@@ -14,7 +14,6 @@ ghost use Rattle.engine_parts.specs.Steps.{WentOn};
 ghost use Rattle.log_sections.specs.LogSections.{IsAppendRefused, IsTruncationOf, StandsUnder, TruncationSection};
 ghost use Rattle.log_sections.specs.Rooms.{MetFull};
 
-use crate::forms::tell_forms;
 use crate::refusals::refusal_of;
 use disk_core::{LogDisk, PageDisk};
 use engine_parts::{
@@ -84,7 +83,7 @@ pub fn append_truncation<R: Passing, L: LogDisk, P: PageDisk>(
     ensures went { WentOn caller.old.number [] (view caller.old.pass).seen (view caller.new.pass).seen }
     ensures same { (caller.new.session ≡ caller.old.session) × (caller.new.number ≡ caller.old.number) }
 {
-    tell_forms(rec);
+    rec.tell_forms();
     let mut held = enter_log(rt, hall, caller);
     let log = &mut *held;
     match log.append(rec) {

@@ -13,7 +13,7 @@ ghost use Rattle.multi_makes.specs.Logged.{LogsMulti};
 use disk_core::{LogDisk, PageDisk};
 use engine_parts::{Caller, EngineLaw, Passing};
 use hall::Hall;
-use log_sections::{Appended, append_multi, append_truncation, tell_forms};
+use log_sections::{Appended, append_multi, append_truncation};
 use multi_sections::read_multis;
 use proc_sections::read_oldest;
 use tx_events::{Rec, Refusal};
@@ -74,7 +74,7 @@ fn log_behind<R: Passing, L: LogDisk, P: PageDisk>(
     ensures full { IfErr result (MetFull L.LogDisk (start_of hall.now) (view caller.new.pass).seen
         (by_at caller.old.number caller.old.session.levels.commands) IsOfMulti) }
 {
-    tell_forms(rec);
+    rec.tell_forms();
     match log_truncation(rt, hall, caller) {
         Ok(_) => match append_multi(rt, hall, caller, rec) {
             Ok(Appended::At { .. }) => Ok(()),

@@ -1,6 +1,5 @@
 //! Whether a multixact event is told by its command's reply.
-ghost use Rattle.std.specs.Prelude.{◌≡◌, ◌↔◌, ◌<◌, ◌≤◌, IfOk, IsTrue, List, Some, length, map, slice_get, slice_index, take};
-ghost use Rattle.std.specs.List.{flat_map};
+ghost use Rattle.std.specs.Prelude.{◌≡◌, ◌↔◌, ◌<◌, ◌≤◌, IfOk, IsTrue, List, Some, length, slice_get, slice_index, take};
 ghost use Rattle.std.specs.Option.{option_copied};
 ghost use Rattle.tx_events.specs.declared.multi.MultiEvent.{MultiEvent};
 ghost use Rattle.tx_events.specs.Multis.{multi_by};

@@ -1,5 +1,8 @@
 //! The log's records, and the counters that they carry.
-ghost use Rattle.std.specs.Prelude.{◌≡◌, ◌^◌, ◌<◌};
+ghost use Rattle.std.specs.Prelude.{◌≡◌, ◌^◌, ◌<◌, ℕ, List};
+ghost use Rattle.tx_events.specs.declared.multi.Member.{Member};
+ghost use Rattle.tx_events.specs.declared.record.Rec.TheVariants as records;
+ghost use Rattle.tx_events.specs.Ids.{IsFullMulti, IsXidNumber};
 ghost use Rattle.tx_events.specs.RecordNumber.{own_number};
 ghost use Rattle.tx_events.specs.RecordSize.{record_size};
 ghost use Rattle.tx_events.specs.Base.{first_base};
@@ -107,6 +110,25 @@ impl Rec {
             Rec::Multi { members, .. } => 21 + 9 * members.items().len() as u64,
             Rec::Checkpoint { .. } => 57,
             Rec::Truncate { .. } => 25,
+        }
+    }
+
+    /// Tells a proof what the numbers that a truncation or a multixact names are.
+    pub fn tell_forms(&self)
+        ensures truncation { (oldest : ℕ) → (multi : ℕ) → (offset : ℕ)
+            → self.now ≡ records.Truncate oldest multi offset → IsXidNumber oldest × IsFullMulti multi }
+        ensures multi { (multi : ℕ) → (offset : ℕ) → (members : List Member)
+            → self.now ≡ records.Multi multi offset members → IsFullMulti multi }
+    {
+        match self {
+            Rec::Truncate { oldest, multi, .. } => {
+                let _oldest = oldest.number();
+                let _multi = multi.number();
+            }
+            Rec::Multi { multi, .. } => {
+                let _multi = multi.number();
+            }
+            _ => {}
         }
     }
 }

@@ -1,8 +1,7 @@
-use Rattle.std.proofs.Common.{◌≡◌, ◌<◌, ◌↔◌, ℕ, List, Some, length, map, ap, sym, subst, arith}
+use Rattle.std.proofs.Common.{◌≡◌, ◌<◌, ◌↔◌, List, Some, length, map, sym, subst, arith}
 use Rattle.std.specs.List.{Contains, slice_get}
 use Rattle.std.proofs.lemmas.List.{length-map}
 use Rattle.std.proofs.lemmas.Option.{slice_get_within}
-use Rattle.tx_events.specs.declared.event.By.{By}
 use Rattle.tx_events.specs.Events.{by_of}
 use Rattle.place_columns.specs.declared.lines.LineAt.{LineAt}
 use Rattle.place_columns.specs.Lined.{Numbered, bys_of, places_of}

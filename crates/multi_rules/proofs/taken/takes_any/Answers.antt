@@ -1,4 +1,4 @@
-use Rattle.std.proofs.Common.{◌++◌, [], List, ap, get_or, sym, ◌∙◌}
+use Rattle.std.proofs.Common.{◌++◌, [], List, ap, get_or, ◌∙◌}
 use Rattle.std.specs.List.{cons_option}
 use Rattle.std.specs.Option.{is_some}
 use Rattle.multi_rules.specs.declared.taken.Taken.{Taken}

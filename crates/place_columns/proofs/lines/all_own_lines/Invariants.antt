@@ -1,4 +1,4 @@
-use Rattle.std.proofs.Common.{◌≡◌, take, map, List}
+use Rattle.std.proofs.Common.{◌≡◌, take, map}
 use Rattle.std.specs.Global.{Vec}
 use Rattle.place_columns.specs.declared.own.Own.{Own}
 use Rattle.place_columns.specs.declared.lines.OwnLine.{OwnLine}

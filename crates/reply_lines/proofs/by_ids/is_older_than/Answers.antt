@@ -3,7 +3,7 @@ use Rattle.tx_model.specs.Replies.{taken_by}
 use Rattle.report_law.specs.Steps.{IsTooOldFor}
 use Rattle.report_law.proofs.FrontsAtEvents.{too_old_whole}
 use Rattle.reply_lines.specs.At.{base_of, history_of, round_of}
-use Rattle.reply_lines.proofs.Spots.{asked, fits, lift, taken_there, within_of}
+use Rattle.reply_lines.proofs.Spots.{fits, lift, taken_there, within_of}
 use Rattle.reply_lines.proofs.by_ids.is_older_than.Goals as goal
 
 pub is_too_old_for-requires : goal.is_too_old_for-requires

@@ -3,7 +3,7 @@ use Rattle.tx_model.specs.Replies.{taken_by}
 use Rattle.report_law.specs.Steps.{IsSeen}
 use Rattle.report_law.proofs.FrontsAtEvents.{seen_whole}
 use Rattle.reply_lines.specs.At.{base_of, history_of}
-use Rattle.reply_lines.proofs.Spots.{asked, lift, taken_there, within_of}
+use Rattle.reply_lines.proofs.Spots.{lift, taken_there, within_of}
 use Rattle.reply_lines.proofs.by_ids.sees.Goals as goal
 
 pub is_seen-requires : goal.is_seen-requires

@@ -154,7 +154,7 @@ module _ {S E : Type 0} where
 -- ---- sessions let in
 
 -- what a pass knows that was split off from one that has seen nothing
-pub new_knows : (start : Start) (v w : View Start Entry) (number : ℕ) (s : Session) → IsBase start.base → AreGivenBefore start → ((place : ℕ) → at v.seen place ≡ []) → w ≡ given (asking number v) → number < start.sessions → 3 + 4 * start.banks ≤ length w.seen
+pub new_knows : (start : Start) (v w : View Start Entry) (number : ℕ) (s : Session) → IsBase start.base → AreGivenBefore start → ((place : ℕ) → at v.seen place ≡ []) → w ≡ given (asking number v) → number < start.sessions → 5 + 4 * start.banks ≤ length w.seen
     → IsFresh s.levels → s.stage ≡ stages.Clear → s.unlinked ≡ None → s.making ≡ None → IsNew start w number s
 new_knows start v w number s base earlier unseen is known wide fresh stage unlinked making =
     let bare : (place : ℕ) → at w.seen place ≡ [] = λ place. ap (λ (u : View Start Entry). at u.seen place) is ∙ unseen place in record {

@@ -1,5 +1,5 @@
 -- Sessions that no thread runs: what they may do stays while others are let in and taken back.
-use Rattle.std.proofs.Common.{ℕ, ◌<◌, ◌≡◌, List, length, refl, sym, subst, arith}
+use Rattle.std.proofs.Common.{ℕ, ◌<◌, ◌≤◌, ◌≡◌, List, length, refl, sym, subst, arith}
 use Rattle.disk_core.specs.declared.log_disk.LogDisk as logs
 use Rattle.disk_core.specs.declared.page_disk.PageDisk as disks
 use Rattle.notes.specs.Lists.{Knows}
@@ -75,8 +75,8 @@ parked_later start v u n s m holds w name seen free may =
 
 module _ {H L P : Type 0} {l : logs.Ghosts L} {p : disks.Ghosts P} where
   -- a session that has done nothing may be let in under each name of a host that has seen nothing
-  pub new_parked : (hall : Hall H (Part L P l p) Entry Start) (host : Host L P l p) (n : ℕ) (s : Session) → IsHost hall host → HasSeenNothing host → Holds (view host.pass) n → n < host.cluster.sessions → IsNewSession s → IsParked hall host n s
-  new_parked hall host n s is unseen held below new =
+  pub new_parked : (hall : Hall H (Part L P l p) Entry Start) (host : Host L P l p) (n : ℕ) (s : Session) → IsHost hall host → 2 ≤ hall.posts → HasSeenNothing host → Holds (view host.pass) n → n < host.cluster.sessions → IsNewSession s → IsParked hall host n s
+  new_parked hall host n s is words unseen held below new =
       let start = start_of hall in
       let v = view host.pass in
       let base : IsBase start.base = subst (λ (b : Counters). IsBase b) (sym is.base) is.cluster.base in
@@ -84,6 +84,6 @@ module _ {H L P : Type 0} {l : logs.Ghosts L} {p : disks.Ghosts P} where
       record {
         held = held;
         below = below;
-        may = new_may_call start (given (asking n v)) n s (new_knows start v (given (asking n v)) n s base is.before unseen refl (omega (arith, below, is.sessions)) (omega (arith, is.own.wide, is.laid)) fresh new.1 new.2 new.3);
+        may = new_may_call start (given (asking n v)) n s (new_knows start v (given (asking n v)) n s base is.before unseen refl (omega (arith, below, is.sessions)) (omega (arith, is.own.wide, is.laid, words)) fresh new.1 new.2 new.3);
         few = omega (arith, fresh.0);
       }

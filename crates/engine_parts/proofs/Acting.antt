@@ -1,7 +1,7 @@
 -- What a call did that had no event, or one.
-use Rattle.std.proofs.Common.{Bool, false, ◌≡◌, ℕ, ◌<◌, List, [], ◌∷◌, None, Some, sym, ap, subst, ◌∙◌, length, arith, append-nil}
+use Rattle.std.proofs.Common.{Bool, false, ◌≡◌, ℕ, List, [], ◌∷◌, None, Some, sym, ap, subst, ◌∙◌, length, arith, append-nil}
 use Rattle.std.specs.List.{filter}
-use Rattle.notes.specs.Lists.{Knows, at}
+use Rattle.notes.specs.Lists.{at}
 use Rattle.notes.proofs.Growing.{begins_same}
 use Rattle.tx_events.specs.declared.event.Event.{Event}
 use Rattle.tx_events.specs.declared.refusal.Refusal.{Refusal}
@@ -14,8 +14,7 @@ use Rattle.tx_model.specs.CommandEvents.{HasEvents}
 use Rattle.tx_model.specs.Stance.{Stance, after}
 use Rattle.tx_core.specs.declared.entry.Entry.{Entry}
 use Rattle.tx_core.specs.declared.entry.Start.{Start}
-use Rattle.tx_core.specs.EngineInvariant.{EngineInvariant}
-use Rattle.tx_core.specs.Entries.{event_of, history, session_of}
+use Rattle.tx_core.specs.Entries.{asks_in, event_of, history}
 use Rattle.tx_core.specs.Locks.{proc_lock}
 use Rattle.tx_model.specs.Replies.{alone}
 use Rattle.engine_parts.proofs.Touching.{any_answer, no_multis}
@@ -25,58 +24,54 @@ use Rattle.engine_parts.specs.declared.session.Session.{Session}
 use Rattle.engine_parts.specs.declared.session.Stage.{Stage}
 use Rattle.engine_parts.specs.Adding.{IsPlain, MayLeave}
 use Rattle.engine_parts.specs.Answers.{Acted, MayAnswer, touches_multis}
-use Rattle.engine_parts.specs.Holds.{Knowledge, Learns, Leaves}
+use Rattle.engine_parts.specs.Holds.{EntersProc, Knowledge, Leaves}
 use Rattle.engine_parts.specs.Sessions.{IsAt, by_at, stance_of}
 use Rattle.life_law.specs.Refused.{by_standing, refused_by}
-use Rattle.engine_parts.proofs.Adding.{adds_nothing, event_plain, plain_leaves, section_added}
-use Rattle.engine_parts.proofs.Going.{own_events}
+use Rattle.engine_parts.proofs.Adding.{adds_nothing, event_plain, plain_leaves}
 use Rattle.engine_parts.proofs.Refusing.{refused_leaves}
 use Rattle.engine_parts.specs.Stages.{pending_in}
-use Rattle.engine_parts.proofs.Leaving.{Added, event_added, grown_left, grows_then, history_same}
-use Rattle.engine_parts.proofs.Stepping.{no_multi, own_multis_left}
+use Rattle.engine_parts.proofs.Sectioning.{proc_added, proc_event, proc_quiet}
 
--- with one critical section at most, which had no event
-pub acted_looked : {tells : Bool} (start : Start) (v u w : Knowledge) (n lock : ℕ) (s : Session) (s' : Stance) (stage : Stage) (command : Command) (reply : Reply) (e : Entry) → IsAt start v n s → EngineInvariant start u.seen → Learns v u → lock < length v.seen → event_of e ≡ None → multi_of e ≡ None → e.by ≡ by_at n s.levels.commands → IsPlain lock e.kind → Leaves start lock e u w
+-- with one critical section, of the ProcArray, which had no event
+pub acted_looked : {tells : Bool} (start : Start) (v u w : Knowledge) (n : ℕ) (s : Session) (s' : Stance) (stage : Stage) (command : Command) (reply : Reply) (e : Entry) → IsAt start v n s → EntersProc start (by_at n s.levels.commands) v u → event_of e ≡ None → multi_of e ≡ None → asks_in e ≡ [] → e.by ≡ by_at n s.levels.commands → IsPlain proc_lock e.kind → Leaves start proc_lock e u w
     → HasEvents (by_at n s.levels.commands) (stance_of s) command reply [] → touches_multis command ≡ false → MayAnswer tells start w.seen (alone (history v.seen) (history w.seen)) (by_at n s.levels.commands) (stance_of s) stage command reply → by_standing reply ≡ refused_by command (stance_of s) (pending_in stage) → after (stance_of s) s.levels.commands command reply [] ≡ s'
     → Acted tells start (by_at n s.levels.commands) (stance_of s) s' stage command reply v.seen w.seen
-acted_looked {tells = tells} start v u w n lock s s' stage command reply e a k learns inside looks none mine plain l fitting untouched allowed standing left =
-    let long = learns.long in
-    let there : lock < length u.seen = omega arith in
-    let knows : Knows session_of n v.seen u.seen = subst (λ z. Knows session_of z v.seen u.seen) a.name learns.knows in
+acted_looked {tells = tells} start v u w n s s' stage command reply e a entered looks none asks mine plain l fitting untouched allowed standing left =
+    let went = proc_quiet start v u w n s e a entered looks none asks l in
     record {
-      grows = grows_then v.seen u.seen w.seen learns.knows.grows (grown_left start u w lock e there l);
+      grows = went.on.grows;
       added = [];
-      own = ap (filter (is_of n)) (history_same start u w lock e looks there l) ∙ (own_events start n v.seen u.seen k knows ∙ sym (append-nil (filter (is_of n) (history v.seen))));
+      own = went.on.own;
       each = tt;
       fitting = fitting;
       multis = [];
-      own_multi = own_multis_left start v u w n lock s e a k learns inside none l ∙ sym (append-nil (own_multis n v.seen));
+      own_multi = went.on.multis ∙ sym (append-nil (own_multis n v.seen));
       each_multi = tt;
       fitting_multi = no_multis start v.seen w.seen (by_at n s.levels.commands) command reply untouched;
-      adds = section_added start v u w lock e (by_at n s.levels.commands) (MayLeave command (stance_of s) stage (open_ids n (history v.seen)) reply) a.name learns inside l mine (plain_leaves command (stance_of s) stage (open_ids n (history v.seen)) reply lock e.kind plain);
+      adds = proc_added start v u w n s e (MayLeave command (stance_of s) stage (open_ids n (history v.seen)) reply) a entered (λ number. tt) l mine (plain_leaves command (stance_of s) stage (open_ids n (history v.seen)) reply proc_lock e.kind plain);
       allowed = any_answer tells start v.seen w.seen (by_at n s.levels.commands) (stance_of s) stage command reply untouched allowed;
       standing = standing;
       left = left;
     }
 
 -- with one critical section, of the ProcArray, which had this event
-pub acted_event : {tells : Bool} (start : Start) (v u w : Knowledge) (n : ℕ) (s : Session) (s' : Stance) (command : Command) (reply : Reply) (e : Entry) (event : Event) → IsAt start v n s → EngineInvariant start u.seen → Learns v u → event_of e ≡ Some event → by_of event ≡ by_at n s.levels.commands → e.by ≡ by_at n s.levels.commands → Leaves start proc_lock e u w
+pub acted_event : {tells : Bool} (start : Start) (v u w : Knowledge) (n : ℕ) (s : Session) (s' : Stance) (command : Command) (reply : Reply) (e : Entry) (event : Event) → IsAt start v n s → EntersProc start (by_at n s.levels.commands) v u → event_of e ≡ Some event → by_of event ≡ by_at n s.levels.commands → asks_in e ≡ [] → e.by ≡ by_at n s.levels.commands → Leaves start proc_lock e u w
     → HasEvents (by_at n s.levels.commands) (stance_of s) command reply (event ∷ []) → touches_multis command ≡ false → MayAnswer tells start w.seen (alone (history v.seen) (history w.seen)) (by_at n s.levels.commands) (stance_of s) s.stage command reply → by_standing reply ≡ refused_by command (stance_of s) (pending_in s.stage) → after (stance_of s) s.levels.commands command reply (given (event ∷ [])) ≡ s'
     → Acted tells start (by_at n s.levels.commands) (stance_of s) s' s.stage command reply v.seen w.seen
-acted_event {tells = tells} start v u w n s s' command reply e event a k learns is own mine l fitting untouched allowed standing left =
+acted_event {tells = tells} start v u w n s s' command reply e event a entered is own asks mine l fitting untouched allowed standing left =
     let by = by_at n s.levels.commands in
-    let d : Added by event v.seen w.seen = event_added start v u w by e event a.name k learns is own (let f = a.wide in omega arith) l in
+    let went = proc_event start v u w by s e event a entered is own asks l in
     record {
-      grows = d.grows;
+      grows = went.on.grows;
       added = event ∷ [];
-      own = d.own;
+      own = went.on.own;
       each = (own, tt);
       fitting = fitting;
       multis = [];
-      own_multi = own_multis_left start v u w n proc_lock s e a k learns (let f = a.wide in omega arith) (no_multi e event is) l ∙ sym (append-nil (own_multis n v.seen));
+      own_multi = went.on.multis ∙ sym (append-nil (own_multis n v.seen));
       each_multi = tt;
       fitting_multi = no_multis start v.seen w.seen by command reply untouched;
-      adds = section_added start v u w proc_lock e by (MayLeave command (stance_of s) s.stage (open_ids n (history v.seen)) reply) a.name learns (let f = a.wide in omega arith) l mine (plain_leaves command (stance_of s) s.stage (open_ids n (history v.seen)) reply proc_lock e.kind (event_plain proc_lock e.kind event is));
+      adds = proc_added start v u w n s e (MayLeave command (stance_of s) s.stage (open_ids n (history v.seen)) reply) a entered (λ number. tt) l mine (plain_leaves command (stance_of s) s.stage (open_ids n (history v.seen)) reply proc_lock e.kind (event_plain proc_lock e.kind event is));
       allowed = any_answer tells start v.seen w.seen by (stance_of s) s.stage command reply untouched allowed;
       standing = standing;
       left = left;

@@ -24,6 +24,7 @@ pub mod Calling
 pub mod Pending
 pub mod Beholding
 pub mod Stepping
+pub mod Publishing
 pub mod Newness
 pub mod Placing
 pub mod Sectioning

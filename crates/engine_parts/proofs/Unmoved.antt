@@ -20,7 +20,7 @@ use Rattle.tx_core.specs.declared.entry.Kind.{Kind}
 use Rattle.tx_core.specs.declared.entry.Kind.TheVariants as kinds
 use Rattle.tx_core.specs.declared.entry.Start.{Start}
 use Rattle.tx_core.specs.Entries.{history}
-use Rattle.tx_core.specs.Locks.{proc_lock}
+use Rattle.tx_core.specs.Locks.{oldest_word, proc_lock}
 use Rattle.tx_core.proofs.Lasting.{history_grows}
 use Rattle.engine_parts.specs.declared.part.Part.{Part}
 use Rattle.engine_parts.specs.declared.session.Caller.{Caller}
@@ -30,7 +30,7 @@ use Rattle.engine_parts.specs.Answers.{MayAnswer, touches_multis}
 use Rattle.tx_core.specs.OwnMultis.{own_multis}
 use Rattle.engine_parts.proofs.Touching.{any_answer, no_multis}
 use Rattle.engine_parts.specs.Calls.{IsCounted, MayRun, Ran, next_command}
-use Rattle.engine_parts.specs.Holds.{Knowledge, Section}
+use Rattle.engine_parts.specs.Holds.{Knowledge, ProcSection}
 use Rattle.engine_parts.specs.Makings.{has_more_multis}
 use Rattle.engine_parts.specs.Sessions.{IsAt, IsReady, MayCall, by_at, inner_id, look_by, stance_of}
 use Rattle.engine_parts.specs.Stages.{IsInStage, pending_in}
@@ -41,15 +41,15 @@ use Rattle.engine_parts.proofs.Calling.{may_counted, ran_counted}
 use Rattle.engine_parts.proofs.Going.{stage_later}
 use Rattle.engine_parts.proofs.KeptMaking.{plain_making}
 use Rattle.engine_parts.proofs.Refusing.{keeps_stage}
-use Rattle.engine_parts.proofs.Sectioning.{shared_adds}
+use Rattle.engine_parts.proofs.Sectioning.{proc_section_adds}
 
 -- the history is no shorter behind steps without an event
 pub went_longer : (n : ℕ) (lists more : List (List Entry)) → WentOn n [] lists more → length (history lists) ≤ length (history more)
 went_longer n lists more went = begins_length (history lists) (history more) (history_grows lists more went.on.grows)
 
 -- a look at the ProcArray
-pub look_adds : (start : Start) (v w : Knowledge) (n : ℕ) (s : Session) (May : ℕ → Kind → Type 0) → IsAt start v n s → May proc_lock kinds.Look → Section start proc_lock (look_by n s) v w → Adds (by_at n s.levels.commands) May v.seen w.seen
-look_adds start v w n s May a may section = shared_adds start v w proc_lock (look_by n s) (by_at n s.levels.commands) s May (omega arith) a section refl may
+pub look_adds : (start : Start) (v w : Knowledge) (n : ℕ) (s : Session) (May : ℕ → Kind → Type 0) → IsAt start v n s → ((number : ℕ) → May (oldest_word start) (kinds.Post number)) → May proc_lock kinds.Look → ProcSection start (look_by n s) v w → Adds (by_at n s.levels.commands) May v.seen w.seen
+look_adds start v w n s May a posts may section = proc_section_adds start v w n s (look_by n s) a refl section May posts may
 
 -- a session that may call may call again behind such steps
 pub call_read : {added : List Event} (start : Start) (v w : Knowledge) (n n' : ℕ) (s s' : Session) → MayCall start v n s → WentOn n added v.seen w.seen → n' ≡ n → s' ≡ s → IsReady start w n' s' → MayCall start w n' s'

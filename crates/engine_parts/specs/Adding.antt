@@ -33,6 +33,10 @@ pub record AddsTo (by : By) (May : Kind → Type 0) (es more : List Entry) : Typ
 pub record Adds (by : By) (May : ℕ → Kind → Type 0) (lists more : List (List Entry)) : Type 0 where
   pub each : (lock : ℕ) → AddsTo by (May lock) (at lists lock) (at more lock)
 
+-- at none
+abbrev pub AddsNothing : By → List (List Entry) → List (List Entry) → Type 0
+AddsNothing by lists more = Adds by (λ lock kind. ⊥) lists more
+
 -- whether pages may be cut, and whether a fault may tell of a cut that it stopped
 abbrev pub MayCut : Bool → Type 0
 MayCut true = Unit {0}

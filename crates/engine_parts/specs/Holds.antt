@@ -1,12 +1,17 @@
 -- What a session learns at a lock, and leaves there.
-use Rattle.std.specs.Prelude.{◌≡◌, ℕ, length}
+use Rattle.std.specs.Prelude.{◌≡◌, ◌⊎◌, ℕ, length}
 use Rattle.hall.specs.declared.view.View.{View}
 use Rattle.hall.specs.declared.view.Stage.TheVariants.{Free, Inside}
 use Rattle.notes.specs.Lists.{Knows, add}
+use Rattle.tx_events.specs.declared.event.By.{By}
+use Rattle.tx_events.specs.Horizon.{oldest_id}
 use Rattle.tx_core.specs.declared.entry.Entry.{Entry}
+use Rattle.tx_core.specs.declared.entry.Kind.TheVariants as kinds
 use Rattle.tx_core.specs.declared.entry.Start.{Start}
-use Rattle.tx_core.specs.Entries.{session_of}
+use Rattle.tx_core.specs.Entries.{history, session_of}
 use Rattle.tx_core.specs.EngineInvariant.{EngineInvariant}
+use Rattle.tx_core.specs.Locks.{oldest_word, proc_lock}
+use Rattle.tx_core.specs.PostsFollow.{IsShown}
 
 -- what a pass knows of the lists of all locks
 abbrev pub Knowledge : Type 0
@@ -39,3 +44,33 @@ pub record Section (start : Start) (lock : ℕ) (e : Entry) (v w : Knowledge) : 
   pub within : Knowledge
   pub enters : Enters start lock v within
   pub leaves : Leaves start lock e within w
+
+-- ---- the ProcArray
+
+-- the entry that this command published a number
+abbrev pub post_of : By → ℕ → Entry
+post_of by number = record { by = by; kind = kinds.Post number }
+
+-- this command published the oldest id
+pub record Publishes (start : Start) (by : By) (v w : Knowledge) : Type 0 where
+  pub seen : w.seen ≡ add v.seen (oldest_word start) (post_of by (oldest_id start.base.oldest (history v.seen)))
+  pub kept : EngineInvariant start w.seen
+  pub stage : w.stage ≡ v.stage
+  pub name : w.name ≡ v.name
+  pub holds : w.holds ≡ v.holds
+
+-- The ProcArray's lock was entered. Where the word didn't show the oldest id, this command published it.
+pub record EntersProc (start : Start) (by : By) (v w : Knowledge) : Type 0 where
+  pub found : Knowledge
+  pub enters : Enters start proc_lock v found
+  pub publishes : (w ≡ found) ⊎ Publishes start by found w
+  pub shown : IsShown start w.seen
+  pub kept : EngineInvariant start w.seen
+  pub inside : w.stage ≡ Inside proc_lock
+  pub long : length w.seen ≡ length v.seen
+
+-- one critical section of the ProcArray, with this entry
+pub record ProcSection (start : Start) (e : Entry) (v w : Knowledge) : Type 0 where
+  pub within : Knowledge
+  pub enters : EntersProc start e.by v within
+  pub leaves : Leaves start proc_lock e within w

@@ -21,7 +21,7 @@ pub record IsNew (start : Start) (v : Knowledge) (n : ℕ) (s : Session) : Type 
   pub name : v.name ≡ n
   pub known : n < start.sessions
   pub free : v.stage ≡ Free
-  pub wide : 3 + 4 * start.banks ≤ length v.seen
+  pub wide : 5 + 4 * start.banks ≤ length v.seen
   pub fresh : IsFresh s.levels
   pub stage : s.stage ≡ stages.Clear
   pub unlinked : s.unlinked ≡ None

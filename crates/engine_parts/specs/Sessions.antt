@@ -63,7 +63,7 @@ pub record IsAt (start : Start) (v : Knowledge) (n : ℕ) (s : Session) : Type 0
   pub kept : EngineInvariant start v.seen
   pub name : v.name ≡ n
   pub known : n < start.sessions
-  pub wide : 3 + 4 * start.banks ≤ length v.seen
+  pub wide : 5 + 4 * start.banks ≤ length v.seen
   pub turns : (lock : ℕ) → IsInTurn start (at v.seen lock) (by_at n s.levels.commands)
   pub stands : levels.Stands start.base (history v.seen) n s.levels.commands s.levels
   pub clear : may_be_recorded s.stage ≡ false → HasNoRecord v.seen n

@@ -6,14 +6,15 @@ ghost use Rattle.notes.specs.Lists.{at};
 ghost use Rattle.tx_core.specs.EngineInvariant.{EngineInvariant};
 ghost use Rattle.tx_core.specs.Entries.{session_of};
 ghost use Rattle.tx_core.specs.Locks.{proc_lock};
-ghost use Rattle.engine_parts.specs.Holds.{Enters, Leaves};
+ghost use Rattle.engine_parts.specs.Holds.{EntersProc, Leaves};
 ghost use Rattle.engine_parts.specs.Law.{MayKeep};
 ghost use Rattle.engine_parts.specs.Stand.{ProcStands};
-ghost use Rattle.engine_parts.specs.Sessions.{IsAt, IsReady};
+ghost use Rattle.engine_parts.specs.Sessions.{IsAt, IsReady, by_at};
 
 use crate::gate::Passing;
 use crate::hold::{enter, leave};
 use crate::law::EngineLaw;
+use crate::oldest_word::publish_oldest;
 use crate::part::Part;
 use crate::session::{Caller, knock};
 use disk_core::{LogDisk, PageDisk};
@@ -21,7 +22,8 @@ use hall::{Hall, Note};
 use proc_table::ProcTable;
 use tx_core::Entry;
 
-/// Waits for the ProcArray (ProcArrayLock and XidGenLock, of which this project has one).
+/// Waits for the ProcArray (ProcArrayLock and XidGenLock, of which this project has one). Where the published oldest id is
+/// older than the one that is found there, that one is published.
 pub fn enter_proc<R: Passing, L: LogDisk, P: PageDisk>(
     rt: &R,
     hall: &Hall<EngineLaw<L, P>>,
@@ -32,7 +34,8 @@ pub fn enter_proc<R: Passing, L: LogDisk, P: PageDisk>(
     requires ready { IsReady (start_of hall.now) (view caller.old.pass) caller.old.number caller.old.session }
     ensures own { IsOf hall.now caller.new.pass }
     ensures cell { caller.new.pass.cell ≡ proc_lock }
-    ensures entered { Enters (start_of hall.now) proc_lock (view caller.old.pass) (view caller.new.pass) }
+    ensures entered { EntersProc (start_of hall.now) (by_at caller.old.number caller.old.session.levels.commands)
+        (view caller.old.pass) (view caller.new.pass) }
     ensures at { IsAt (start_of hall.now) (view caller.new.pass) caller.new.number caller.new.session }
     ensures same { (caller.new.session ≡ caller.old.session) × (caller.new.number ≡ caller.old.number) }
     ensures stands { ProcStands (start_of hall.now) result.value (at (view caller.new.pass).seen proc_lock) }
@@ -42,6 +45,7 @@ pub fn enter_proc<R: Passing, L: LogDisk, P: PageDisk>(
     let Part::Proc(table) = part else {
         unreachable!()
     };
+    publish_oldest(hall, caller, &table);
     table
 }
 

@@ -14,6 +14,7 @@ use Rattle.tx_core.specs.declared.entry.Kind.TheVariants as kinds
 use Rattle.tx_core.specs.declared.entry.Start.{Start}
 use Rattle.tx_core.specs.Entries.{appended, event_of, history}
 use Rattle.tx_core.specs.Locks.{proc_lock}
+use Rattle.tx_core.specs.PostsFollow.{IsShown}
 use Rattle.tx_core.specs.ProgramOrder.{IsInTurn}
 use Rattle.tx_core.proofs.EventLaws.{oldest_law}
 use Rattle.session_levels.specs.Stands.{Stands}
@@ -39,8 +40,8 @@ raised_here start u old oldest s from to = (
   subst (λ z. oldest ≤ z) (λ j. oldest_xmin (s.base j).next (s.events j)) to,
 )
 
-pub may_announce : (start : Start) (seen : List (List Entry)) (by : By) (oldest : ℕ) (e : Entry) → e ≡ oldest_entry by oldest → (oldest_id start.base.oldest (history seen) ≤ oldest) × (oldest ≤ oldest_xmin start.base.next (history seen)) → IsInTurn start (at seen proc_lock) by → MayKeep start seen proc_lock e
-may_announce start seen by oldest e is rule turn = subst (MayKeep start seen proc_lock) (sym is) (λ lists k knows inside whole. oldest_law start seen by oldest rule lists k knows inside whole turn)
+pub may_announce : (start : Start) (seen : List (List Entry)) (by : By) (oldest : ℕ) (e : Entry) → e ≡ oldest_entry by oldest → IsShown start seen → (oldest_id start.base.oldest (history seen) ≤ oldest) × (oldest ≤ oldest_xmin start.base.next (history seen)) → IsInTurn start (at seen proc_lock) by → MayKeep start seen proc_lock e
+may_announce start seen by oldest e is shown rule turn = subst (MayKeep start seen proc_lock) (sym is) (λ lists k knows inside whole. oldest_law start seen by oldest shown rule lists k knows inside whole turn)
 
 -- the session stands as before
 pub ready_announced : (start : Start) (v w : Knowledge) (n n' : ℕ) (s s' : Session) (oldest : ℕ) (e : Entry) → IsAt start v n s → e ≡ oldest_entry (by_at n s.levels.commands) oldest → s' ≡ s → n' ≡ n → Leaves start proc_lock e v w → IsReady start w n' s'

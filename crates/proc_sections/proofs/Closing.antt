@@ -17,6 +17,7 @@ use Rattle.tx_core.specs.declared.entry.Start.{Start}
 use Rattle.tx_core.specs.CommitRecordsExact.{HasNoRecord}
 use Rattle.tx_core.specs.Entries.{appended, IsAppended, IsMarked, event_of, history}
 use Rattle.tx_core.specs.Locks.{proc_lock}
+use Rattle.tx_core.specs.PostsFollow.{IsShown}
 use Rattle.tx_core.specs.ProgramOrder.{IsInTurn}
 use Rattle.tx_core.proofs.EventLaws.{abort_event_law, commit_event_law}
 use Rattle.tx_core.proofs.Lasting.{appended_grows, marked_grows}
@@ -55,12 +56,12 @@ record_for start ends.Commit v u n top subs s m a g split end =
     appended_grows v.seen u.seen n (records.Commit top subs) g (subst (λ (z : ℕ × List ℕ). IsAppended v.seen n (records.Commit z.0 z.1)) (λ j. (heads r.top top r.subs subs same j, tails r.top top r.subs subs same j)) r.appended)
 record_for start ends.Abort v u n top subs s m a g split end = a.clear end.recorded
 
-pub may_add_end : (start : Start) (seen : List (List Entry)) (how : XactEnd) (by : By) (top : ℕ) (subs : List ℕ) (e : Entry) → e ≡ end_entry how by top → open_ids by.session (history seen) ≡ top ∷ subs → is_top (history seen) top ≡ true → RecordFor how seen by.session top subs
+pub may_add_end : (start : Start) (seen : List (List Entry)) (how : XactEnd) (by : By) (top : ℕ) (subs : List ℕ) (e : Entry) → e ≡ end_entry how by top → IsShown start seen → open_ids by.session (history seen) ≡ top ∷ subs → is_top (history seen) top ≡ true → RecordFor how seen by.session top subs
     → ((id : ℕ) → Contains (top ∷ subs) id → IsMarked start seen id (end_state how)) → IsInTurn start (at seen proc_lock) by → MayKeep start seen proc_lock e
-may_add_end start seen ends.Commit by top subs e is opened root rec marked turn =
-    subst (MayKeep start seen proc_lock) (sym is) (λ lists k knows inside whole. commit_event_law start seen by top subs (may_end start.base (history seen) by top subs ends.Commit opened root) rec marked lists k knows inside whole turn)
-may_add_end start seen ends.Abort by top subs e is opened root rec marked turn =
-    subst (MayKeep start seen proc_lock) (sym is) (λ lists k knows inside whole. abort_event_law start seen by top (may_end start.base (history seen) by top subs ends.Abort opened root) rec (λ x c. marked x (subst (λ (l : List ℕ). Contains l x) opened c)) lists k knows inside whole turn)
+may_add_end start seen ends.Commit by top subs e is shown opened root rec marked turn =
+    subst (MayKeep start seen proc_lock) (sym is) (λ lists k knows inside whole. commit_event_law start seen by top subs shown (may_end start.base (history seen) by top subs ends.Commit opened root) rec marked lists k knows inside whole turn)
+may_add_end start seen ends.Abort by top subs e is shown opened root rec marked turn =
+    subst (MayKeep start seen proc_lock) (sym is) (λ lists k knows inside whole. abort_event_law start seen by top shown (may_end start.base (history seen) by top subs ends.Abort opened root) rec (λ x c. marked x (subst (λ (l : List ℕ). Contains l x) opened c)) lists k knows inside whole turn)
 
 -- the states that were set stand as others go on
 pub marked_on : (start : Start) (seen lists : List (List Entry)) (opened : List ℕ) (top : ℕ) (subs : List ℕ) (how : XactEnd) → Grows seen lists → opened ≡ top ∷ subs → ((id : ℕ) → Contains opened id → IsMarked start seen id (end_state how)) → (id : ℕ) → Contains (top ∷ subs) id → IsMarked start lists id (end_state how)

@@ -25,6 +25,7 @@ use Rattle.tx_core.specs.Entries.{IsAppended, IsMarked, appended, event_of, hist
 use Rattle.tx_core.specs.Locks.{proc_lock}
 use Rattle.tx_core.specs.PagesBeforeIds.{IsMade}
 use Rattle.tx_core.specs.ParentsFollow.{IsGivenBelow}
+use Rattle.tx_core.specs.PostsFollow.{IsShown}
 use Rattle.tx_core.specs.ProgramOrder.{IsInTurn}
 use Rattle.tx_core.proofs.EventLaws.{undo_event_law}
 use Rattle.tx_core.proofs.Stepping.{appended_cases}
@@ -88,10 +89,10 @@ closed_aborted start seen n opened id is sp aborted x c e =
     let past : nat_le id x ≡ true = sym (all_has (λ y. is_inside (history seen) id y ≡ nat_le id y) opened x sp.2 (contains_true opened x here)) ∙ contains_true (enclosing (history seen) x) id e in
     aborted x here (at_or_past id x past)
 
-pub may_add_undo : (start : Start) (seen : List (List Entry)) (by : By) (opened : List ℕ) (id : ℕ) (e : Entry) → e ≡ undo_entry by id → open_ids by.session (history seen) ≡ opened → IsSavepointIn (history seen) opened id → HasNoRecord seen by.session → HasNoAbortRecord seen by.session → AreRolledBack start seen opened id → IsInTurn start (at seen proc_lock) by → MayKeep start seen proc_lock e
-may_add_undo start seen by opened id e is opened_is sp none unaborted aborted turn =
+pub may_add_undo : (start : Start) (seen : List (List Entry)) (by : By) (opened : List ℕ) (id : ℕ) (e : Entry) → e ≡ undo_entry by id → IsShown start seen → open_ids by.session (history seen) ≡ opened → IsSavepointIn (history seen) opened id → HasNoRecord seen by.session → HasNoAbortRecord seen by.session → AreRolledBack start seen opened id → IsInTurn start (at seen proc_lock) by → MayKeep start seen proc_lock e
+may_add_undo start seen by opened id e is shown opened_is sp none unaborted aborted turn =
     subst (MayKeep start seen proc_lock) (sym is)
-    (λ lists k knows inside whole. undo_event_law start seen by id (subst (λ (l : List ℕ). Contains l id) (sym opened_is) sp.0, sp.1) none unaborted (closed_aborted start seen by.session opened id opened_is sp aborted) lists k knows inside whole turn)
+    (λ lists k knows inside whole. undo_event_law start seen by id shown (subst (λ (l : List ℕ). Contains l id) (sym opened_is) sp.0, sp.1) none unaborted (closed_aborted start seen by.session opened id opened_is sp aborted) lists k knows inside whole turn)
 
 -- ---- what stays
 

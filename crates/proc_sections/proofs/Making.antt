@@ -2,7 +2,7 @@
 use Rattle.std.proofs.Common.{max, None, ◌<◌, Bool, ◌≡◌, ℕ, ◌%◌, ◌≤◌, List, [], ◌∷◌, ◌++◌, refl, append-nil, sym, ap, subst, ◌∙◌, inl, inr, ⊎_elim, length, arith, take, drop}
 use Rattle.std.proofs.lemmas.List.{take-append-drop}
 use Rattle.std.proofs.lemmas.List.Elements.{filter_map-append}
-use Rattle.notes.specs.Lists.{Knows, at}
+use Rattle.notes.specs.Lists.{Grows, at}
 use Rattle.notes.proofs.Growing.{at_here}
 use Rattle.tx_events.specs.declared.event.By.{By}
 use Rattle.tx_events.specs.declared.event.Event.{Event}
@@ -15,7 +15,7 @@ use Rattle.tx_core.specs.declared.entry.Entry.{Entry}
 use Rattle.tx_core.specs.declared.entry.Kind.TheVariants as kinds
 use Rattle.tx_core.specs.declared.entry.Start.{Start}
 use Rattle.tx_core.specs.EngineInvariant.{EngineInvariant}
-use Rattle.tx_core.specs.Entries.{Stands, event_of, events_in, history, session_of}
+use Rattle.tx_core.specs.Entries.{Stands, event_of, events_in, history}
 use Rattle.tx_core.specs.Locks.{proc_lock, subtrans_lock, subtrans_lock_of, subtrans_page, xact_lock, xact_lock_of, xact_page}
 use Rattle.tx_core.specs.PagesBeforeIds.{IsMade, IsTold}
 use Rattle.tx_core.specs.ProgramOrder.{IsInTurn}
@@ -88,8 +88,8 @@ untold start t u w id e inside none l s past told =
     omega arith
 
 -- an id that isn't past the next one isn't later
-pub next_later : (start : Start) (n : ℕ) (seen lists : List (List Entry)) (id : ℕ) → Knows session_of n seen lists → id ≤ next_given start.base.next (history seen) → id ≤ next_given start.base.next (history lists)
-next_later start n seen lists id knows le = let up = given_more start.base (history seen) (history lists) (history_grows seen lists knows.grows) in omega arith
+pub next_later : (start : Start) (seen lists : List (List Entry)) (id : ℕ) → Grows seen lists → id ≤ next_given start.base.next (history seen) → id ≤ next_given start.base.next (history lists)
+next_later start seen lists id grows le = let up = given_more start.base (history seen) (history lists) (history_grows seen lists grows) in omega arith
 
 pub may_told : (start : Start) (seen : List (List Entry)) (by : By) (id : ℕ) (e : Entry) → e ≡ record { by = by; kind = kinds.Made id } → IsMade start seen id → id ≤ next_given start.base.next (history seen) → IsInTurn start (at seen proc_lock) by → MayKeep start seen proc_lock e
 may_told start seen by id e is made next turn = subst (MayKeep start seen proc_lock) (sym is) (λ lists k knows inside whole. made_law start seen by id made next lists k knows inside whole turn)

@@ -47,6 +47,7 @@ use Rattle.engine_parts.proofs.Made.{makes_left}
 use Rattle.tx_core.specs.MultiEntries.{multi_of}
 use Rattle.engine_parts.specs.Makings.{Makes}
 use Rattle.tx_core.proofs.Asking.{upheld_has}
+use Rattle.tx_core.specs.PostsFollow.{IsShown}
 use Rattle.tx_core.specs.RecordsFollow.{NeedsNamed}
 use Rattle.tx_core.specs.AbortRecordsExact.{HasNoAbortRecord}
 use Rattle.proc_sections.specs.Givings.{IsNamed, naming, unlinked_of}
@@ -58,9 +59,9 @@ pub giving_by : (by : By) (p : Option ℕ) (id : ℕ) → by_of (giving by p id)
 giving_by by None id = refl
 giving_by by (Some q) id = refl
 
-pub may_giving : (start : Start) (seen : List (List Entry)) (by : By) (parent : Option ℕ) (id : ℕ) (e : Entry) → e ≡ giving_entry by parent id → MayCome start.base (history seen) (giving by parent id) → IsMade start seen id × IsTold start (at seen proc_lock) id → HasNoRecord seen by.session → HasNoAbortRecord seen by.session → IsInTurn start (at seen proc_lock) by → MayKeep start seen proc_lock e
-may_giving start seen by None id e is may made none unaborted turn = subst (MayKeep start seen proc_lock) (sym is) (λ lists k knows inside whole. id_event_law start seen by id may made.0 made.1 lists k knows inside whole turn)
-may_giving start seen by (Some parent) id e is may made none unaborted turn = subst (MayKeep start seen proc_lock) (sym is) (λ lists k knows inside whole. sub_event_law start seen by parent id may made.0 made.1 none unaborted lists k knows inside whole turn)
+pub may_giving : (start : Start) (seen : List (List Entry)) (by : By) (parent : Option ℕ) (id : ℕ) (e : Entry) → e ≡ giving_entry by parent id → IsShown start seen → MayCome start.base (history seen) (giving by parent id) → IsMade start seen id × IsTold start (at seen proc_lock) id → HasNoRecord seen by.session → HasNoAbortRecord seen by.session → IsInTurn start (at seen proc_lock) by → MayKeep start seen proc_lock e
+may_giving start seen by None id e is shown may made none unaborted turn = subst (MayKeep start seen proc_lock) (sym is) (λ lists k knows inside whole. id_event_law start seen by id shown may made.0 made.1 lists k knows inside whole turn)
+may_giving start seen by (Some parent) id e is shown may made none unaborted turn = subst (MayKeep start seen proc_lock) (sym is) (λ lists k knows inside whole. sub_event_law start seen by parent id shown may made.0 made.1 none unaborted lists k knows inside whole turn)
 
 no_record : (e : Entry) (rec : Rec) → appended e ≡ None → e.kind ≡ kinds.Append rec → ⊥
 no_record e rec none is = cc

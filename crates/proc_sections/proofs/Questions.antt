@@ -16,6 +16,7 @@ use Rattle.tx_core.specs.declared.entry.Kind.TheVariants as kinds
 use Rattle.tx_core.specs.declared.entry.Start.{Start}
 use Rattle.tx_core.specs.Entries.{appended, event_of, history}
 use Rattle.tx_core.specs.Locks.{proc_lock}
+use Rattle.tx_core.specs.PostsFollow.{IsShown}
 use Rattle.tx_core.specs.ProgramOrder.{IsInTurn}
 use Rattle.tx_core.proofs.EventLaws.{ask_law}
 use Rattle.session_levels.specs.Stands.{Stands}
@@ -34,8 +35,8 @@ use Rattle.proc_sections.specs.Askings.{IsAnswered}
 abbrev pub ask_entry : By → ℕ → Entry
 ask_entry by x = record { by = by; kind = kinds.Event (events.Ask by x) }
 
-pub may_ask : (start : Start) (seen : List (List Entry)) (by : By) (x : ℕ) (e : Entry) → e ≡ ask_entry by x → IsFullId x → IsInTurn start (at seen proc_lock) by → MayKeep start seen proc_lock e
-may_ask start seen by x e is full turn = subst (MayKeep start seen proc_lock) (sym is) (λ lists k knows inside whole. ask_law start seen by x full lists k knows inside whole turn)
+pub may_ask : (start : Start) (seen : List (List Entry)) (by : By) (x : ℕ) (e : Entry) → e ≡ ask_entry by x → IsShown start seen → IsFullId x → IsInTurn start (at seen proc_lock) by → MayKeep start seen proc_lock e
+may_ask start seen by x e is shown full turn = subst (MayKeep start seen proc_lock) (sym is) (λ lists k knows inside whole. ask_law start seen by x shown full lists k knows inside whole turn)
 
 -- the session stands as before
 pub ready_asked : (start : Start) (v w : Knowledge) (n n' : ℕ) (s s' : Session) (x : ℕ) (e : Entry) → IsAt start v n s → e ≡ ask_entry (by_at n s.levels.commands) x → s' ≡ s → n' ≡ n → Leaves start proc_lock e v w → IsReady start w n' s'

@@ -12,7 +12,7 @@ use Rattle.tx_core.specs.declared.entry.Start.{Start}
 use Rattle.tx_core.specs.Entries.{history}
 use Rattle.tx_core.specs.Locks.{proc_lock}
 use Rattle.engine_parts.specs.declared.session.Session.{Session}
-use Rattle.engine_parts.specs.Holds.{Knowledge, Section}
+use Rattle.engine_parts.specs.Holds.{Knowledge, ProcSection}
 use Rattle.engine_parts.specs.Sessions.{by_at, look_by}
 use Rattle.engine_parts.specs.Steps.{WentOn}
 
@@ -39,6 +39,6 @@ Announces start n s oldest lists more (Err r) =
 -- the critical section: its entry is the announcement, or a look
 abbrev pub AnnounceSection : {T : Type 0} → Start → ℕ → Session → ℕ → Knowledge → Knowledge → Result T Refusal
     → Type 0
-AnnounceSection start n s oldest v w (Ok done) = Section start proc_lock
+AnnounceSection start n s oldest v w (Ok done) = ProcSection start
     (record { by = by_at n s.levels.commands; kind = kinds.Event (announcement n s oldest) }) v w
-AnnounceSection start n s oldest v w (Err r) = Section start proc_lock (look_by n s) v w
+AnnounceSection start n s oldest v w (Err r) = ProcSection start (look_by n s) v w

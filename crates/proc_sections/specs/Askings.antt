@@ -14,7 +14,7 @@ use Rattle.tx_core.specs.declared.entry.Start.{Start}
 use Rattle.tx_core.specs.Entries.{history}
 use Rattle.tx_core.specs.Locks.{proc_lock}
 use Rattle.engine_parts.specs.declared.session.Session.{Session}
-use Rattle.engine_parts.specs.Holds.{Knowledge, Section}
+use Rattle.engine_parts.specs.Holds.{Knowledge, ProcSection}
 use Rattle.engine_parts.specs.Sessions.{by_at, look_by}
 use Rattle.engine_parts.specs.Steps.{WentOn}
 
@@ -39,5 +39,5 @@ AsksStatus start n s x lists more (Err none) = WentOn n [] lists more
 -- the critical section: its entry is the question, or a look
 abbrev pub AskSection : Start → ℕ → Session → ℕ → Knowledge → Knowledge → Result Asked Memory → Type 0
 AskSection start n s x v w (Ok asked) =
-    Section start proc_lock (record { by = by_at n s.levels.commands; kind = kinds.Event (question n s x) }) v w
-AskSection start n s x v w (Err none) = Section start proc_lock (look_by n s) v w
+    ProcSection start (record { by = by_at n s.levels.commands; kind = kinds.Event (question n s x) }) v w
+AskSection start n s x v w (Err none) = ProcSection start (look_by n s) v w

@@ -23,7 +23,7 @@ use Rattle.session_levels.specs.declared.session.Session as plain
 use Rattle.session_levels.specs.Stands.{last_of}
 use Rattle.engine_parts.specs.declared.session.Session.{Session}
 use Rattle.engine_parts.specs.declared.session.Unlinked.{Unlinked}
-use Rattle.engine_parts.specs.Holds.{Knowledge, Section}
+use Rattle.engine_parts.specs.Holds.{Knowledge, ProcSection}
 use Rattle.engine_parts.specs.Sessions.{by_at, look_by}
 use Rattle.engine_parts.specs.Steps.{WentOn}
 
@@ -77,9 +77,9 @@ GivesId start n s s' lists more (Err r) =
 -- the critical section: its entry is the event of the id that was given, or a look
 abbrev pub GiveSection : Start → ℕ → Session → Knowledge → Knowledge → Result Given Refusal → Type 0
 GiveSection start n s v w (Ok (gives.Id id warn)) =
-    Section start proc_lock (record { by = by_at n s.levels.commands; kind = kinds.Event (naming n s id) }) v w
-GiveSection start n s v w (Ok (gives.NeedPage id)) = Section start proc_lock (look_by n s) v w
-GiveSection start n s v w (Err r) = Section start proc_lock (look_by n s) v w
+    ProcSection start (record { by = by_at n s.levels.commands; kind = kinds.Event (naming n s id) }) v w
+GiveSection start n s v w (Ok (gives.NeedPage id)) = ProcSection start (look_by n s) v w
+GiveSection start n s v w (Err r) = ProcSection start (look_by n s) v w
 
 -- there is room for one id more
 pub record HasRoom (s : plain.Session) : Type 0 where

@@ -3,8 +3,7 @@ ghost use Rattle.std.specs.Prelude.{◌≡◌, ℕ, ◌+◌, ◌*◌, ◌≤◌,
 ghost use Rattle.hall.specs.Calls.{view, IsOf, start_of};
 ghost use Rattle.tx_events.specs.XactEnds.{end_event};
 ghost use Rattle.tx_core.specs.declared.entry.Kind.TheVariants as kinds;
-ghost use Rattle.tx_core.specs.Locks.{proc_lock};
-ghost use Rattle.engine_parts.specs.Holds.{Section};
+ghost use Rattle.engine_parts.specs.Holds.{ProcSection};
 ghost use Rattle.engine_parts.specs.Sessions.{MayCall, by_at};
 ghost use Rattle.proc_sections.specs.Endings.{HasEnded, MayEnd};
 
@@ -31,7 +30,7 @@ pub fn end_transaction<R: Passing, L: LogDisk, P: PageDisk>(
     ensures own { IsOf hall.now caller.new.pass }
     ensures may { MayCall (start_of hall.now) (view caller.new.pass) caller.new.number caller.new.session }
     ensures section { (top : ℕ) (subs : List ℕ) → caller.old.session.levels.open_ids.items ≡ top ∷ subs
-        → Section (start_of hall.now) proc_lock (record {
+        → ProcSection (start_of hall.now) (record {
           by = by_at caller.old.number caller.old.session.levels.commands;
           kind = kinds.Event
               (end_event how (by_at caller.old.number caller.old.session.levels.commands) top);

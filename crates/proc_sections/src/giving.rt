@@ -10,6 +10,7 @@ ghost use Rattle.tx_core.specs.declared.entry.Kind.TheVariants as kinds;
 ghost use Rattle.tx_core.specs.Entries.{history};
 ghost use Rattle.tx_core.specs.Locks.{proc_lock};
 ghost use Rattle.tx_core.specs.PagesBeforeIds.{IsMade, IsTold};
+ghost use Rattle.tx_core.specs.PostsFollow.{IsShown};
 ghost use Rattle.session_levels.specs.Stands.{IsParent, last_of};
 ghost use Rattle.engine_parts.specs.declared.session.Stage.TheVariants as stages;
 ghost use Rattle.engine_parts.specs.Holds.{Leaves};
@@ -77,6 +78,7 @@ fn name_level<L: LogDisk, P: PageDisk>(
     requires at { IsAt (start_of hall.now) (view caller.old.pass) caller.old.number caller.old.session }
     requires by { by ≡ by_at caller.old.number caller.old.session.levels.commands }
     requires parent { parent.now ≡ last_of caller.old.session.levels.level_ids.items }
+    requires shown { IsShown (start_of hall.now) (view caller.old.pass).seen }
     requires may { MayCome (start_of hall.now).base (history (view caller.old.pass).seen) (giving by parent.now id) }
     requires made { IsMade (start_of hall.now) (view caller.old.pass).seen id
         × IsTold (start_of hall.now) (at (view caller.old.pass).seen proc_lock) id }

@@ -3,8 +3,8 @@ ghost use Rattle.std.specs.Prelude.{◌≡◌, ℕ, ◌+◌, ◌*◌, []};
 ghost use Rattle.hall.specs.Calls.{view, IsOf, start_of};
 ghost use Rattle.tx_events.specs.Horizon.{oldest_id};
 ghost use Rattle.tx_core.specs.Entries.{history};
-ghost use Rattle.tx_core.specs.Locks.{proc_lock};
-ghost use Rattle.engine_parts.specs.Holds.{Section};
+ghost use Rattle.tx_core.specs.PostsFollow.{IsShown};
+ghost use Rattle.engine_parts.specs.Holds.{ProcSection};
 ghost use Rattle.engine_parts.specs.Sessions.{IsReady, look_by};
 ghost use Rattle.engine_parts.specs.Steps.{WentOn};
 ghost use Rattle.proc_sections.specs.Horizons.{AreHorizonsOf, HasForms, truncation_behind};
@@ -24,7 +24,7 @@ pub fn read_oldest<R: Passing, L: LogDisk, P: PageDisk>(
     requires own { IsOf hall.now caller.old.pass }
     requires laid { hall.now.cells ≡ 3 + 4 * (start_of hall.now).banks }
     requires ready { IsReady (start_of hall.now) (view caller.old.pass) caller.old.number caller.old.session }
-    ensures section { Section (start_of hall.now) proc_lock (look_by caller.old.number caller.old.session)
+    ensures section { ProcSection (start_of hall.now) (look_by caller.old.number caller.old.session)
         (view caller.old.pass) (view caller.new.pass) }
     ensures own { IsOf hall.now caller.new.pass }
     ensures ready { IsReady (start_of hall.now) (view caller.new.pass) caller.new.number caller.new.session }
@@ -38,6 +38,28 @@ pub fn read_oldest<R: Passing, L: LogDisk, P: PageDisk>(
     let oldest = table.oldest();
     leave_looked(hall, caller, 1, Part::Proc(held));
     oldest
+}
+
+/// Sees to it that the published oldest id is the announced one: one critical section of the ProcArray, which changes
+/// nothing there.
+pub fn publish_oldest<R: Passing, L: LogDisk, P: PageDisk>(
+    rt: &R,
+    hall: &Hall<EngineLaw<L, P>>,
+    caller: &mut Caller<L, P>,
+)
+    requires own { IsOf hall.now caller.old.pass }
+    requires laid { hall.now.cells ≡ 3 + 4 * (start_of hall.now).banks }
+    requires ready { IsReady (start_of hall.now) (view caller.old.pass) caller.old.number caller.old.session }
+    ensures section { ProcSection (start_of hall.now) (look_by caller.old.number caller.old.session)
+        (view caller.old.pass) (view caller.new.pass) }
+    ensures own { IsOf hall.now caller.new.pass }
+    ensures ready { IsReady (start_of hall.now) (view caller.new.pass) caller.new.number caller.new.session }
+    ensures went { WentOn caller.old.number [] (view caller.old.pass).seen (view caller.new.pass).seen }
+    ensures shown { IsShown (start_of hall.now) (view caller.new.pass).seen }
+    ensures same { (caller.new.session ≡ caller.old.session) × (caller.new.number ≡ caller.old.number) }
+{
+    let held = enter_proc(rt, hall, caller);
+    leave_looked(hall, caller, 1, Part::Proc(held));
 }
 
 /// What a command reads of the ProcArray at once.
@@ -62,7 +84,7 @@ pub fn read_horizons<R: Passing, L: LogDisk, P: PageDisk>(
     requires own { IsOf hall.now caller.old.pass }
     requires laid { hall.now.cells ≡ 3 + 4 * (start_of hall.now).banks }
     requires ready { IsReady (start_of hall.now) (view caller.old.pass) caller.old.number caller.old.session }
-    ensures section { Section (start_of hall.now) proc_lock (look_by caller.old.number caller.old.session)
+    ensures section { ProcSection (start_of hall.now) (look_by caller.old.number caller.old.session)
         (view caller.old.pass) (view caller.new.pass) }
     ensures own { IsOf hall.now caller.new.pass }
     ensures ready { IsReady (start_of hall.now) (view caller.new.pass) caller.new.number caller.new.session }
@@ -92,7 +114,7 @@ pub fn read_truncation<R: Passing, L: LogDisk, P: PageDisk>(
     requires own { IsOf hall.now caller.old.pass }
     requires laid { hall.now.cells ≡ 3 + 4 * (start_of hall.now).banks }
     requires ready { IsReady (start_of hall.now) (view caller.old.pass) caller.old.number caller.old.session }
-    ensures section { Section (start_of hall.now) proc_lock (look_by caller.old.number caller.old.session)
+    ensures section { ProcSection (start_of hall.now) (look_by caller.old.number caller.old.session)
         (view caller.old.pass) (view caller.new.pass) }
     ensures own { IsOf hall.now caller.new.pass }
     ensures ready { IsReady (start_of hall.now) (view caller.new.pass) caller.new.number caller.new.session }

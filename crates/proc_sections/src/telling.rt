@@ -5,7 +5,7 @@ ghost use Rattle.tx_events.specs.History.{next_given};
 ghost use Rattle.tx_core.specs.Entries.{Stands, history};
 ghost use Rattle.tx_core.specs.Locks.{proc_lock};
 ghost use Rattle.tx_core.specs.PagesBeforeIds.{IsMade};
-ghost use Rattle.engine_parts.specs.Holds.{Section};
+ghost use Rattle.engine_parts.specs.Holds.{ProcSection};
 ghost use Rattle.engine_parts.specs.Sessions.{MayCall, by_at};
 ghost use Rattle.engine_parts.specs.Steps.{WentOn};
 ghost use Rattle.tx_core.specs.declared.entry.Kind.TheVariants as kinds;
@@ -38,7 +38,7 @@ pub fn tell_made<R: Passing, L: LogDisk, P: PageDisk>(
     requires next { id ≤ next_given (start_of hall.now).base.next (history (view caller.old.pass).seen) }
     ensures own { IsOf hall.now caller.new.pass }
     ensures may { MayCall (start_of hall.now) (view caller.new.pass) caller.new.number caller.new.session }
-    ensures section { Section (start_of hall.now) proc_lock
+    ensures section { ProcSection (start_of hall.now)
         (record { by = by_at caller.old.number caller.old.session.levels.commands; kind = kinds.Made id })
         (view caller.old.pass) (view caller.new.pass) }
     ensures went { WentOn caller.old.number [] (view caller.old.pass).seen (view caller.new.pass).seen }

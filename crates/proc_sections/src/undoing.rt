@@ -5,9 +5,8 @@ ghost use Rattle.hall.specs.Calls.{view, IsOf, start_of};
 ghost use Rattle.tx_events.specs.declared.event.Event.TheVariants as events;
 ghost use Rattle.tx_events.specs.IdLists.{Ascending};
 ghost use Rattle.tx_core.specs.declared.entry.Kind.TheVariants as kinds;
-ghost use Rattle.tx_core.specs.Locks.{proc_lock};
 ghost use Rattle.engine_parts.specs.declared.session.Stage.TheVariants as stages;
-ghost use Rattle.engine_parts.specs.Holds.{Section};
+ghost use Rattle.engine_parts.specs.Holds.{ProcSection};
 ghost use Rattle.engine_parts.specs.Sessions.{MayCall, by_at, inner_id};
 ghost use Rattle.proc_sections.specs.Undos.{AreRolledBack, HasUndone, unlinked_below};
 
@@ -68,7 +67,7 @@ pub fn undo_savepoint<R: Passing, L: LogDisk, P: PageDisk>(
         caller.old.session.levels.open_ids.items id }
     ensures own { IsOf hall.now caller.new.pass }
     ensures may { MayCall (start_of hall.now) (view caller.new.pass) caller.new.number caller.new.session }
-    ensures section { Section (start_of hall.now) proc_lock (record {
+    ensures section { ProcSection (start_of hall.now) (record {
       by = by_at caller.old.number caller.old.session.levels.commands;
       kind = kinds.Event (events.Undo (by_at caller.old.number caller.old.session.levels.commands) id);
     })

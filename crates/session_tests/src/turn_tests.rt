@@ -5,7 +5,7 @@ use script_rounds::RoundThreads;
 const ROWS: [Row; 6] = [
     Row {
         name: "a_child_gets_its_parent_while_an_overflowed_snapshot_looks",
-        script: "# The child 68 has no parent yet at the first look, which is over, or held before a third section, until a has committed;
+        script: "# The child 68 has no parent yet at the first look, which is over, or held before a second section, until a has committed;
 # the second look comes to its state behind that commit, and asks for its parents then.
 a begin
 64 times a save
@@ -30,9 +30,9 @@ b see u 68
         turns: &[
             (C, (2, 1), A, (68, 2)),
             (B, (1, 1), C, (4, 1)),
-            (A, (68, 2), B, (2, 3)),
-            (B, (2, 3), A, (70, 1)),
-            (B, (3, 2), A, (70, 1)),
+            (A, (68, 2), B, (2, 2)),
+            (B, (2, 2), A, (70, 1)),
+            (B, (3, 1), A, (70, 1)),
         ],
         texts: "part
 b 1 snap t -> ok xmin 3 xmax 70 xip 3 sub - overflow yes

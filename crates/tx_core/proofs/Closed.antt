@@ -24,7 +24,7 @@ use Rattle.notes.specs.Lists.{at}
 
 module _ {A B : Type 0} (f : A → Option B) (y : B) where
   -- the item whose value stands there, with the values of those before it
-  abbrev From : List A → ℕ → Type 0
+  abbrev pub From : List A → ℕ → Type 0
   From xs p = (q : ℕ) × (x : A) × (slice_get xs q ≡ Some x) × (f x ≡ Some y) × (filter_map f (take q xs) ≡ take p (filter_map f xs))
 
   from_next : (x : A) (xs : List A) (o : Option B) (p : ℕ) → f x ≡ o → slice_get (cons_option o (filter_map f xs)) p ≡ Some y
@@ -37,7 +37,7 @@ module _ {A B : Type 0} (f : A → Option B) (y : B) where
       let r = more n k in
       (suc r.0, r.1, r.2, r.3, ap (λ o. cons_option o (filter_map f (take r.0 xs))) e ∙ (ap (λ t. z ∷ t) r.4 ∙ ap (λ o. take (suc n) (cons_option o (filter_map f xs))) (sym e)))
 
-  come_from : (xs : List A) (p : ℕ) → slice_get (filter_map f xs) p ≡ Some y → From xs p
+  pub come_from : (xs : List A) (p : ℕ) → slice_get (filter_map f xs) p ≡ Some y → From xs p
   come_from [] p k = absurd cc
   come_from (x ∷ xs) p k = from_next x xs (f x) p refl k (come_from xs)
 

@@ -18,15 +18,16 @@ use Rattle.tx_core.specs.Laws.{AbortEventKeeps, AskKeeps, CommitEventKeeps, Comm
 use Rattle.notes.specs.Lists.{at, own}
 use Rattle.tx_core.specs.Locks.{log_lock, proc_lock}
 use Rattle.tx_core.specs.PagesBeforeIds.{PagesOf}
+use Rattle.tx_core.specs.PostsFollow.{IsShown}
 use Rattle.tx_core.specs.StatusBeforeCommit.{StatesOf}
 use Rattle.tx_events.specs.declared.event.Event.TheVariants as events
 use Rattle.tx_core.specs.declared.entry.Kind.TheVariants as kinds
 use Rattle.tx_events.specs.declared.record.Rec.TheVariants as records
 
 -- an event, from what each part asks of it
-event_keeps : (start : Start) (seen : List (List Entry)) (by : By) (event : Event) → by_of event ≡ by → MayCome start.base (history seen) event → PagesOf start seen (at seen proc_lock) (kinds.Event event) → LeavesRecords seen event → LeavesAborts seen event → StatesOf start seen (kinds.Event event) → AbortsOf start seen (history seen) (kinds.Event event)
+event_keeps : (start : Start) (seen : List (List Entry)) (by : By) (event : Event) → by_of event ≡ by → IsShown start seen → MayCome start.base (history seen) event → PagesOf start seen (at seen proc_lock) (kinds.Event event) → LeavesRecords seen event → LeavesAborts seen event → StatesOf start seen (kinds.Event event) → AbortsOf start seen (history seen) (kinds.Event event)
     → KindKeeps start seen proc_lock by (kinds.Event event)
-event_keeps start seen by event own rule pages leaves aborts states closed lists k knows inside whole turn =
+event_keeps start seen by event own shown rule pages leaves aborts states closed lists k knows inside whole turn =
     keeps start lists seen proc_lock (record { by = by; kind = kinds.Event event }) k knows inside whole (record {
       events = record { own = own; rule = λ here. rule };
       pages = record { ids = pages; changes = record { marks = tt; links = tt; offsets = tt; slots = tt }; made = tt };
@@ -41,7 +42,7 @@ event_keeps start seen by event own rule pages leaves aborts states closed lists
       multis = tt;
       members = record { slots = tt; offsets = tt };
       syncs = tt;
-      posts = tt;
+      posts = shown;
       faults = tt;
       down = tt;
       once = tt;
@@ -49,31 +50,31 @@ event_keeps start seen by event own rule pages leaves aborts states closed lists
     })
 
 pub id_event_law : IdEventKeeps
-id_event_law start seen by id rule made told = event_keeps start seen by (events.Id by id) refl rule (made, told) tt tt tt tt
+id_event_law start seen by id shown rule made told = event_keeps start seen by (events.Id by id) refl shown rule (made, told) tt tt tt tt
 
 pub sub_event_law : SubEventKeeps
-sub_event_law start seen by parent id rule made told none aborts = event_keeps start seen by (events.Sub by parent id) refl rule (made, told) none aborts tt tt
+sub_event_law start seen by parent id shown rule made told none aborts = event_keeps start seen by (events.Sub by parent id) refl shown rule (made, told) none aborts tt tt
 
 pub undo_event_law : UndoEventKeeps
-undo_event_law start seen by id rule none aborts aborted = event_keeps start seen by (events.Undo by id) refl rule tt none aborts tt aborted
+undo_event_law start seen by id shown rule none aborts aborted = event_keeps start seen by (events.Undo by id) refl shown rule tt none aborts tt aborted
 
 pub commit_event_law : CommitEventKeeps
-commit_event_law start seen by top subs rule appended marked = event_keeps start seen by (events.Commit by top) refl rule tt tt tt (subs, appended, marked) tt
+commit_event_law start seen by top subs shown rule appended marked = event_keeps start seen by (events.Commit by top) refl shown rule tt tt tt (subs, appended, marked) tt
 
 pub abort_event_law : AbortEventKeeps
-abort_event_law start seen by top rule none aborted = event_keeps start seen by (events.Abort by top) refl rule tt none tt tt aborted
+abort_event_law start seen by top shown rule none aborted = event_keeps start seen by (events.Abort by top) refl shown rule tt none tt tt aborted
 
 pub snap_event_law : SnapEventKeeps
-snap_event_law start seen by name rule = event_keeps start seen by (events.Snap by name) refl rule tt tt tt tt tt
+snap_event_law start seen by name shown rule = event_keeps start seen by (events.Snap by name) refl shown rule tt tt tt tt tt
 
 pub snap_drop_law : SnapDropKeeps
-snap_drop_law start seen by name rule = event_keeps start seen by (events.SnapDrop by name) refl rule tt tt tt tt tt
+snap_drop_law start seen by name shown rule = event_keeps start seen by (events.SnapDrop by name) refl shown rule tt tt tt tt tt
 
 pub oldest_law : OldestKeeps
-oldest_law start seen by oldest rule = event_keeps start seen by (events.Oldest by oldest) refl rule tt tt tt tt tt
+oldest_law start seen by oldest shown rule = event_keeps start seen by (events.Oldest by oldest) refl shown rule tt tt tt tt tt
 
 pub ask_law : AskKeeps
-ask_law start seen by id rule = event_keeps start seen by (events.Ask by id) refl rule tt tt tt tt tt
+ask_law start seen by id shown rule = event_keeps start seen by (events.Ask by id) refl shown rule tt tt tt tt tt
 
 pub made_law : MadeKeeps
 made_law start seen by id made next lists k knows inside whole turn =

@@ -14,18 +14,18 @@ use Rattle.tx_core.specs.declared.entry.Entry.{Entry}
 use Rattle.tx_core.specs.declared.entry.Kind.{Kind}
 use Rattle.tx_core.specs.declared.entry.Start.{Start}
 use Rattle.tx_core.proofs.Asking.{if_weaker}
-use Rattle.tx_core.proofs.Growing.{begins_flat_map, contains_begins, slice_get_begins, take_begins}
+use Rattle.tx_core.proofs.Growing.{begins_filter_map, begins_flat_map, contains_begins, slice_get_begins, take_begins}
 use Rattle.tx_core.proofs.Lasting.{appended_grows, flushed_grows, history_grows}
 use Rattle.tx_core.proofs.Rising.{given_more, multis_grow, taken_begins}
 use Rattle.tx_core.specs.CutsFollow.{CutBy, IsMemberGone, IsTruncated, NeedsCut}
-use Rattle.tx_core.specs.Entries.{cut_in, history}
+use Rattle.tx_core.specs.Entries.{cut_in, events_in, history}
 use Rattle.tx_core.specs.Lists.{IsLasting}
 use Rattle.notes.specs.Lists.{Begins, Grows, at}
-use Rattle.tx_core.specs.Locks.{members_lock, members_lock_of, offsets_lock, xact_lock}
+use Rattle.tx_core.specs.Locks.{members_lock, members_lock_of, offsets_lock, oldest_word, xact_lock}
 use Rattle.tx_core.specs.MembersBeforeOffset.{IsRecorded, NeedsOffsets, NeedsSlots, OffsetOf, SlotOf}
 use Rattle.tx_core.specs.MultiEntries.{IsSlotSet, multi_history, offsets_in, slots_in}
 use Rattle.tx_core.specs.MultisLegal.{NeedsMulti}
-use Rattle.tx_core.specs.PostsFollow.{IsFound, NeedsPost, PostIn}
+use Rattle.tx_core.specs.PostsFollow.{IsFound, NeedsPost, PostIn, WasShown, posted_in, posts}
 use Rattle.tx_core.specs.FaultsRise.{NeedsCount}
 use Rattle.tx_core.specs.StaysDown.{NeedsUp}
 use Rattle.tx_core.specs.RecordsOnce.{NeedsOnce}
@@ -181,11 +181,15 @@ found_grows shown lists more before number g f =
     let r = taken_begins (history lists) (history more) f.place (history_grows lists more g) f.within in
     record { place = f.place; within = r.0; found = f.found ∙ ap (λ (h : List Event). shown h) (sym r.1); rises = f.rises }
 
+pub shown_grows : (start : Start) (lists more : List (List Entry)) (oldest : ℕ) → Grows lists more → WasShown start lists oldest → WasShown start more oldest
+shown_grows start lists more oldest g w = let lock = oldest_word start in ⊎_elim inl (λ p. inr (p.0, contains_begins (posts (at lists lock)) (posts (at more lock)) p.0 (begins_filter_map (λ (e : Entry). posted_in e.kind) (at lists lock) (at more lock) (g.begins lock)) p.1, p.2)) w
+
 post_stays : (start : Start) (lists more : List (List Entry)) (lock : ℕ) (before : List Entry) (kind : Kind) → Grows lists more → PostIn start lists lock before kind → PostIn start more lock before kind
 post_stays start lists more lock before (kinds.Post number) g n = record {
   oldest = λ q. found_grows (oldest_id start.base.oldest) lists more before number g (n.oldest q);
   xmin = λ q. found_grows (oldest_xmin start.base.next) lists more before number g (n.xmin q);
 }
+post_stays start lists more lock before (kinds.Event event) g n = shown_grows start lists more (oldest_id start.base.oldest (events_in before)) g n
 post_stays start lists more lock before _ g n = tt
 
 pub posts_lasting : (start : Start) → IsLasting (NeedsPost start)

@@ -41,3 +41,4 @@ pub mod Closed
 pub mod StopLimits
 pub mod OwnMultis
 pub mod PageRing
+pub mod Shown

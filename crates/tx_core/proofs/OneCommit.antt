@@ -114,7 +114,7 @@ pub turns : (b : By) (es : List Entry) → b.session < start.sessions → AllByR
 turns b es known each = record { known = known; after = All-from_recursion (λ (f : Entry). f.by.command ≤ b.command) (filter (λ (f : Entry). f.by.session == b.session) es) each }
 
 pub after_id : EngineInvariant start one
-after_id = id_event_law start empty (by 0 2) 3 (record { next = refl; below_stop = omega arith }, refl) (inl refl, inl refl) (inl refl) empty at_first (sees_all 0 empty) (omega arith) refl (turns (by 0 2) [] (omega arith) tt)
+after_id = id_event_law start empty (by 0 2) 3 (inl (omega arith)) (record { next = refl; below_stop = omega arith }, refl) (inl refl, inl refl) (inl refl) empty at_first (sees_all 0 empty) (omega arith) refl (turns (by 0 2) [] (omega arith) tt)
 
 -- nothing was asked to be aborted
 quiet_one : (lock : ℕ) → AllByRecursion (λ (e : Entry). asks_in e ≡ []) (at one lock)
@@ -180,12 +180,12 @@ after_states =
 
 after_commit : EngineInvariant start five
 after_commit =
-    commit_event_law start four (by 0 3) 3 [] ((0, omega arith, refl), refl) (by 0 3, refl, (0, omega arith, refl))
+    commit_event_law start four (by 0 3) 3 [] (inl (omega arith)) ((0, omega arith, refl), refl) (by 0 3, refl, (0, omega arith, refl))
     (only_three (λ id. IsMarked start four id states.Committed) (by 0 3, (0, omega arith, refl)))
     four after_states (sees_all 0 four) (omega arith) refl (turns (by 0 3) (given_id ∷ []) (omega arith) (omega arith, tt))
 
 after_snap : EngineInvariant start six
-after_snap = snap_event_law start five (by 1 2) (115 ∷ []) refl five after_commit (sees_all 1 five) (omega arith) refl (turns (by 1 2) (given_id ∷ committed ∷ []) (omega arith) tt)
+after_snap = snap_event_law start five (by 1 2) (115 ∷ []) (inl (omega arith)) refl five after_commit (sees_all 1 five) (omega arith) refl (turns (by 1 2) (given_id ∷ committed ∷ []) (omega arith) tt)
 
 -- the snapshot at place 2 sees the id, and one before the commit doesn't
 seen : is_visible [] (take 2 (history six)) 3 ≡ true

@@ -71,6 +71,6 @@ after_leader = changes_law start asked 3 (by 1 2) change led_change asked after_
 
 after_abort : EngineInvariant start (add done proc_lock (entry (by 0 3) (kinds.Event (events.Abort (by 0 3) 3))))
 after_abort =
-    abort_event_law start done (by 0 3) 3 ((0, omega arith, refl), refl) (λ top subs a q. no_records 0 top subs done refl a)
+    abort_event_law start done (by 0 3) 3 (inl (omega arith)) ((0, omega arith, refl), refl) (λ top subs a q. no_records 0 top subs done refl a)
     (λ x c. ⊎_elim (λ (q : 3 ≡ x). subst (λ z. IsMarked start done z states.Aborted) q (by 0 3, (0, omega arith, refl))) (λ z. absurd z) (contains_has (3 ∷ []) x c))
     done after_leader (sees_all 0 done) (omega arith) refl (turns (by 0 3) (given_id ∷ []) (omega arith) (omega arith, tt))

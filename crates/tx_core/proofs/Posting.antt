@@ -66,7 +66,7 @@ xmin_by_places base h legal is p =
     let split = take-append-drop p h in
     subst (λ t. oldest_xmin base.next (take p h) ≤ oldest_xmin base.next t) split (xmin_at base (take p h) (drop p h) (subst (IsLegal base) (sym split) legal) is.full (positive base.next is.full))
 
-post_kind : (kind : Kind) (number : ℕ) → posted_in kind ≡ Some number → kind ≡ kinds.Post number
+pub post_kind : (kind : Kind) (number : ℕ) → posted_in kind ≡ Some number → kind ≡ kinds.Post number
 post_kind (kinds.Post other) number g = let q : other ≡ number = cc in ap kinds.Post q
 post_kind _ number g = absurd cc
 
@@ -126,7 +126,7 @@ later shown lists lock rises each i j m n p a b at_i at_j lt within here =
     (le_or_over p f.place)
 
 -- what is shown at places, of a legal history
-oldest_between : (base : Counters) (h : List Event) (p q : ℕ) → IsLegal base h → p ≤ q → oldest_id base.oldest (take p h) ≤ oldest_id base.oldest (take q h)
+pub oldest_between : (base : Counters) (h : List Event) (p q : ℕ) → IsLegal base h → p ≤ q → oldest_id base.oldest (take p h) ≤ oldest_id base.oldest (take q h)
 oldest_between base h p q legal le =
     subst (λ t. oldest_id base.oldest t ≤ oldest_id base.oldest (take q h)) (take_in p q h le) (oldest_by_places base (take q h) (legal_take base h q legal) p)
 

@@ -15,13 +15,14 @@ use Rattle.tx_core.specs.declared.entry.State.{State}
 use Rattle.tx_core.specs.AbortRule.{Asks}
 use Rattle.tx_core.specs.CommitRecordsExact.{HasNoRecord}
 use Rattle.tx_core.specs.EngineInvariant.{EngineInvariant}
-use Rattle.tx_core.specs.Entries.{IsAppended, IsMarked, history, Stands, cut_in, flushed_to, records_of}
+use Rattle.tx_core.specs.Entries.{IsAppended, IsMarked, history, Stands, cut_in, flushed_to, last_from, records_of}
 use Rattle.tx_core.specs.FaultsRise.{counts_in, faults_at, faults_told}
 use Rattle.tx_core.specs.StaysDown.{is_down}
 use Rattle.tx_core.specs.MultiEntries.{multi_history}
 use Rattle.tx_core.specs.ProgramOrder.{IsOfHost}
 use Rattle.notes.specs.Lists.{Grows, at}
 use Rattle.tx_core.specs.Locks.{log_lock, oldest_word, subtrans_lock, subtrans_page, xact_lock, xact_page, xmin_word}
+use Rattle.tx_core.specs.PostsFollow.{posts}
 use Rattle.tx_core.specs.RecordsFollow.{AreNotBelow, IsGenOf, counters_after}
 use Rattle.tx_events.specs.Multis.{AreLegalMultis, InBase, multi_counters}
 use Rattle.tx_events.specs.declared.record.Counters.{Counters}
@@ -75,6 +76,18 @@ HorizonRises = (start : Start) (lists more : List (List Entry)) → EngineInvari
 -- the announced oldest id never falls
 abbrev pub OldestRises : Type 0
 OldestRises = (start : Start) (lists more : List (List Entry)) → EngineInvariant start more → Grows lists more → oldest_id start.base.oldest (history lists) ≤ oldest_id start.base.oldest (history more)
+
+-- The oldest id that the word shows is that of a place of the history, and of none before the last event of what was seen
+-- of the history by then.
+pub record IsShownBehind (start : Start) (seen lists : List (List Entry)) (number : ℕ) : Type 0 where
+  pub place : ℕ
+  pub late : length (history seen) ≤ place + 1
+  pub within : place ≤ length (history lists)
+  pub is : number ≡ oldest_id start.base.oldest (take place (history lists))
+
+abbrev pub OldestShown : Type 0
+OldestShown = (start : Start) (seen lists : List (List Entry)) → EngineInvariant start lists → Grows seen lists
+    → IsShownBehind start seen lists (last_from start.base.oldest (posts (at lists (oldest_word start))))
 
 -- A published number that came behind another is that of a place no earlier.
 abbrev pub IsLater : (List Event → ℕ) → List (List Entry) → ℕ → Type 0

@@ -35,6 +35,7 @@ use Rattle.tx_core.specs.ParentsFollow.{IsGivenBelow}
 use Rattle.tx_core.specs.ProgramOrder.{AreCallers, AreOn, IsHostsTurn, IsInTurn}
 use Rattle.tx_core.specs.RecordsFollow.{CheckpointOf, IsGenOf, IsMultiAnnounced, IsOldestAnnounced, counters_after}
 use Rattle.tx_core.specs.CutsFollow.{CutBy}
+use Rattle.tx_core.specs.PostsFollow.{IsShown}
 use Rattle.tx_core.specs.MultisLegal.{ToldOf}
 use Rattle.tx_core.specs.MembersBeforeOffset.{OffsetOf, SlotOf}
 use Rattle.tx_core.specs.SyncsBeforeForgets.{ForgetOf, MayForget}
@@ -148,53 +149,53 @@ LogFaultKeeps = (start : Start) (seen : List (List Entry)) (by : By) (asked : Lo
     → HasRisen (faults_told start log_lock (at seen log_lock)) count
     → KindKeeps start seen log_lock by (kinds.LogFault asked count)
 
--- The ProcArray. An id comes next, and its pages are made.
+-- The ProcArray. An event comes when the oldest id was published as it is by then. An id comes next, and its pages are made.
 abbrev pub IdEventKeeps : Type 0
 IdEventKeeps = (start : Start) (seen : List (List Entry)) (by : By) (id : ℕ) →
-    MayCome start.base (history seen) (events.Id by id) → IsMade start seen id → IsTold start (at seen proc_lock) id
+    IsShown start seen → MayCome start.base (history seen) (events.Id by id) → IsMade start seen id → IsTold start (at seen proc_lock) id
     → KindKeeps start seen proc_lock by (kinds.Event (events.Id by id))
 
 -- the session has no record of what it has open
 abbrev pub SubEventKeeps : Type 0
 SubEventKeeps = (start : Start) (seen : List (List Entry)) (by : By) (parent id : ℕ) →
-    MayCome start.base (history seen) (events.Sub by parent id) → IsMade start seen id → IsTold start (at seen proc_lock) id → HasNoRecord seen by.session → HasNoAbortRecord seen by.session
+    IsShown start seen → MayCome start.base (history seen) (events.Sub by parent id) → IsMade start seen id → IsTold start (at seen proc_lock) id → HasNoRecord seen by.session → HasNoAbortRecord seen by.session
     → KindKeeps start seen proc_lock by (kinds.Event (events.Sub by parent id))
 
 -- what the undo closes was set aborted
 abbrev pub UndoEventKeeps : Type 0
 UndoEventKeeps = (start : Start) (seen : List (List Entry)) (by : By) (id : ℕ) →
-    MayCome start.base (history seen) (events.Undo by id) → HasNoRecord seen by.session → HasNoAbortRecord seen by.session
+    IsShown start seen → MayCome start.base (history seen) (events.Undo by id) → HasNoRecord seen by.session → HasNoAbortRecord seen by.session
     → ((x : ℕ) → Contains (open_ids by.session (history seen)) x → Contains (enclosing (history seen) x) id → IsMarked start seen x states.Aborted)
     → KindKeeps start seen proc_lock by (kinds.Event (events.Undo by id))
 
 -- the record stands, and all of its ids were set committed
 abbrev pub CommitEventKeeps : Type 0
 CommitEventKeeps = (start : Start) (seen : List (List Entry)) (by : By) (top : ℕ) (subs : List ℕ) →
-    MayCome start.base (history seen) (events.Commit by top) → IsAppended seen by.session (records.Commit top subs)
+    IsShown start seen → MayCome start.base (history seen) (events.Commit by top) → IsAppended seen by.session (records.Commit top subs)
     → ((id : ℕ) → Contains (top ∷ subs) id → IsMarked start seen id states.Committed)
     → KindKeeps start seen proc_lock by (kinds.Event (events.Commit by top))
 
 abbrev pub AbortEventKeeps : Type 0
 AbortEventKeeps = (start : Start) (seen : List (List Entry)) (by : By) (top : ℕ) →
-    MayCome start.base (history seen) (events.Abort by top) → HasNoRecord seen by.session
+    IsShown start seen → MayCome start.base (history seen) (events.Abort by top) → HasNoRecord seen by.session
     → ((x : ℕ) → Contains (open_ids by.session (history seen)) x → IsMarked start seen x states.Aborted)
     → KindKeeps start seen proc_lock by (kinds.Event (events.Abort by top))
 
 abbrev pub SnapEventKeeps : Type 0
 SnapEventKeeps = (start : Start) (seen : List (List Entry)) (by : By) (name : List ℕ) →
-    MayCome start.base (history seen) (events.Snap by name) → KindKeeps start seen proc_lock by (kinds.Event (events.Snap by name))
+    IsShown start seen → MayCome start.base (history seen) (events.Snap by name) → KindKeeps start seen proc_lock by (kinds.Event (events.Snap by name))
 
 abbrev pub SnapDropKeeps : Type 0
 SnapDropKeeps = (start : Start) (seen : List (List Entry)) (by : By) (name : List ℕ) →
-    MayCome start.base (history seen) (events.SnapDrop by name) → KindKeeps start seen proc_lock by (kinds.Event (events.SnapDrop by name))
+    IsShown start seen → MayCome start.base (history seen) (events.SnapDrop by name) → KindKeeps start seen proc_lock by (kinds.Event (events.SnapDrop by name))
 
 abbrev pub OldestKeeps : Type 0
 OldestKeeps = (start : Start) (seen : List (List Entry)) (by : By) (oldest : ℕ) →
-    MayCome start.base (history seen) (events.Oldest by oldest) → KindKeeps start seen proc_lock by (kinds.Event (events.Oldest by oldest))
+    IsShown start seen → MayCome start.base (history seen) (events.Oldest by oldest) → KindKeeps start seen proc_lock by (kinds.Event (events.Oldest by oldest))
 
 abbrev pub AskKeeps : Type 0
 AskKeeps = (start : Start) (seen : List (List Entry)) (by : By) (id : ℕ) →
-    MayCome start.base (history seen) (events.Ask by id) → KindKeeps start seen proc_lock by (kinds.Event (events.Ask by id))
+    IsShown start seen → MayCome start.base (history seen) (events.Ask by id) → KindKeeps start seen proc_lock by (kinds.Event (events.Ask by id))
 
 -- both pages of the id are made, and it isn't past the next one
 abbrev pub MadeKeeps : Type 0

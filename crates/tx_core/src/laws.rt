@@ -1,5 +1,5 @@
 ghost use Rattle.tx_core.specs.Laws.{Keeps, Opens, CommitRecordKeeps, AbortRecordKeeps, MultiRecordKeeps, CheckpointRecordKeeps, TruncateRecordKeeps, FlushKeeps, ForgetKeeps, LogFaultKeeps, IdEventKeeps, SubEventKeeps, UndoEventKeeps, CommitEventKeeps, AbortEventKeeps, SnapEventKeeps, SnapDropKeeps, OldestKeeps, AskKeeps, MadeKeeps, MultiEventKeeps, ChangesKeep, CommittedKeeps, SubCommittedKeeps, AbortedKeeps, ParentKeeps, ZeroKeeps, CutKeeps, SyncKeeps, FaultKeeps, RequestKeeps, LookKeeps, OldestPostKeeps, XminPostKeeps, HostsKeep};
-ghost use Rattle.tx_core.specs.Consequences.{SessionsKnown, NeverAborted, CommittedAsked, AskedGiven, OldestRises, PostsGoOn, MultisAreLegal, NextGiven, ParentsKept, StatesKept, HorizonRises, SnapshotsHold, OpenKept, RaisesTold, FaultsCounted, FlushesRise, ClosedAborted, CommitsAreFlushed, DownStays, LogIsBehind, CheckpointsTell, RecordsGiven, RecordsShown, SubsBefore, TopsFirst};
+ghost use Rattle.tx_core.specs.Consequences.{SessionsKnown, NeverAborted, CommittedAsked, AskedGiven, OldestRises, OldestShown, PostsGoOn, MultisAreLegal, NextGiven, ParentsKept, StatesKept, HorizonRises, SnapshotsHold, OpenKept, RaisesTold, FaultsCounted, FlushesRise, ClosedAborted, CommitsAreFlushed, DownStays, LogIsBehind, CheckpointsTell, RecordsGiven, RecordsShown, SubsBefore, TopsFirst};
 ghost use Rattle.tx_core.specs.Held.{OpenRuns, PagesHeld};
 ghost use Rattle.tx_core.specs.Nearness.{MadeNear};
 ghost use Rattle.tx_core.specs.Pages.{PagesShow, ParentsShow, OffsetsShow, MembersShow};
@@ -236,6 +236,11 @@ pub fn oldest_rises()
 /// A number that was published behind another is that of a place of the history no earlier.
 pub fn posts_go_on()
     ensures { PostsGoOn }
+{}
+
+/// The published oldest id is at most one event behind.
+pub fn oldest_shown()
+    ensures { OldestShown }
 {}
 
 /// The multixacts' list is one legal history.

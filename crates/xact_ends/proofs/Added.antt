@@ -21,10 +21,10 @@ use Rattle.engine_parts.specs.declared.session.Stage.{Stage}
 use Rattle.engine_parts.specs.Adding.{Adds, IsPlain, IsToldBy, MayAdd, MayFault, MayLeave}
 use Rattle.engine_parts.specs.Answers.{reply_of}
 use Rattle.engine_parts.specs.Faults.{flush_fault_by, look_of}
-use Rattle.engine_parts.specs.Holds.{Knowledge, Section}
+use Rattle.engine_parts.specs.Holds.{Knowledge, ProcSection, Section}
 use Rattle.engine_parts.specs.Sessions.{IsAt, by_at}
 use Rattle.engine_parts.proofs.Adding.{adds_then, adds_wider, may_wider, met_leaves, plain_leaves, plain_wider}
-use Rattle.engine_parts.proofs.Sectioning.{shared_adds}
+use Rattle.engine_parts.proofs.Sectioning.{proc_section_adds, shared_adds}
 use Rattle.log_sections.specs.LogSections.{FlushSection}
 
 -- two steps, one after the other
@@ -48,12 +48,12 @@ fault_leaves command s stage opened (Err told) lock kind m = met_leaves command 
 
 -- the end of the transaction
 pub end_adds : (start : Start) (v w : Knowledge) (n : ℕ) (s : Session) (how : XactEnd) → IsAt start v n s → 1 ≤ length s.levels.open_ids.items
-    → ((top : ℕ) (subs : List ℕ) → s.levels.open_ids.items ≡ top ∷ subs → Section start proc_lock (record { by = by_at n s.levels.commands; kind = kinds.Event (end_event how (by_at n s.levels.commands) top) }) v w) → Adds (by_at n s.levels.commands) IsPlain v.seen w.seen
+    → ((top : ℕ) (subs : List ℕ) → s.levels.open_ids.items ≡ top ∷ subs → ProcSection start (record { by = by_at n s.levels.commands; kind = kinds.Event (end_event how (by_at n s.levels.commands) top) }) v w) → Adds (by_at n s.levels.commands) IsPlain v.seen w.seen
 end_adds start v w n s how a some section =
     let opened = s.levels.open_ids.items in
     let top : ℕ = slice_index_or opened 0 0 in
     let by = by_at n s.levels.commands in
-    shared_adds start v w proc_lock (record { by = by; kind = kinds.Event (end_event how by top) }) by s IsPlain (omega arith) a (section top (drop 1 opened) (head_tail opened 0 some)) refl tt
+    proc_section_adds start v w n s (record { by = by; kind = kinds.Event (end_event how by top) }) a refl (section top (drop 1 opened) (head_tail opened 0 some)) IsPlain (λ number. tt) tt
 
 -- a flush, a fault that is told, or a look
 pub flush_adds : {T : Type 0} (start : Start) (v w : Knowledge) (by : By) (s : Session) (number : ℕ) (result : Result T Refusal) → IsAt start v by.session s → FlushSection start by number v w result → Adds by (MayAdd (λ rec. ⊥) (Unit {0}) (IsToldBy result)) v.seen w.seen

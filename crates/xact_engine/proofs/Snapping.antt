@@ -23,9 +23,9 @@ use Rattle.tx_model.specs.Stance.{Stance, snap_of, without_snap}
 use Rattle.tx_core.specs.declared.entry.Entry.{Entry}
 use Rattle.tx_core.specs.declared.entry.Kind.TheVariants as kinds
 use Rattle.tx_core.specs.declared.entry.Start.{Start}
-use Rattle.tx_core.specs.EngineInvariant.{EngineInvariant}
-use Rattle.tx_core.specs.Entries.{appended, event_of, history}
+use Rattle.tx_core.specs.Entries.{appended, asks_in, event_of, history}
 use Rattle.tx_core.specs.Locks.{proc_lock}
+use Rattle.tx_core.specs.PostsFollow.{IsShown}
 use Rattle.tx_core.specs.ProgramOrder.{IsInTurn}
 use Rattle.tx_core.proofs.EventLaws.{snap_drop_law, snap_event_law}
 use Rattle.session_levels.specs.declared.session.RegisteredSnapshot.{RegisteredSnapshot}
@@ -37,7 +37,7 @@ use Rattle.session_levels.proofs.StandsLemmas.{Stood, stood, stands}
 use Rattle.engine_parts.specs.declared.session.Session.{Session}
 use Rattle.engine_parts.specs.declared.session.Unlinked.{Unlinked}
 use Rattle.engine_parts.specs.Answers.{Acted}
-use Rattle.engine_parts.specs.Holds.{Knowledge, Learns, Leaves}
+use Rattle.engine_parts.specs.Holds.{EntersProc, Knowledge, Leaves}
 use Rattle.engine_parts.specs.Law.{MayKeep}
 use Rattle.engine_parts.specs.Sessions.{IsAt, IsFiled, IsReady, MayCall, by_at, stance_of}
 use Rattle.engine_parts.specs.Stages.{may_be_recorded, AreUnaborted, may_be_aborted, pending_in}
@@ -56,11 +56,11 @@ snap_entry by name = record { by = by; kind = kinds.Event (events.Snap by name) 
 abbrev pub drop_entry : By → List ℕ → Entry
 drop_entry by name = record { by = by; kind = kinds.Event (events.SnapDrop by name) }
 
-pub may_snap : (start : Start) (seen : List (List Entry)) (by : By) (name : List ℕ) (e : Entry) → e ≡ snap_entry by name → is_live start.base.next by.session name (history seen) ≡ false → IsInTurn start (at seen proc_lock) by → MayKeep start seen proc_lock e
-may_snap start seen by name e is free turn = subst (MayKeep start seen proc_lock) (sym is) (λ lists k knows inside whole. snap_event_law start seen by name free lists k knows inside whole turn)
+pub may_snap : (start : Start) (seen : List (List Entry)) (by : By) (name : List ℕ) (e : Entry) → e ≡ snap_entry by name → IsShown start seen → is_live start.base.next by.session name (history seen) ≡ false → IsInTurn start (at seen proc_lock) by → MayKeep start seen proc_lock e
+may_snap start seen by name e is shown free turn = subst (MayKeep start seen proc_lock) (sym is) (λ lists k knows inside whole. snap_event_law start seen by name shown free lists k knows inside whole turn)
 
-pub may_drop : (start : Start) (seen : List (List Entry)) (by : By) (name : List ℕ) (e : Entry) → e ≡ drop_entry by name → is_live start.base.next by.session name (history seen) ≡ true → IsInTurn start (at seen proc_lock) by → MayKeep start seen proc_lock e
-may_drop start seen by name e is live turn = subst (MayKeep start seen proc_lock) (sym is) (λ lists k knows inside whole. snap_drop_law start seen by name live lists k knows inside whole turn)
+pub may_drop : (start : Start) (seen : List (List Entry)) (by : By) (name : List ℕ) (e : Entry) → e ≡ drop_entry by name → IsShown start seen → is_live start.base.next by.session name (history seen) ≡ true → IsInTurn start (at seen proc_lock) by → MayKeep start seen proc_lock e
+may_drop start seen by name e is shown live turn = subst (MayKeep start seen proc_lock) (sym is) (λ lists k knows inside whole. snap_drop_law start seen by name shown live lists k knows inside whole turn)
 
 -- The session stands with the snapshots that it has after an event that closes no id.
 ready_event : (start : Start) (v w : Knowledge) (n n' : ℕ) (s s' : Session) (e : Entry) (event : Event) → IsAt start v n s → e ≡ record { by = by_at n s.levels.commands; kind = kinds.Event event }
@@ -105,15 +105,15 @@ not_refused s name free room =
     ∙ first_fails (nat_le 64 (length (stance_of s).snaps)) refusals.SnapLimit None (lt-leb 64 (length (stance_of s).snaps) (omega (arith, length-map s.levels.registered.items told_of)))
 
 -- what a call did that took one
-pub acted_snapped : {tells : Bool} (start : Start) (v u w : Knowledge) (n : ℕ) (s : Session) (s' : Stance) (name : List ℕ) (lists : SnapData) (e : Entry) → IsAt start v n s → EngineInvariant start u.seen → Learns v u → e ≡ snap_entry (by_at n s.levels.commands) name → Leaves start proc_lock e u w
+pub acted_snapped : {tells : Bool} (start : Start) (v u w : Knowledge) (n : ℕ) (s : Session) (s' : Stance) (name : List ℕ) (lists : SnapData) (e : Entry) → IsAt start v n s → EntersProc start (by_at n s.levels.commands) v u → e ≡ snap_entry (by_at n s.levels.commands) name → Leaves start proc_lock e u w
     → find (λ k. same_name k.name name) s.levels.registered.items ≡ None → length s.levels.registered.items < 64 → lists ≡ snapshot_data start.base.next (history u.seen)
     → s' ≡ record (stance_of s) { snaps = (stance_of s).snaps ++ (name, s.levels.commands) ∷ [] }
     → Acted tells start (by_at n s.levels.commands) (stance_of s) s' s.stage (commands.Snap name) (replies.Snapped lists) v.seen w.seen
-acted_snapped start v u w n s s' name lists e a k learns is l free room held stance =
+acted_snapped start v u w n s s' name lists e a entered is l free room held stance =
     let event : Event = events.Snap (by_at n s.levels.commands) name in
-    let wide = a.wide in let long = learns.long in
+    let wide = a.wide in let long = entered.long in
     let grown : history w.seen ≡ history u.seen ++ event ∷ [] = history_event start u w e event (ap event_of is) (omega arith) l in
-    acted_event start v u w n s s' (commands.Snap name) (replies.Snapped lists) e event a k learns (ap event_of is) refl (ap (λ (z : Entry). z.by) is) l refl refl (
+    acted_event start v u w n s s' (commands.Snap name) (replies.Snapped lists) e event a entered (ap event_of is) refl (ap asks_in is) (ap (λ (z : Entry). z.by) is) l refl refl (
       snap_missing name (stance_of s).levels s.levels.registered.items free,
       omega (arith, length-map s.levels.registered.items told_of),
       length (history u.seen),
@@ -127,12 +127,12 @@ some_is None some = absurd (some refl)
 some_is (Some x) some = refl
 
 -- and one that dropped one
-pub acted_dropped : {tells : Bool} (start : Start) (v u w : Knowledge) (n : ℕ) (s : Session) (s' : Stance) (name : List ℕ) (e : Entry) → IsAt start v n s → EngineInvariant start u.seen → Learns v u → e ≡ drop_entry (by_at n s.levels.commands) name → Leaves start proc_lock e u w
+pub acted_dropped : {tells : Bool} (start : Start) (v u w : Knowledge) (n : ℕ) (s : Session) (s' : Stance) (name : List ℕ) (e : Entry) → IsAt start v n s → EntersProc start (by_at n s.levels.commands) v u → e ≡ drop_entry (by_at n s.levels.commands) name → Leaves start proc_lock e u w
     → list_any (λ k. same_name k.name name) s.levels.registered.items ≡ true → s' ≡ record (stance_of s) { snaps = without_snap name (stance_of s).snaps }
     → Acted tells start (by_at n s.levels.commands) (stance_of s) s' s.stage (commands.DropSnap name) replies.Done v.seen w.seen
-acted_dropped start v u w n s s' name e a k learns is l registered stance =
+acted_dropped start v u w n s s' name e a entered is l registered stance =
     let some = some_found name (stance_of s).levels s.levels.registered.items registered in
-    acted_event start v u w n s s' (commands.DropSnap name) replies.Done e (events.SnapDrop (by_at n s.levels.commands) name) a k learns (ap event_of is) refl (ap (λ (z : Entry). z.by) is) l refl refl
+    acted_event start v u w n s s' (commands.DropSnap name) replies.Done e (events.SnapDrop (by_at n s.levels.commands) name) a entered (ap event_of is) refl (ap asks_in is) (ap (λ (z : Entry). z.by) is) l refl refl
     some (sym (ap (λ (b : Bool). then_some b refusals.NoSnapshot) (some_is (snap_of name (stance_of s)) some))) (sym stance)
 
 -- a name is live in the history where the session has it

@@ -15,6 +15,7 @@ ghost use Rattle.proc_table.specs.Table.{InTurn};
 ghost use Rattle.tx_core.specs.declared.entry.Kind.TheVariants as kinds;
 ghost use Rattle.tx_core.specs.Entries.{history};
 ghost use Rattle.tx_core.specs.Locks.{proc_lock};
+ghost use Rattle.tx_core.specs.PostsFollow.{IsShown};
 ghost use Rattle.engine_parts.specs.Answers.{reply_of};
 ghost use Rattle.engine_parts.specs.Calls.{MayRun, Ran, next_command};
 ghost use Rattle.engine_parts.specs.Holds.{Leaves};
@@ -71,6 +72,7 @@ fn register<L: LogDisk, P: PageDisk>(
     requires cell { caller.old.pass.cell ≡ proc_lock }
     requires at { IsAt (start_of hall.now) (view caller.old.pass) caller.old.number caller.old.session }
     requires by { by ≡ by_at caller.old.number caller.old.session.levels.commands }
+    requires shown { IsShown (start_of hall.now) (view caller.old.pass).seen }
     requires free { is_live (start_of hall.now).base.next by.session taken.name
         (history (view caller.old.pass).seen) ≡ false }
     requires table { ProcStands (start_of hall.now) table.value
@@ -176,6 +178,7 @@ fn unregister<L: LogDisk, P: PageDisk>(
     requires cell { caller.old.pass.cell ≡ proc_lock }
     requires at { IsAt (start_of hall.now) (view caller.old.pass) caller.old.number caller.old.session }
     requires by { by ≡ by_at caller.old.number caller.old.session.levels.commands }
+    requires shown { IsShown (start_of hall.now) (view caller.old.pass).seen }
     requires live { is_live (start_of hall.now).base.next by.session name.now
         (history (view caller.old.pass).seen) ≡ true }
     requires table { ProcStands (start_of hall.now) table.value

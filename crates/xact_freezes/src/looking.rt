@@ -1,8 +1,7 @@
 //! What a call reads of the ProcArray.
 ghost use Rattle.std.specs.Prelude.{◌≡◌, ◌+◌, ◌*◌, []};
 ghost use Rattle.hall.specs.Calls.{view, IsOf, start_of};
-ghost use Rattle.tx_core.specs.Locks.{proc_lock};
-ghost use Rattle.engine_parts.specs.Holds.{Section};
+ghost use Rattle.engine_parts.specs.Holds.{ProcSection};
 ghost use Rattle.engine_parts.specs.Sessions.{IsReady, look_by};
 ghost use Rattle.engine_parts.specs.Steps.{WentOn};
 
@@ -20,7 +19,7 @@ pub(crate) fn read_base<R: Passing, L: LogDisk, P: PageDisk>(
     requires own { IsOf hall.now caller.old.pass }
     requires laid { hall.now.cells ≡ 3 + 4 * (start_of hall.now).banks }
     requires ready { IsReady (start_of hall.now) (view caller.old.pass) caller.old.number caller.old.session }
-    ensures section { Section (start_of hall.now) proc_lock (look_by caller.old.number caller.old.session)
+    ensures section { ProcSection (start_of hall.now) (look_by caller.old.number caller.old.session)
         (view caller.old.pass) (view caller.new.pass) }
     ensures own { IsOf hall.now caller.new.pass }
     ensures ready { IsReady (start_of hall.now) (view caller.new.pass) caller.new.number caller.new.session }

@@ -16,7 +16,7 @@ use Rattle.tx_events.specs.declared.snapshot.SnapData.{SnapData}
 use Rattle.tx_events.specs.Horizon.{announced_after, oldest_id}
 use Rattle.tx_events.specs.Snapshots.{snapshot_xmax}
 use Rattle.tx_events.specs.Visible.{is_visible}
-use Rattle.tx_events.proofs.Membership.{Has, by_end, contains_has, has_contains, has_left, has_place, has_right}
+use Rattle.tx_events.proofs.Membership.{Has, by_end, contains_has, has_contains, has_left, has_place, has_right, has_take}
 use Rattle.tx_events.proofs.PlaceLemmas.{take-grows}
 use Rattle.tx_model.specs.declared.command.Pair.{Pair}
 use Rattle.tx_model.specs.declared.reply.MemberVerdict.{MemberVerdict}
@@ -58,6 +58,14 @@ oldest_step base h (events.Abort by top) before = same_oldest base h (events.Abo
 oldest_step base h (events.Snap by name) before = same_oldest base h (events.Snap by name) refl before
 oldest_step base h (events.SnapDrop by name) before = same_oldest base h (events.SnapDrop by name) refl before
 oldest_step base h (events.Ask by id) before = same_oldest base h (events.Ask by id) refl before
+
+-- so at a place
+pub carried_at : (start : Start) (lists : List (List Entry)) (place oldest : ℕ) → oldest ≡ oldest_id start.base.oldest (take place (history lists)) → IsCarried start lists oldest
+carried_at start lists place oldest is =
+    let front : List Event = take place (history lists) in
+    subst (IsCarried start lists) (sym is)
+    (⊎_elim inl (λ (q : (by : By) × Has front (events.Oldest by (oldest_id start.base.oldest front))). inr (q.0, has_contains (history lists) _ (has_take place (history lists) _ q.1)))
+    (by_end (λ h. (oldest_id start.base.oldest h ≡ start.base.oldest) ⊎ ((by : By) × Has h (events.Oldest by (oldest_id start.base.oldest h)))) (inl refl) (λ h e before. oldest_step start.base.oldest h e before) front))
 
 pub carried_now : (start : Start) (lists : List (List Entry)) (oldest : ℕ) → oldest ≡ oldest_id start.base.oldest (history lists) → IsCarried start lists oldest
 carried_now start lists oldest is = subst (IsCarried start lists) (sym is)

@@ -13,6 +13,7 @@ pub mod Following
 pub mod Standings
 pub mod Spanning
 pub mod Judging
+pub mod WordReading
 pub mod Gathering
 pub mod Pinning
 pub mod MultiReplying

@@ -57,7 +57,9 @@ use Rattle.bank_sections.specs.Faults.{IsSubtransFault}
 use Rattle.xact_reads.specs.Readings.{IsShown, IsStateUnread, IsUnread}
 use Rattle.engine_parts.specs.Stages.{pending_in}
 use Rattle.engine_parts.proofs.Unmoved.{went_longer}
+use Rattle.tx_core.specs.Consequences.{IsShownBehind}
 use Rattle.xact_reads.proofs.Going.{others_went}
+use Rattle.xact_reads.proofs.WordReading.{finds_word, word_from}
 
 -- a session's snapshot of this name is registered in what it has seen
 pub named_at : (start : Start) (v : Knowledge) (n : ℕ) (s : Session) (name : List ℕ) (k : RegisteredSnapshot) → IsAt start v n s → IsNamed s.levels name k → IsRegistered start.base (history v.seen) n k × (same_name k.name name ≡ true)
@@ -148,14 +150,14 @@ module _ (start : Start) (v w : Knowledge) (n : ℕ) (s : Session) (name : List 
 
 -- what is shown of an id that wasn't too old when the oldest one was read
 pub seen_answer : (tells : Bool) (start : Start) (v u w : Knowledge) (n : ℕ) (s : Session) (name : List ℕ) (x : Xid) (k : RegisteredSnapshot) (g : Glance) (oldest : ℕ) (shown : Bool) → IsAt start u n s → WentOn n [] v.seen u.seen → WentOn n [] u.seen w.seen → IsNamed s.levels name k
-    → 3 ≤ x.number → Shows k.snapshot x.number g → oldest ≡ oldest_id start.base.oldest (history u.seen) → oldest ≤ g.id → (IsTrue tells → IsShown start w.seen s.levels name g.id shown)
+    → 3 ≤ x.number → Shows k.snapshot x.number g → IsShownBehind start v.seen u.seen oldest → oldest ≤ g.id → (IsTrue tells → IsShown start w.seen s.levels name g.id shown)
     → MayAnswer tells start w.seen (alone (history v.seen) (history w.seen)) (by_at n s.levels.commands) (stance_of s) s.stage (commands.See name x) (replies.Seen shown)
 seen_answer tells start v u w n s name x k g oldest shown a first second named normal shows is young each told few =
     let by : By = by_at n s.levels.commands in
     let h : List Event = history u.seen in
     let others = others_went by u.seen w.seen second in
     let r = named_at start u n s name k a named in
-    let from = oldest_from start u.seen a.kept in
+    let from = word_from start v.seen u.seen oldest a.kept is in
     let exact = each told few (omega arith) k named in
     let longer = went_longer n v.seen u.seen first in
     subst (λ (t : List Event). MayReply start.base start.committed t (alone (history v.seen) t) by (stance_of s) (commands.See name x) (replies.Seen shown)) others.split
@@ -167,7 +169,7 @@ seen_answer tells start v u w n s name x k g oldest shown a first second named n
         taken = r.0.taken ∙ ap (λ m. Some (events.Snap (record { session = n; command = k.command }) m)) (same_name_equal k.name name r.1);
         id = g.id;
         near = ap (λ c. cond c (Some x.number) (near_id (snapshot_xmax start.base.next (take k.place h)) x.number)) (above_special x.number normal) ∙ (ap (λ (d : SnapData). near_id d.xmax x.number) (sym r.0.holds) ∙ shows.near);
-        young = λ _. record { oldest = oldest; found = subst (MayFindOldest start.base h (alone (history v.seen) h) by) (sym is) (finds_oldest start.base by (history v.seen) h longer a.stands.turn); young = young };
+        young = λ _. record { oldest = oldest; found = finds_word start v u n s oldest a first is; young = young };
         exact = exact ∙ ap (λ (t : List Event). is_visible start.committed t g.id) (ap (take k.place) (sym others.split) ∙ take-grows h others.rest _ k.place r.0.taken);
       },
     ))

@@ -18,9 +18,8 @@ use crate::glances::{Glance, glance_at};
 use crate::shows::show;
 use bank_stores::Slot;
 use disk_core::{LogDisk, PageDisk};
-use engine_parts::{Caller, EngineLaw, Passing};
+use engine_parts::{Caller, EngineLaw, Passing, read_oldest_word};
 use hall::Hall;
-use proc_sections::read_oldest;
 use session_levels::registered_as;
 use tx_events::{FullXid, Mode, Name, Refusal, Xid};
 use tx_model::{MemberVerdict, Verdict};
@@ -75,7 +74,7 @@ fn judge_glance<R: Passing, L: LogDisk, P: PageDisk>(
     banks: u32,
     name: &Name,
     glance: Glance,
-    oldest: FullXid,
+    oldest: u64,
 ) -> Result<Verdict, Refusal>
     requires own { IsOf hall.now caller.old.pass }
     requires laid { hall.now.cells ≡ 3 + 4 * (start_of hall.now).banks }
@@ -96,7 +95,7 @@ fn judge_glance<R: Passing, L: LogDisk, P: PageDisk>(
         (by_at caller.old.number caller.old.session.levels.commands)) }
     ensures same { (caller.new.session ≡ caller.old.session) × (caller.new.number ≡ caller.old.number) }
 {
-    if glance.id < oldest {
+    if glance.id.number() < oldest {
         return Ok(Verdict::TooOld);
     }
     match show(rt, hall, caller, banks, name, glance) {
@@ -114,7 +113,7 @@ fn judge<R: Passing, L: LogDisk, P: PageDisk>(
     name: &Name,
     x: Xid,
     mode: Mode,
-    oldest: FullXid,
+    oldest: u64,
 ) -> Result<MemberVerdict, Refusal>
     requires own { IsOf hall.now caller.old.pass }
     requires laid { hall.now.cells ≡ 3 + 4 * (start_of hall.now).banks }
@@ -184,7 +183,7 @@ fn judge_slot<R: Passing, L: LogDisk, P: PageDisk>(
     banks: u32,
     name: &Name,
     slot: Slot,
-    oldest: FullXid,
+    oldest: u64,
     into: &mut Vec<MemberVerdict>,
 ) -> Result<(), Refusal>
     requires own { IsOf hall.now caller.old.pass }
@@ -223,7 +222,8 @@ fn judge_slot<R: Passing, L: LogDisk, P: PageDisk>(
     }
 }
 
-/// The verdicts on the members in these slots, in order: the oldest id is read once, and then each member is judged.
+/// The verdicts on the members in these slots, in order: the published oldest id is read once, and then each member is
+/// judged.
 pub(crate) fn judge_all<R: Passing, L: LogDisk, P: PageDisk>(
     rt: &R,
     hall: &Hall<EngineLaw<L, P>>,
@@ -254,7 +254,7 @@ pub(crate) fn judge_all<R: Passing, L: LogDisk, P: PageDisk>(
     ensures ranges { AllByRecursion IsOfId into.new.items }
     ensures same { (caller.new.session ≡ caller.old.session) × (caller.new.number ≡ caller.old.number) }
 {
-    let oldest = read_oldest(rt, hall, caller);
+    let oldest = read_oldest_word(hall, caller);
     let mut place = 0;
     while place < slots.len() {
         let slot = slots[place];

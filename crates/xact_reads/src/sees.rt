@@ -16,14 +16,15 @@ ghost use Rattle.xact_reads.specs.Glances.{HasGlanced};
 use crate::glances::{Glance, glance_at};
 use crate::shows::show;
 use disk_core::{LogDisk, PageDisk};
-use engine_parts::{Caller, EngineLaw, Passing, count};
+use engine_parts::{Caller, EngineLaw, Passing, count, read_oldest_word};
 use hall::Hall;
 use proc_sections::read_oldest;
 use session_levels::registered_as;
 use tx_events::{Name, Refusal, Xid};
 
 /// What the session's snapshot of this name shows of the stored id `_x`, for which it was looked there: `TooOld` where
-/// the id is before the oldest one, or there is none.
+/// the id is before the oldest one, or there is none. Whether it is the published oldest id tells, under no lock; only
+/// for that refusal the ProcArray is looked at.
 fn see_found<R: Passing, L: LogDisk, P: PageDisk>(
     rt: &R,
     hall: &Hall<EngineLaw<L, P>>,
@@ -51,11 +52,15 @@ fn see_found<R: Passing, L: LogDisk, P: PageDisk>(
     ensures standing { by_standing (reply_of replies.Seen result) ≡ None }
     ensures same { (caller.new.session ≡ caller.old.session) × (caller.new.number ≡ caller.old.number) }
 {
-    let oldest = read_oldest(rt, hall, caller);
     match found {
-        None => Err(Refusal::TooOld { oldest }),
+        None => {
+            let oldest = read_oldest(rt, hall, caller);
+            Err(Refusal::TooOld { oldest })
+        }
         Some(glance) => {
-            if glance.id < oldest {
+            let published = read_oldest_word(hall, caller);
+            if glance.id.number() < published {
+                let oldest = read_oldest(rt, hall, caller);
                 return Err(Refusal::TooOld { oldest });
             }
             match show(rt, hall, caller, banks, name, *glance) {

@@ -101,4 +101,5 @@ returns-in-Ok-new-clause-parked g c n s inside new =
     let start = c.args.parts.start.value in
     let passes = ap (λ (o : Opening Start Entry). o.passes) c.opening_note-from.ensures ∙ ap (λ k. k + 1) c.requires.sessions in
     let held = ap (λ (v : View Start Entry). slice_index_or v.holds n false) c.in-Ok-new.ensures.pass.1 ∙ get_or-replicate c.opening_note-from.result.value.passes n true false (omega (arith, inside, passes)) in
-    new_parked c.in-Ok-new.hall _ n s (returns-in-Ok-new-clause-host g c) (returns-in-Ok-new-clause-unseen g c) held inside new
+    let long = ap length c.in-Ok.ensures ∙ words_long c.args.parts.cluster in
+    new_parked c.in-Ok-new.hall _ n s (returns-in-Ok-new-clause-host g c) (omega (arith, c.in-Ok-new.ensures.hall.3, long)) (returns-in-Ok-new-clause-unseen g c) held inside new

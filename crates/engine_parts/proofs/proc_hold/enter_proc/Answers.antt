@@ -4,8 +4,8 @@ use Rattle.engine_parts.specs.Sessions.{IsAt}
 use Rattle.engine_parts.proofs.Going.{at_on}
 use Rattle.engine_parts.proofs.proc_hold.enter_proc.Goals as goal
 
-pub returns-clause-at : goal.returns-clause-at
-returns-clause-at g c =
+pub publish_oldest-requires-clause-at : goal.publish_oldest-requires-clause-at
+publish_oldest-requires-clause-at g c =
     let e = c.enter-part.ensures.entered in
     let same = c.knock.ensures.same in
     let before : IsAt (start_of c.args.hall.now) (view c.knock.new.caller.pass) c.knock.new.caller.number c.knock.new.caller.session = subst (λ t. IsAt (start_of c.args.hall.now) (view t) c.knock.new.caller.number c.knock.new.caller.session) (sym c.knock.ensures.pass)

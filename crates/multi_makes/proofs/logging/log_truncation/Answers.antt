@@ -60,7 +60,7 @@ returns-clause-adds g c =
     (plain_wider IsTruncation ⊥ (λ r. ⊥))
     (may_wider (λ z. z ≡ rec) IsTruncation ⊥ ⊥ (λ r. ⊥) (λ r. ⊥) (λ z is. subst IsTruncation (sym is) tt) (λ m. m) (λ r m. m))
     (both_add by mid IsPlain IsPlain IsPlain (view old.pass).seen (view u.pass).seen (view t.pass).seen (same_command old.number u.number old.session u.session e.same.1 e.same.0) (λ lock kind m. m) (λ lock kind m. m)
-    (look_adds start (view old.pass) (view u.pass) old.number old.session IsPlain c.requires.may.ready.at tt e.section)
+    (look_adds start (view old.pass) (view u.pass) old.number old.session IsPlain c.requires.may.ready.at (λ number. tt) tt e.section)
     (multi_look_adds start (view u.pass) (view t.pass) u.number u.session e.ready.at f.section))
     (truncation_adds start (view t.pass) (view w.pass) by' t.session rec c.append_truncation.result f.ready.at c.append_truncation.ensures.section)
 

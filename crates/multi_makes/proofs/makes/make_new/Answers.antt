@@ -67,7 +67,7 @@ returns-in-Ok-clause-adds g c =
     let r = c.make_of.result in
     both_add (by_at old.number old.session.levels.commands) (by_at u.number u.session.levels.commands) IsPlain (MayAdd IsOfMulti ⊥ (IsToldBy r)) (MayAdd IsOfMulti ⊥ (IsToldBy r)) (view old.pass).seen (view u.pass).seen (view x.pass).seen (same_command old.number u.number old.session u.session e.same.1 e.same.0)
     (plain_wider IsOfMulti ⊥ (IsToldBy r)) (λ lock kind m. m)
-    (look_adds start (view old.pass) (view u.pass) old.number old.session IsPlain c.requires.step.may.ready.at tt e.section)
+    (look_adds start (view old.pass) (view u.pass) old.number old.session IsPlain c.requires.step.may.ready.at (λ number. tt) tt e.section)
     c.make_of.ensures.adds
 
 pub returns-in-Ok-clause-makes : goal.returns-in-Ok-clause-makes
@@ -95,7 +95,7 @@ returns-in-Err-clause-adds g c =
     let u = c.read_horizons-found.new.caller in
     let r = c.in-Err.refusal in
     adds_wider (by_at old.number old.session.levels.commands) IsPlain (MayAdd IsOfMulti ⊥ (λ q. r ≡ q)) (view old.pass).seen (view u.pass).seen (plain_wider IsOfMulti ⊥ (λ q. r ≡ q))
-    (look_adds (start_of c.args.hall.now) (view old.pass) (view u.pass) old.number old.session IsPlain c.requires.step.may.ready.at tt c.read_horizons-found.ensures.section)
+    (look_adds (start_of c.args.hall.now) (view old.pass) (view u.pass) old.number old.session IsPlain c.requires.step.may.ready.at (λ number. tt) tt c.read_horizons-found.ensures.section)
 
 pub returns-in-Err-clause-makes : goal.returns-in-Err-clause-makes
 returns-in-Err-clause-makes g c =

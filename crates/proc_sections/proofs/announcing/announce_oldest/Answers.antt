@@ -12,8 +12,7 @@ use Rattle.engine_parts.specs.Faults.{look_of}
 use Rattle.engine_parts.specs.Sessions.{by_at, look_by}
 use Rattle.engine_parts.specs.Stand.{ProcStands}
 use Rattle.engine_parts.proofs.Leaving.{history_same}
-use Rattle.engine_parts.proofs.Sectioning.{same_command, section_of}
-use Rattle.engine_parts.proofs.Stepping.{went_event, went_quiet}
+use Rattle.engine_parts.proofs.Sectioning.{same_command, proc_event, proc_quiet, proc_section_of}
 use Rattle.engine_parts.proofs.Tabling.{proc_adds, proc_looks}
 use Rattle.proc_sections.proofs.Announced.{may_announce, not_announced, oldest_entry, raised_here, ready_announced}
 use Rattle.proc_sections.proofs.announcing.announce_oldest.Goals as goal
@@ -25,7 +24,7 @@ leave_proc-requires-clause-may g c =
     let old = c.args.caller.now in
     let u = c.enter_proc-held.new.caller in
     let by = by_at old.number old.session.levels.commands in
-    may_announce start (view u.pass).seen by c.args.oldest c.oldest_note-entry.result.value (c.oldest_note-entry.ensures ∙ ap (λ (b : By). oldest_entry b c.args.oldest) c.command_of-by.ensures)
+    may_announce start (view u.pass).seen by c.args.oldest c.oldest_note-entry.result.value (c.oldest_note-entry.ensures ∙ ap (λ (b : By). oldest_entry b c.args.oldest) c.command_of-by.ensures) e.entered.shown
     (raised_here start (view u.pass) c.deref_mut-table.result.now c.args.oldest (subst (λ l. ProcStands (start_of c.args.hall.now) l (at (view c.enter_proc-held.new.caller.pass).seen proc_lock)) (sym c.deref_mut-table.ensures.value) c.enter_proc-held.ensures.stands) c.in-Ok.ensures.0 c.in-Ok.ensures.1)
     (subst (λ (b : By). IsInTurn start (at (view u.pass).seen proc_lock) b) (λ j. by_at (e.same.1 j) (e.same.0 j).levels.commands) (e.at.turns proc_lock))
 
@@ -39,7 +38,7 @@ leave_proc-requires-clause-stands g c =
 pub returns-in-Ok-clause-section : goal.returns-in-Ok-clause-section
 returns-in-Ok-clause-section g c =
     let old = c.args.caller.now in
-    section_of (start_of c.args.hall.now) (view old.pass) (view c.enter_proc-held.new.caller.pass) (view c.leave_proc.new.caller.pass) proc_lock c.oldest_note-entry.result.value (oldest_entry (by_at old.number old.session.levels.commands) c.args.oldest) c.enter_proc-held.ensures.entered
+    proc_section_of (start_of c.args.hall.now) (view old.pass) (view c.enter_proc-held.new.caller.pass) (view c.leave_proc.new.caller.pass) c.oldest_note-entry.result.value (oldest_entry (by_at old.number old.session.levels.commands) c.args.oldest) c.enter_proc-held.ensures.entered
     (c.oldest_note-entry.ensures ∙ ap (λ (b : By). oldest_entry b c.args.oldest) c.command_of-by.ensures) c.leave_proc.ensures.left
 
 pub returns-in-Ok-clause-ready : goal.returns-in-Ok-clause-ready
@@ -58,7 +57,7 @@ returns-in-Ok-clause-announces g c =
     let by = by_at old.number old.session.levels.commands in
     let d = c.oldest_note-entry.result.value in
     let is : d ≡ oldest_entry by c.args.oldest = c.oldest_note-entry.ensures ∙ ap (λ (b : By). oldest_entry b c.args.oldest) c.command_of-by.ensures in
-    went_event (start_of c.args.hall.now) (view old.pass) (view c.enter_proc-held.new.caller.pass) (view c.leave_proc.new.caller.pass) by old.session d (events.Oldest by c.args.oldest) c.requires.ready.at e.entered.kept e.entered.learns (ap event_of is) refl (ap asks_in is) c.leave_proc.ensures.left
+    proc_event (start_of c.args.hall.now) (view old.pass) (view c.enter_proc-held.new.caller.pass) (view c.leave_proc.new.caller.pass) by old.session d (events.Oldest by c.args.oldest) c.requires.ready.at e.entered (ap event_of is) refl (ap asks_in is) c.leave_proc.ensures.left
 
 pub leave_looked-requires-clause-stands : goal.leave_looked-requires-clause-stands
 leave_looked-requires-clause-stands g c =
@@ -72,7 +71,7 @@ returns-in-Err-clause-section g c =
     let t = c.enter_proc-held.new.caller in
     let s = c.args.caller.now.session in
     let n = c.args.caller.now.number in
-    section_of (start_of c.args.hall.now) (view c.args.caller.now.pass) (view t.pass) (view c.leave_looked.new.caller.pass) proc_lock (look_by t.number t.session) (look_by n s) e.entered (ap look_of (same_command n t.number s t.session e.same.1 e.same.0)) c.leave_looked.ensures.left
+    proc_section_of (start_of c.args.hall.now) (view c.args.caller.now.pass) (view t.pass) (view c.leave_looked.new.caller.pass) (look_by t.number t.session) (look_by n s) e.entered (ap look_of (same_command n t.number s t.session e.same.1 e.same.0)) c.leave_looked.ensures.left
 
 pub returns-in-Err-clause-announces : goal.returns-in-Err-clause-announces
 returns-in-Err-clause-announces g c =
@@ -81,7 +80,7 @@ returns-in-Err-clause-announces g c =
     let u = view c.enter_proc-held.new.caller.pass in
     let w = view c.leave_looked.new.caller.pass in
     let wide = c.requires.ready.at.wide in
-    let long = e.entered.learns.long in (
-      went_quiet start (view c.args.caller.now.pass) u w c.args.caller.now.number proc_lock c.args.caller.now.session _ c.requires.ready.at e.entered.kept e.entered.learns (omega arith) refl refl refl c.leave_looked.ensures.left,
+    let long = e.entered.long in (
+      proc_quiet start (view c.args.caller.now.pass) u w c.args.caller.now.number c.args.caller.now.session _ c.requires.ready.at e.entered refl refl refl c.leave_looked.ensures.left,
       not_announced start u w c.deref_mut-table.result.now c.args.oldest c.in-Err.refusal (subst (λ l. ProcStands (start_of c.args.hall.now) l (at (view c.enter_proc-held.new.caller.pass).seen proc_lock)) (sym c.deref_mut-table.ensures.value) c.enter_proc-held.ensures.stands) (history_same start u w proc_lock _ refl (omega arith) c.leave_looked.ensures.left) c.in-Err.ensures.1,
     )

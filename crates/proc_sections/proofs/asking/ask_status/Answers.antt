@@ -12,8 +12,7 @@ use Rattle.engine_parts.specs.Faults.{look_of}
 use Rattle.engine_parts.specs.Sessions.{by_at, look_by}
 use Rattle.engine_parts.specs.Stand.{ProcStands}
 use Rattle.engine_parts.proofs.Leaving.{history_event}
-use Rattle.engine_parts.proofs.Sectioning.{same_command, section_of}
-use Rattle.engine_parts.proofs.Stepping.{went_event, went_quiet}
+use Rattle.engine_parts.proofs.Sectioning.{same_command, proc_event, proc_quiet, proc_section_of}
 use Rattle.engine_parts.proofs.Tabling.{proc_adds, proc_looks}
 use Rattle.proc_sections.proofs.Questions.{answered_by, ask_entry, may_ask, ready_asked}
 use Rattle.proc_sections.proofs.asking.ask_status.Goals as goal
@@ -25,7 +24,7 @@ leave_proc-requires-clause-may g c =
     let old = c.args.caller.now in
     let u = c.enter_proc-held.new.caller in
     let by = by_at old.number old.session.levels.commands in
-    may_ask start (view u.pass).seen by c.args.x c.ask_note-entry.result.value (c.ask_note-entry.ensures ∙ ap (λ (b : By). ask_entry b c.args.x) c.command_of-by.ensures) c.requires.full
+    may_ask start (view u.pass).seen by c.args.x c.ask_note-entry.result.value (c.ask_note-entry.ensures ∙ ap (λ (b : By). ask_entry b c.args.x) c.command_of-by.ensures) e.entered.shown c.requires.full
     (subst (λ (b : By). IsInTurn start (at (view u.pass).seen proc_lock) b) (λ j. by_at (e.same.1 j) (e.same.0 j).levels.commands) (e.at.turns proc_lock))
 
 pub leave_proc-requires-clause-stands : goal.leave_proc-requires-clause-stands
@@ -38,7 +37,7 @@ leave_proc-requires-clause-stands g c =
 pub returns-in-Ok-clause-section : goal.returns-in-Ok-clause-section
 returns-in-Ok-clause-section g c =
     let old = c.args.caller.now in
-    section_of (start_of c.args.hall.now) (view old.pass) (view c.enter_proc-held.new.caller.pass) (view c.leave_proc.new.caller.pass) proc_lock c.ask_note-entry.result.value (ask_entry (by_at old.number old.session.levels.commands) c.args.x) c.enter_proc-held.ensures.entered
+    proc_section_of (start_of c.args.hall.now) (view old.pass) (view c.enter_proc-held.new.caller.pass) (view c.leave_proc.new.caller.pass) c.ask_note-entry.result.value (ask_entry (by_at old.number old.session.levels.commands) c.args.x) c.enter_proc-held.ensures.entered
     (c.ask_note-entry.ensures ∙ ap (λ (b : By). ask_entry b c.args.x) c.command_of-by.ensures) c.leave_proc.ensures.left
 
 pub returns-in-Ok-clause-ready : goal.returns-in-Ok-clause-ready
@@ -62,8 +61,8 @@ returns-in-Ok-clause-asks g c =
     let d = c.ask_note-entry.result.value in
     let is : d ≡ ask_entry by c.args.x = c.ask_note-entry.ensures ∙ ap (λ (b : By). ask_entry b c.args.x) c.command_of-by.ensures in
     let wide = c.requires.ready.at.wide in
-    let long = e.entered.learns.long in (
-      went_event start (view old.pass) u w by old.session d (events.Ask by c.args.x) c.requires.ready.at e.entered.kept e.entered.learns (ap event_of is) refl (ap asks_in is) c.leave_proc.ensures.left,
+    let long = e.entered.long in (
+      proc_event start (view old.pass) u w by old.session d (events.Ask by c.args.x) c.requires.ready.at e.entered (ap event_of is) refl (ap asks_in is) c.leave_proc.ensures.left,
       answered_by start u w by c.args.x c.deref_mut-table.result.now c.in-Ok.asked d (subst (λ l. ProcStands (start_of c.args.hall.now) l (at (view c.enter_proc-held.new.caller.pass).seen proc_lock)) (sym c.deref_mut-table.ensures.value) c.enter_proc-held.ensures.stands) c.in-Ok.ensures.0 is (history_event start u w d (events.Ask by c.args.x) (ap event_of is) (omega arith) c.leave_proc.ensures.left),
     )
 
@@ -79,10 +78,10 @@ returns-in-Err-clause-section g c =
     let t = c.enter_proc-held.new.caller in
     let s = c.args.caller.now.session in
     let n = c.args.caller.now.number in
-    section_of (start_of c.args.hall.now) (view c.args.caller.now.pass) (view t.pass) (view c.leave_looked.new.caller.pass) proc_lock (look_by t.number t.session) (look_by n s) e.entered (ap look_of (same_command n t.number s t.session e.same.1 e.same.0)) c.leave_looked.ensures.left
+    proc_section_of (start_of c.args.hall.now) (view c.args.caller.now.pass) (view t.pass) (view c.leave_looked.new.caller.pass) (look_by t.number t.session) (look_by n s) e.entered (ap look_of (same_command n t.number s t.session e.same.1 e.same.0)) c.leave_looked.ensures.left
 
 pub returns-in-Err-clause-asks : goal.returns-in-Err-clause-asks
 returns-in-Err-clause-asks g c =
     let e = c.enter_proc-held.ensures in
     let wide = c.requires.ready.at.wide in
-    went_quiet (start_of c.args.hall.now) (view c.args.caller.now.pass) (view c.enter_proc-held.new.caller.pass) (view c.leave_looked.new.caller.pass) c.args.caller.now.number proc_lock c.args.caller.now.session _ c.requires.ready.at e.entered.kept e.entered.learns (omega arith) refl refl refl c.leave_looked.ensures.left
+    proc_quiet (start_of c.args.hall.now) (view c.args.caller.now.pass) (view c.enter_proc-held.new.caller.pass) (view c.leave_looked.new.caller.pass) c.args.caller.now.number c.args.caller.now.session _ c.requires.ready.at e.entered refl refl refl c.leave_looked.ensures.left

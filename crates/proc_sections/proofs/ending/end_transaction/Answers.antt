@@ -9,15 +9,14 @@ use Rattle.tx_core.specs.Entries.{history}
 use Rattle.tx_core.specs.Locks.{proc_lock}
 use Rattle.tx_core.specs.ProgramOrder.{IsInTurn}
 use Rattle.engine_parts.specs.declared.session.Session.{Session}
-use Rattle.engine_parts.specs.Holds.{Leaves, Section}
+use Rattle.engine_parts.specs.Holds.{Leaves, ProcSection}
 use Rattle.engine_parts.specs.Sessions.{IsAt, by_at}
 use Rattle.engine_parts.specs.Stand.{ProcStands}
 use Rattle.engine_parts.specs.Steps.{WentOn}
 use Rattle.session_levels.proofs.HeadLemmas.{first_top, heads}
-use Rattle.engine_parts.proofs.Stepping.{went_event}
 use Rattle.engine_parts.proofs.Tabling.{proc_adds}
 use Rattle.proc_sections.proofs.Closing.{call_ended, end_by, end_entry, marked_on, may_add_end, ready_ended, record_for, split_first}
-use Rattle.engine_parts.proofs.Sectioning.{section_of}
+use Rattle.engine_parts.proofs.Sectioning.{entered_grows, proc_event, proc_section_of}
 use Rattle.proc_sections.proofs.ending.end_transaction.Goals as goal
 
 pub leave_proc-requires-clause-may : goal.leave_proc-requires-clause-may
@@ -33,11 +32,11 @@ leave_proc-requires-clause-may g c =
     let split = split_first s.levels.open_ids.items top c.requires.some c.index-top.ensures in
     let opened = ap (λ (z : Session). z.levels.open_ids.items) e.same.0 ∙ split in
     let subs = drop 1 s.levels.open_ids.items in
-    may_add_end start (view u.pass).seen c.args.how (by_at n s.levels.commands) top subs c.by-entry.result.value c.by-entry.ensures
+    may_add_end start (view u.pass).seen c.args.how (by_at n s.levels.commands) top subs c.by-entry.result.value c.by-entry.ensures e.entered.shown
     (ap (λ k. open_ids k (history (view u.pass).seen)) (sym e.same.1) ∙ (e.at.stands.opened ∙ opened))
     (first_top (history (view u.pass).seen) t.levels.open_ids.items t.levels.level_ids.items top subs e.at.stands.nest opened)
-    (record_for start c.args.how v (view u.pass) n top subs s c.requires.may (subst (λ (z : ℕ × Session). IsAt start (view u.pass) z.0 z.1) (λ j. (e.same.1 j, e.same.0 j)) e.at) e.entered.learns.knows.grows split c.requires.end)
-    (marked_on start v.seen (view u.pass).seen s.levels.open_ids.items top subs c.args.how e.entered.learns.knows.grows split c.requires.end.marked)
+    (record_for start c.args.how v (view u.pass) n top subs s c.requires.may (subst (λ (z : ℕ × Session). IsAt start (view u.pass) z.0 z.1) (λ j. (e.same.1 j, e.same.0 j)) e.at) (entered_grows start v (view u.pass) n s c.requires.may.ready.at e.entered) split c.requires.end)
+    (marked_on start v.seen (view u.pass).seen s.levels.open_ids.items top subs c.args.how (entered_grows start v (view u.pass) n s c.requires.may.ready.at e.entered) split c.requires.end.marked)
     (subst (λ (b : By). IsInTurn (start_of c.args.hall.now) (at (view u.pass).seen proc_lock) b) (λ j. by_at (e.same.1 j) (e.same.0 j).levels.commands) (e.at.turns proc_lock))
 
 pub leave_proc-requires-clause-stands : goal.leave_proc-requires-clause-stands
@@ -73,7 +72,7 @@ returns-clause-ended g c =
     record {
       went = λ t subs is.
           subst (λ z. WentOn c.args.caller.now.number (end_event c.args.how by z ∷ []) (view c.args.caller.now.pass).seen (view c.leave_proc.new.caller.pass).seen) (heads top t (drop 1 s.levels.open_ids.items) subs (sym split ∙ is))
-          (went_event (start_of c.args.hall.now) (view c.args.caller.now.pass) (view c.enter_proc-held.new.caller.pass) (view c.leave_proc.new.caller.pass) by s (end_entry c.args.how by top) (end_event c.args.how by top) c.requires.may.ready.at e.entered.kept e.entered.learns refl (end_by c.args.how by top) refl
+          (proc_event (start_of c.args.hall.now) (view c.args.caller.now.pass) (view c.enter_proc-held.new.caller.pass) (view c.leave_proc.new.caller.pass) by s (end_entry c.args.how by top) (end_event c.args.how by top) c.requires.may.ready.at e.entered refl (end_by c.args.how by top) refl
           (subst (λ (d : Entry). Leaves (start_of c.args.hall.now) proc_lock d (view c.enter_proc-held.new.caller.pass) (view c.leave_proc.new.caller.pass)) c.by-entry.ensures c.leave_proc.ensures.left));
       named = c.clear.ensures.items;
       unnamed = refl;
@@ -94,5 +93,5 @@ returns-clause-section g c t subs is =
     let w = view c.leave_proc.new.caller.pass in
     let top = c.index-top.result.now in
     let split = split_first s.levels.open_ids.items top c.requires.some c.index-top.ensures in
-    subst (λ (z : ℕ). Section start proc_lock (end_entry c.args.how by z) v w) (heads top t (drop 1 s.levels.open_ids.items) subs (sym split ∙ is))
-    (section_of start v (view c.enter_proc-held.new.caller.pass) w proc_lock c.by-entry.result.value (end_entry c.args.how by top) c.enter_proc-held.ensures.entered c.by-entry.ensures c.leave_proc.ensures.left)
+    subst (λ (z : ℕ). ProcSection start (end_entry c.args.how by z) v w) (heads top t (drop 1 s.levels.open_ids.items) subs (sym split ∙ is))
+    (proc_section_of start v (view c.enter_proc-held.new.caller.pass) w c.by-entry.result.value (end_entry c.args.how by top) c.enter_proc-held.ensures.entered c.by-entry.ensures c.leave_proc.ensures.left)

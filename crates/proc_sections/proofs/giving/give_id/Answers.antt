@@ -1,13 +1,13 @@
 use Rattle.std.proofs.Common.{◌++◌, ◌∷◌, [], ◌≤◌, ℕ, arith, ap, ◌∙◌, subst, sym, refl, List, Ok, IsTrue, ◌↔◌, inl, inr, ⊎_elim, Option}
 use Rattle.hall.specs.Calls.{view, start_of}
-use Rattle.notes.specs.Lists.{Knows, at}
+use Rattle.notes.specs.Lists.{at}
 use Rattle.tx_events.specs.Limits.{warn_limit}
 use Rattle.tx_events.specs.declared.event.Event.{Event}
 use Rattle.tx_events.specs.declared.record.Counters.{Counters}
 use Rattle.tx_events.specs.History.{IsNextGiven, next_given}
 use Rattle.tx_events.specs.Horizon.{oldest_id}
 use Rattle.tx_model.specs.CommandEvents.{giving}
-use Rattle.tx_core.specs.Entries.{history, session_of}
+use Rattle.tx_core.specs.Entries.{history}
 use Rattle.tx_core.specs.Locks.{proc_lock}
 use Rattle.proc_table.specs.Table.{IsGiven, Table}
 use Rattle.session_levels.specs.Stands.{IsParent, last_of}
@@ -16,14 +16,12 @@ use Rattle.engine_parts.specs.declared.session.Session.{Session}
 use Rattle.engine_parts.specs.Sessions.{by_at, inner_id, look_by}
 use Rattle.engine_parts.specs.Stand.{ProcStands}
 use Rattle.engine_parts.specs.Steps.{WentOn}
-use Rattle.engine_parts.proofs.Going.{rest_of}
-use Rattle.engine_parts.proofs.Leaving.{call_left, history_event, history_same}
-use Rattle.engine_parts.proofs.Stepping.{went_event, went_quiet}
+use Rattle.engine_parts.proofs.Leaving.{history_event, history_same}
 use Rattle.engine_parts.proofs.Tabling.{proc_adds, proc_looks}
 use Rattle.proc_sections.specs.Givings.{GivesId, IsNamed, IsStopIn, GiveSection}
 use Rattle.proc_sections.proofs.Making.{made_here, need_page, untold}
 use Rattle.proc_sections.proofs.Naming.{call_given, giving_by, giving_entry}
-use Rattle.engine_parts.proofs.Sectioning.{same_command, section_of}
+use Rattle.engine_parts.proofs.Sectioning.{entered_grows, entered_rest, proc_call, proc_event, proc_quiet, proc_section_of, same_command}
 use Rattle.engine_parts.specs.Faults.{look_of}
 use Rattle.proc_sections.proofs.giving.give_id.Goals as goal
 
@@ -75,8 +73,8 @@ returns-in-Err-clause-may g c =
     let r = c.leave_looked.ensures in
     let wide = c.requires.may.ready.at.wide in
     let same = r.same.0 ∙ e.same.0 in
-    call_left (start_of c.args.hall.now) (view c.args.caller.now.pass) (view c.enter_proc-held.new.caller.pass) (view c.leave_looked.new.caller.pass) c.args.caller.now.number c.leave_looked.new.caller.number proc_lock c.args.caller.now.session c.leave_looked.new.caller.session _
-    c.requires.may e.entered.learns (omega arith) r.left refl (ap (λ (z : Session). inner_id z) same) (ap (λ (z : Session). z.levels.open_ids.items) same) (ap (λ (z : Session). z.stage) same) (r.same.1 ∙ e.same.1) r.ready
+    proc_call (start_of c.args.hall.now) (view c.args.caller.now.pass) (view c.enter_proc-held.new.caller.pass) (view c.leave_looked.new.caller.pass) c.args.caller.now.number c.leave_looked.new.caller.number c.args.caller.now.session c.leave_looked.new.caller.session _
+    c.requires.may e.entered r.left refl (ap (λ (z : Session). inner_id z) same) (ap (λ (z : Session). z.levels.open_ids.items) same) (ap (λ (z : Session). z.stage) same) (r.same.1 ∙ e.same.1) r.ready
 
 pub returns-in-Err-clause-gives : goal.returns-in-Err-clause-gives
 returns-in-Err-clause-gives g c =
@@ -86,10 +84,10 @@ returns-in-Err-clause-gives g c =
     let u = view c.enter_proc-held.new.caller.pass in
     let w = view c.leave_looked.new.caller.pass in
     let wide = c.requires.may.ready.at.wide in
-    let long = e.entered.learns.long in
+    let long = e.entered.long in
     let still = history_same start u w proc_lock _ refl (omega arith) l in
     let st = (subst (λ l. ProcStands (start_of c.args.hall.now) l (at (view c.enter_proc-held.new.caller.pass).seen proc_lock)) (sym c.deref_mut-table.ensures.value) c.enter_proc-held.ensures.stands) in (
-      went_quiet start (view c.args.caller.now.pass) u w c.args.caller.now.number proc_lock c.args.caller.now.session _ c.requires.may.ready.at e.entered.kept e.entered.learns (omega arith) refl refl refl l,
+      proc_quiet start (view c.args.caller.now.pass) u w c.args.caller.now.number c.args.caller.now.session _ c.requires.may.ready.at e.entered refl refl refl l,
       c.leave_looked.ensures.same.0 ∙ e.same.0,
       ⊎_elim (λ m. inl m.1) (λ m. inr (subst (λ (z : Counters × List Event). IsStopIn z.0 z.1 c.in-Err.refusal) (λ j. (st.base j, (st.events ∙ sym still) j)) m)) c.in-Err.ensures.2,
     )
@@ -108,8 +106,8 @@ returns-in-Id-clause-may g c =
     let w = view c.name_level.new.caller.pass in
     let m = c.name_level.ensures in
     let named : IsNamed s c.name_level.new.caller.session c.in-Id.id = subst (λ (z : Session). IsNamed z c.name_level.new.caller.session c.in-Id.id) e.same.0 m.named in
-    call_given start v u w c.args.caller.now.number c.name_level.new.caller.number s c.name_level.new.caller.session c.in-Id.id c.requires.may c.requires.clear e.entered.learns.knows.grows (i.0 ∙ (λ j. next_given ((subst (λ l. ProcStands (start_of c.args.hall.now) l (at (view c.enter_proc-held.new.caller.pass).seen proc_lock)) (sym c.deref_mut-table.ensures.value) c.enter_proc-held.ensures.stands).base j).next ((subst (λ l. ProcStands (start_of c.args.hall.now) l (at (view c.enter_proc-held.new.caller.pass).seen proc_lock)) (sym c.deref_mut-table.ensures.value) c.enter_proc-held.ensures.stands).events j)))
-    (went_event start v u w by s (giving_entry by par c.in-Id.id) (giving by par c.in-Id.id) c.requires.may.ready.at e.entered.kept e.entered.learns refl (giving_by by par c.in-Id.id) refl m.left).asks
+    call_given start v u w c.args.caller.now.number c.name_level.new.caller.number s c.name_level.new.caller.session c.in-Id.id c.requires.may c.requires.clear (entered_grows start v u c.args.caller.now.number s c.requires.may.ready.at e.entered) (i.0 ∙ (λ j. next_given ((subst (λ l. ProcStands (start_of c.args.hall.now) l (at (view c.enter_proc-held.new.caller.pass).seen proc_lock)) (sym c.deref_mut-table.ensures.value) c.enter_proc-held.ensures.stands).base j).next ((subst (λ l. ProcStands (start_of c.args.hall.now) l (at (view c.enter_proc-held.new.caller.pass).seen proc_lock)) (sym c.deref_mut-table.ensures.value) c.enter_proc-held.ensures.stands).events j)))
+    (proc_event start v u w by s (giving_entry by par c.in-Id.id) (giving by par c.in-Id.id) c.requires.may.ready.at e.entered refl (giving_by by par c.in-Id.id) refl m.left).asks
     named (m.number ∙ e.same.1) m.ready
 
 pub returns-in-Id-clause-gives : goal.returns-in-Id-clause-gives
@@ -125,17 +123,16 @@ returns-in-Id-clause-gives g c =
     let i = subst (IsGiven c.deref_mut-table.result.now c.next_id.new.table (λ id. giving by par id)) c.in-Id.is c.in-Ok.ensures in
     let m = c.name_level.ensures in
     let wide = c.requires.may.ready.at.wide in
-    let long = e.entered.learns.long in
+    let long = e.entered.long in
     let v = view c.args.caller.now.pass in
     let u = view c.enter_proc-held.new.caller.pass in
     let w = view c.name_level.new.caller.pass in
     let below = c.innermost_id-parent.ensures in
-    let knows : Knows session_of n v.seen u.seen = subst (λ (z : ℕ). Knows session_of z v.seen u.seen) c.requires.may.ready.at.name e.entered.learns.knows in
-    let r = rest_of start n v.seen u.seen e.entered.kept knows in
+    let r = entered_rest start v u n s c.requires.may.ready.at e.entered in
     let named : IsNamed s c.name_level.new.caller.session c.in-Id.id = subst (λ (z : Session). IsNamed z c.name_level.new.caller.session c.in-Id.id) e.same.0 m.named in
     subst (GivesId start n s c.name_level.new.caller.session v.seen w.seen) (ap Ok (sym c.in-Id.is)) (
       subst (λ (p : Option ℕ). WentOn n (giving by p c.in-Id.id ∷ []) v.seen w.seen) below
-          (went_event start v u w by s (giving_entry by par c.in-Id.id) event c.requires.may.ready.at e.entered.kept e.entered.learns refl (giving_by by par c.in-Id.id) refl m.left),
+          (proc_event start v u w by s (giving_entry by par c.in-Id.id) event c.requires.may.ready.at e.entered refl (giving_by by par c.in-Id.id) refl m.left),
       record {
         rest = r.rest;
         beside = r.beside;
@@ -161,8 +158,8 @@ returns-clause-may g c =
     let r = c.leave_looked-2.ensures in
     let wide = c.requires.may.ready.at.wide in
     let same = r.same.0 ∙ e.same.0 in
-    call_left (start_of c.args.hall.now) (view c.args.caller.now.pass) (view c.enter_proc-held.new.caller.pass) (view c.leave_looked-2.new.caller.pass) c.args.caller.now.number c.leave_looked-2.new.caller.number proc_lock c.args.caller.now.session c.leave_looked-2.new.caller.session _
-    c.requires.may e.entered.learns (omega arith) r.left refl (ap (λ (z : Session). inner_id z) same) (ap (λ (z : Session). z.levels.open_ids.items) same) (ap (λ (z : Session). z.stage) same) (r.same.1 ∙ e.same.1) r.ready
+    proc_call (start_of c.args.hall.now) (view c.args.caller.now.pass) (view c.enter_proc-held.new.caller.pass) (view c.leave_looked-2.new.caller.pass) c.args.caller.now.number c.leave_looked-2.new.caller.number c.args.caller.now.session c.leave_looked-2.new.caller.session _
+    c.requires.may e.entered r.left refl (ap (λ (z : Session). inner_id z) same) (ap (λ (z : Session). z.levels.open_ids.items) same) (ap (λ (z : Session). z.stage) same) (r.same.1 ∙ e.same.1) r.ready
 
 pub returns-clause-gives : goal.returns-clause-gives
 returns-clause-gives g c =
@@ -176,12 +173,12 @@ returns-clause-gives g c =
     let u = view c.enter_proc-held.new.caller.pass in
     let w = view c.leave_looked-2.new.caller.pass in
     let wide = c.requires.may.ready.at.wide in
-    let long = e.entered.learns.long in
+    let long = e.entered.long in
     let l = c.leave_looked-2.ensures.left in
     let still = history_same start u w proc_lock _ refl (omega arith) l in
     let p = need_page c.deref_mut-table.result.now c.next_id.new.table (λ id. giving by par id) c.in-Ok.given c.in-Ok.ensures c.in_default.not-Id in
     subst (GivesId start c.args.caller.now.number s c.leave_looked-2.new.caller.session v.seen w.seen) (ap Ok (sym p.1)) (
-      went_quiet start v u w c.args.caller.now.number proc_lock s _ c.requires.may.ready.at e.entered.kept e.entered.learns (omega arith) refl refl refl l,
+      proc_quiet start v u w c.args.caller.now.number s _ c.requires.may.ready.at e.entered refl refl refl l,
       p.2 ∙ (λ j. next_given (st.base j).next ((st.events ∙ sym still) j)),
       λ told. untold start c.deref_mut-table.result.now u w p.0 _ (omega arith) refl l st p.3 told,
       c.leave_looked-2.ensures.same.0 ∙ e.same.0,
@@ -194,7 +191,7 @@ returns-in-Err-clause-section g c =
     let t = c.enter_proc-held.new.caller in
     let s = c.args.caller.now.session in
     let n = c.args.caller.now.number in
-    section_of (start_of c.args.hall.now) (view c.args.caller.now.pass) (view t.pass) (view c.leave_looked.new.caller.pass) proc_lock (look_by t.number t.session) (look_by n s) e.entered (ap look_of (same_command n t.number s t.session e.same.1 e.same.0)) c.leave_looked.ensures.left
+    proc_section_of (start_of c.args.hall.now) (view c.args.caller.now.pass) (view t.pass) (view c.leave_looked.new.caller.pass) (look_by t.number t.session) (look_by n s) e.entered (ap look_of (same_command n t.number s t.session e.same.1 e.same.0)) c.leave_looked.ensures.left
 
 pub returns-in-Id-clause-section : goal.returns-in-Id-clause-section
 returns-in-Id-clause-section g c =
@@ -208,7 +205,7 @@ returns-in-Id-clause-section g c =
     let w = view c.name_level.new.caller.pass in
     let par = c.innermost_id-parent.result in
     subst (GiveSection start n s v w) (ap Ok (sym c.in-Id.is))
-    (section_of start v u w proc_lock (giving_entry by par c.in-Id.id) (giving_entry by (last_of s.levels.level_ids.items) c.in-Id.id) e.entered (ap (λ (p : Option ℕ). giving_entry by p c.in-Id.id) c.innermost_id-parent.ensures) c.name_level.ensures.left)
+    (proc_section_of start v u w (giving_entry by par c.in-Id.id) (giving_entry by (last_of s.levels.level_ids.items) c.in-Id.id) e.entered (ap (λ (p : Option ℕ). giving_entry by p c.in-Id.id) c.innermost_id-parent.ensures) c.name_level.ensures.left)
 
 pub returns-clause-section : goal.returns-clause-section
 returns-clause-section g c =
@@ -221,4 +218,4 @@ returns-clause-section g c =
     let w = view c.leave_looked-2.new.caller.pass in
     let p = need_page c.deref_mut-table.result.now c.next_id.new.table (λ id. giving (by_at n s.levels.commands) c.innermost_id-parent.result id) c.in-Ok.given c.in-Ok.ensures c.in_default.not-Id in
     subst (GiveSection start n s v w) (ap Ok (sym p.1))
-    (section_of start v (view t.pass) w proc_lock (look_by t.number t.session) (look_by n s) e.entered (ap look_of (same_command n t.number s t.session e.same.1 e.same.0)) c.leave_looked-2.ensures.left)
+    (proc_section_of start v (view t.pass) w (look_by t.number t.session) (look_by n s) e.entered (ap look_of (same_command n t.number s t.session e.same.1 e.same.0)) c.leave_looked-2.ensures.left)

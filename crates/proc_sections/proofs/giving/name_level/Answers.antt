@@ -19,7 +19,7 @@ use Rattle.proc_sections.proofs.giving.name_level.Goals as goal
 pub leave_proc-requires-clause-may : goal.leave_proc-requires-clause-may
 leave_proc-requires-clause-may g c =
     let seen = (view c.args.caller.now.pass).seen in
-    may_giving (start_of c.args.hall.now) seen c.args.by c.args.parent.now c.args.id c.by-entry.result.value c.by-entry.ensures c.requires.may c.requires.made
+    may_giving (start_of c.args.hall.now) seen c.args.by c.args.parent.now c.args.id c.by-entry.result.value c.by-entry.ensures c.requires.shown c.requires.may c.requires.made
     (subst (λ (b : By). HasNoRecord seen b.session) (sym c.requires.by) (c.requires.at.clear (ap may_be_recorded c.requires.clear)))
     (subst (λ (b : By). HasNoAbortRecord seen b.session) (sym c.requires.by) (open_unaborted seen c.args.caller.now.number c.args.caller.now.session.levels.open_ids.items c.requires.at.stands.opened (c.requires.at.unaborted (ap may_be_aborted c.requires.clear)))) (subst (λ (b : By). IsInTurn (start_of c.args.hall.now) (at seen proc_lock) b) (sym c.requires.by) (c.requires.at.turns proc_lock))
 

@@ -20,7 +20,7 @@ use Rattle.engine_parts.specs.Holds.{Leaves}
 use Rattle.engine_parts.specs.Sessions.{IsAt, by_at}
 use Rattle.engine_parts.specs.Stages.{may_be_recorded, may_be_aborted}
 use Rattle.engine_parts.specs.Stand.{ProcStands}
-use Rattle.engine_parts.proofs.Stepping.{went_event}
+use Rattle.engine_parts.proofs.Sectioning.{entered_grows, proc_event}
 use Rattle.engine_parts.proofs.Tabling.{proc_adds}
 use Rattle.proc_sections.proofs.Cutting.{call_undone, may_add_undo, ready_undone_at, savepoint_of, undo_entry, undone_is}
 use Rattle.engine_parts.proofs.Unrecorded.{open_unaborted}
@@ -73,8 +73,8 @@ leave_proc-requires-clause-may g c =
     let u = view c.enter_proc-held.new.caller.pass in
     let a = subst (λ (z : ℕ × Session). IsAt start u z.0 z.1) (λ j. (e.same.1 j, e.same.0 j)) e.at in
     let sp = savepoint_of (history u.seen) s.levels.open_ids.items s.levels.level_ids.items s.levels.unnamed c.args.id c.requires.savepoint c.requires.innermost a.stands.nest in
-    may_add_undo start u.seen (by_at n s.levels.commands) s.levels.open_ids.items c.args.id c.undo_note-entry.result.value c.undo_note-entry.ensures a.stands.opened sp (a.clear (ap may_be_recorded c.requires.pending)) (open_unaborted u.seen n s.levels.open_ids.items a.stands.opened (a.unaborted (ap may_be_aborted c.requires.pending)))
-    (λ x k past. marked_grows start (view c.args.caller.now.pass).seen u.seen x states.Aborted e.entered.learns.knows.grows (c.requires.aborted x k past)) (a.turns proc_lock)
+    may_add_undo start u.seen (by_at n s.levels.commands) s.levels.open_ids.items c.args.id c.undo_note-entry.result.value c.undo_note-entry.ensures e.entered.shown a.stands.opened sp (a.clear (ap may_be_recorded c.requires.pending)) (open_unaborted u.seen n s.levels.open_ids.items a.stands.opened (a.unaborted (ap may_be_aborted c.requires.pending)))
+    (λ x k past. marked_grows start (view c.args.caller.now.pass).seen u.seen x states.Aborted (entered_grows start (view c.args.caller.now.pass) u n s c.requires.may.ready.at e.entered) (c.requires.aborted x k past)) (a.turns proc_lock)
 
 pub leave_proc-requires-clause-stands : goal.leave_proc-requires-clause-stands
 leave_proc-requires-clause-stands g c =
@@ -102,7 +102,7 @@ returns-clause-may g c =
     let two : 2 ≤ length c.leave_proc.new.caller.session.levels.level_ids.items = subst (λ (z : Session). 2 ≤ length z.levels.level_ids.items) (sym (c.leave_proc.ensures.same.0 ∙ e.same.0)) c.requires.savepoint in
     omega (arith, two) in
     let gone = undone_is id from (vec_len c.leave_proc.new.caller.session.levels.level_ids - 1) s c.leave_proc.new.caller.session _ (l.0 ∙ e.same.0) long c.requires.savepoint c.requires.innermost cut c.pop-id.ensures.rest refl c.truncate.ensures.items refl refl refl c.still_unlinked-caller.ensures refl in
-    let went = went_event start v u w by s (undo_entry by id) (events.Undo by id) c.requires.may.ready.at e.entered.kept e.entered.learns refl refl refl (subst (λ (d : Entry). Leaves start proc_lock d u w) c.undo_note-entry.ensures c.leave_proc.ensures.left) in
+    let went = proc_event start v u w by s (undo_entry by id) (events.Undo by id) c.requires.may.ready.at e.entered refl refl refl (subst (λ (d : Entry). Leaves start proc_lock d u w) c.undo_note-entry.ensures c.leave_proc.ensures.left) in
     let number = l.1 ∙ e.same.1 in
     call_undone start v w n c.leave_proc.new.caller.number s _ id c.requires.may c.requires.pending c.requires.innermost went.asks gone number
     (ready_undone_at start u w n c.leave_proc.new.caller.number s _ id c.undo_note-entry.result.value a c.undo_note-entry.ensures c.requires.pending c.requires.savepoint gone c.leave_proc.ensures.left number)
@@ -124,6 +124,6 @@ returns-clause-undone g c =
     let two : 2 ≤ length c.leave_proc.new.caller.session.levels.level_ids.items = subst (λ (z : Session). 2 ≤ length z.levels.level_ids.items) (sym (c.leave_proc.ensures.same.0 ∙ e.same.0)) c.requires.savepoint in
     omega (arith, two) in
     record {
-      went = went_event start v u w by s (undo_entry by id) (events.Undo by id) c.requires.may.ready.at e.entered.kept e.entered.learns refl refl refl (subst (λ (d : Entry). Leaves start proc_lock d u w) c.undo_note-entry.ensures c.leave_proc.ensures.left);
+      went = proc_event start v u w by s (undo_entry by id) (events.Undo by id) c.requires.may.ready.at e.entered refl refl refl (subst (λ (d : Entry). Leaves start proc_lock d u w) c.undo_note-entry.ensures c.leave_proc.ensures.left);
       session = undone_is id from (vec_len c.leave_proc.new.caller.session.levels.level_ids - 1) s c.leave_proc.new.caller.session _ (c.leave_proc.ensures.same.0 ∙ e.same.0) long c.requires.savepoint c.requires.innermost cut c.pop-id.ensures.rest refl c.truncate.ensures.items refl refl refl c.still_unlinked-caller.ensures refl;
     }

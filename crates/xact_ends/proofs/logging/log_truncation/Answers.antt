@@ -45,7 +45,7 @@ returns-clause-adds g c =
     both_add by by' IsPlain (MayAdd (λ z. z ≡ rec) ⊥ (λ r. ⊥)) (MayAdd IsTruncation ⊥ (λ r. ⊥)) (view old.pass).seen (view t.pass).seen (view w.pass).seen (same_command old.number t.number old.session t.session e.same.1 e.same.0)
     (plain_wider IsTruncation ⊥ (λ r. ⊥))
     (may_wider (λ z. z ≡ rec) IsTruncation ⊥ ⊥ (λ r. ⊥) (λ r. ⊥) (λ z is. subst IsTruncation (sym is) (is_truncation start (view t.pass).seen rec e.record)) (λ m. m) (λ r m. m))
-    (look_adds start (view old.pass) (view t.pass) old.number old.session IsPlain c.requires.may.ready.at tt e.section)
+    (look_adds start (view old.pass) (view t.pass) old.number old.session IsPlain c.requires.may.ready.at (λ number. tt) tt e.section)
     (truncation_adds start (view t.pass) (view w.pass) by' t.session rec c.append_truncation.result e.ready.at c.append_truncation.ensures.section)
 
 pub returns-clause-told : goal.returns-clause-told

@@ -15,7 +15,7 @@ use Rattle.xact_ends.proofs.RolledBack.{call_undoing, inside_place, rolled_back,
 use Rattle.engine_parts.specs.Adding.{IsPlain}
 use Rattle.tx_core.specs.declared.entry.Kind.TheVariants as kinds
 use Rattle.tx_core.specs.Locks.{proc_lock}
-use Rattle.engine_parts.proofs.Sectioning.{shared_adds}
+use Rattle.engine_parts.proofs.Sectioning.{proc_section_adds}
 use Rattle.xact_ends.proofs.Added.{both_add}
 use Rattle.xact_ends.proofs.undoing.undo_named.Goals as goal
 
@@ -82,4 +82,4 @@ returns-in-Ok-clause-adds g c =
     let by = by_at old.number old.session.levels.commands in
     let own = by_at t.number t.session.levels.commands in
     both_add by own IsPlain IsPlain IsPlain (view old.pass).seen (view t.pass).seen (view c.undo_savepoint.new.caller.pass).seen (λ j. by_at (c.roll_back.ensures.number j) (x.1 j).levels.commands) (λ lock kind m. m) (λ lock kind m. m) c.in-Ok.ensures.adds
-    (shared_adds (start_of c.args.hall.now) (view t.pass) (view c.undo_savepoint.new.caller.pass) proc_lock (record { by = own; kind = kinds.Event (events.Undo own c.args.id) }) own t.session IsPlain (omega arith) c.roll_back.ensures.may.ready.at c.undo_savepoint.ensures.section refl tt)
+    (proc_section_adds (start_of c.args.hall.now) (view t.pass) (view c.undo_savepoint.new.caller.pass) t.number t.session (record { by = own; kind = kinds.Event (events.Undo own c.args.id) }) c.roll_back.ensures.may.ready.at refl c.undo_savepoint.ensures.section IsPlain (λ number. tt) tt)

@@ -10,7 +10,7 @@ use Rattle.tx_model.specs.CommandEvents.{innermost}
 use Rattle.tx_model.specs.Stance.{Stance, without_snap}
 use Rattle.tx_core.specs.Locks.{proc_lock}
 use Rattle.engine_parts.specs.Sessions.{by_at, inner_id, stance_of}
-use Rattle.engine_parts.proofs.Leaving.{call_left}
+use Rattle.engine_parts.proofs.Sectioning.{proc_call}
 use Rattle.engine_parts.proofs.Tabling.{proc_adds}
 use Rattle.xact_engine.proofs.Snapping.{acted_dropped, drop_entry, live_here}
 use Rattle.engine_parts.proofs.Beholding.{not_standing}
@@ -44,10 +44,10 @@ returns g c =
     let r = c.unregister.ensures in
     let wide = c.requires.may.ready.at.wide in record {
       own = r.own;
-      may = call_left (start_of c.args.hall.now) (view c.args.caller.now.pass) (view c.enter_proc-held.new.caller.pass) (view c.unregister.new.caller.pass) c.args.caller.now.number c.unregister.new.caller.number proc_lock c.args.caller.now.session c.unregister.new.caller.session _
-          c.requires.may e.entered.learns (omega arith) r.left refl (ap (λ (z : Stance). innermost z.levels) r.stance ∙ ap (λ z. inner_id z) e.same.0) (r.opened ∙ ap (λ z. z.levels.open_ids.items) e.same.0) (r.stage ∙ ap (λ z. z.stage) e.same.0) (r.count.1 ∙ e.same.1) r.ready;
+      may = proc_call (start_of c.args.hall.now) (view c.args.caller.now.pass) (view c.enter_proc-held.new.caller.pass) (view c.unregister.new.caller.pass) c.args.caller.now.number c.unregister.new.caller.number c.args.caller.now.session c.unregister.new.caller.session _
+          c.requires.may e.entered r.left refl (ap (λ (z : Stance). innermost z.levels) r.stance ∙ ap (λ z. inner_id z) e.same.0) (r.opened ∙ ap (λ z. z.levels.open_ids.items) e.same.0) (r.stage ∙ ap (λ z. z.stage) e.same.0) (r.count.1 ∙ e.same.1) r.ready;
       acted = acted_dropped (start_of c.args.hall.now) (view c.args.caller.now.pass) (view c.enter_proc-held.new.caller.pass) (view c.unregister.new.caller.pass) c.args.caller.now.number s (stance_of c.unregister.new.caller.session) c.args.name.now (drop_entry by c.args.name.now)
-          c.requires.may.ready.at e.entered.kept e.entered.learns refl c.unregister.ensures.left c.requires.registered
+          c.requires.may.ready.at e.entered refl c.unregister.ensures.left c.requires.registered
           (c.unregister.ensures.stance ∙ ap (λ z. record (stance_of z) { snaps = without_snap c.args.name.now (stance_of z).snaps }) e.same.0);
       stage = r.stage ∙ ap (λ z. z.stage) e.same.0;
       held = tt;

@@ -10,7 +10,7 @@ use Rattle.xact_engine.proofs.snapshots.register.Goals as goal
 pub leave_proc-requires-clause-may : goal.leave_proc-requires-clause-may
 leave_proc-requires-clause-may g c =
     let seen = (view c.args.caller.now.pass).seen in
-    may_snap (start_of c.args.hall.now) seen c.args.by c.args.taken.name c.by-entry.result.value c.by-entry.ensures c.requires.free (subst (λ (b : By). IsInTurn (start_of c.args.hall.now) (at seen proc_lock) b) (sym c.requires.by) (c.requires.at.turns proc_lock))
+    may_snap (start_of c.args.hall.now) seen c.args.by c.args.taken.name c.by-entry.result.value c.by-entry.ensures c.requires.shown c.requires.free (subst (λ (b : By). IsInTurn (start_of c.args.hall.now) (at seen proc_lock) b) (sym c.requires.by) (c.requires.at.turns proc_lock))
 
 pub returns-clause-ready : goal.returns-clause-ready
 returns-clause-ready g c =

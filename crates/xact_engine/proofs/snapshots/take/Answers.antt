@@ -18,7 +18,7 @@ use Rattle.session_levels.specs.Stands.{told_of, levels_of}
 use Rattle.engine_parts.specs.Sessions.{by_at, inner_id, stance_of}
 use Rattle.engine_parts.specs.Stand.{ProcStands}
 use Rattle.engine_parts.proofs.Acting.{acted_looked, acted_refused}
-use Rattle.engine_parts.proofs.Leaving.{call_left}
+use Rattle.engine_parts.proofs.Sectioning.{proc_call}
 use Rattle.engine_parts.proofs.Tabling.{proc_adds, proc_looks}
 use Rattle.proc_table.specs.Table.{Table}
 use Rattle.xact_engine.proofs.Snapping.{acted_snapped, call_reserved, free_here, not_refused, snap_entry}
@@ -69,10 +69,10 @@ returns-in-Ok-take_of g c =
     let r = c.register.ensures in
     let wide = c.requires.may.ready.at.wide in record {
       own = r.own;
-      may = call_left (start_of c.args.hall.now) (view c.args.caller.now.pass) (view c.enter_proc-held.new.caller.pass) (view c.register.new.caller.pass) c.args.caller.now.number c.register.new.caller.number proc_lock c.args.caller.now.session c.register.new.caller.session _
-          c.requires.may e.entered.learns (omega arith) r.left refl (ap (λ (z : Stance). innermost z.levels) r.stance ∙ ap (λ z. inner_id z) e.same.0) (r.opened ∙ ap (λ z. z.levels.open_ids.items) e.same.0) (r.stage ∙ ap (λ z. z.stage) e.same.0) (r.count.1 ∙ e.same.1) r.ready;
+      may = proc_call (start_of c.args.hall.now) (view c.args.caller.now.pass) (view c.enter_proc-held.new.caller.pass) (view c.register.new.caller.pass) c.args.caller.now.number c.register.new.caller.number c.args.caller.now.session c.register.new.caller.session _
+          c.requires.may e.entered r.left refl (ap (λ (z : Stance). innermost z.levels) r.stance ∙ ap (λ z. inner_id z) e.same.0) (r.opened ∙ ap (λ z. z.levels.open_ids.items) e.same.0) (r.stage ∙ ap (λ z. z.stage) e.same.0) (r.count.1 ∙ e.same.1) r.ready;
       acted = acted_snapped (start_of c.args.hall.now) (view c.args.caller.now.pass) (view c.enter_proc-held.new.caller.pass) (view c.register.new.caller.pass) c.args.caller.now.number s (stance_of c.register.new.caller.session) c.args.name.now c.in-Ok-take_of.lists (snap_entry by c.in-Ok-take_of.taken.name)
-          c.requires.may.ready.at e.entered.kept e.entered.learns (ap (snap_entry by) t.name_is) c.register.ensures.left c.requires.free c.requires.room
+          c.requires.may.ready.at e.entered (ap (snap_entry by) t.name_is) c.register.ensures.left c.requires.free c.requires.room
           (t.lists_are ∙ (λ j. snapshot_data ((subst (λ l. ProcStands (start_of c.args.hall.now) l (at (view c.enter_proc-held.new.caller.pass).seen proc_lock)) (sym c.deref_mut.ensures.value) c.enter_proc-held.ensures.stands).base j).next ((subst (λ l. ProcStands (start_of c.args.hall.now) l (at (view c.enter_proc-held.new.caller.pass).seen proc_lock)) (sym c.deref_mut.ensures.value) c.enter_proc-held.ensures.stands).events j)))
           (c.register.ensures.stance ∙ (λ j. record (stance j) { snaps = (stance j).snaps ++ (t.name_is j, t.command j) ∷ [] }));
       stage = r.stage ∙ ap (λ z. z.stage) e.same.0;
@@ -90,10 +90,10 @@ returns-in-Err g c =
     let wide = c.requires.may.ready.at.wide in
     let r = c.leave_looked.ensures in record {
       own = r.own;
-      may = call_left (start_of c.args.hall.now) (view c.args.caller.now.pass) (view c.enter_proc-held.new.caller.pass) (view c.leave_looked.new.caller.pass) c.args.caller.now.number c.leave_looked.new.caller.number proc_lock c.args.caller.now.session c.leave_looked.new.caller.session _
-          c.requires.may e.entered.learns (omega arith) r.left refl (ap (λ z. inner_id z) r.same.0 ∙ ap (λ z. inner_id z) e.same.0) (ap (λ z. z.levels.open_ids.items) r.same.0 ∙ ap (λ z. z.levels.open_ids.items) e.same.0) (ap (λ z. z.stage) r.same.0 ∙ ap (λ z. z.stage) e.same.0) (r.same.1 ∙ e.same.1) r.ready;
-      acted = acted_looked (start_of c.args.hall.now) (view c.args.caller.now.pass) (view c.enter_proc-held.new.caller.pass) (view c.leave_looked.new.caller.pass) c.args.caller.now.number proc_lock s (stance_of c.leave_looked.new.caller.session) s.stage (commands.Snap c.args.name.now) (replies.Refused refusals.Memory) _
-          c.requires.may.ready.at e.entered.kept e.entered.learns (omega arith) refl refl (λ j. by_at (e.same.1 j) (e.same.0 j).levels.commands) tt c.leave_looked.ensures.left refl refl refl (sym (not_refused s c.args.name.now c.requires.free c.requires.room)) (sym stance);
+      may = proc_call (start_of c.args.hall.now) (view c.args.caller.now.pass) (view c.enter_proc-held.new.caller.pass) (view c.leave_looked.new.caller.pass) c.args.caller.now.number c.leave_looked.new.caller.number c.args.caller.now.session c.leave_looked.new.caller.session _
+          c.requires.may e.entered r.left refl (ap (λ z. inner_id z) r.same.0 ∙ ap (λ z. inner_id z) e.same.0) (ap (λ z. z.levels.open_ids.items) r.same.0 ∙ ap (λ z. z.levels.open_ids.items) e.same.0) (ap (λ z. z.stage) r.same.0 ∙ ap (λ z. z.stage) e.same.0) (r.same.1 ∙ e.same.1) r.ready;
+      acted = acted_looked (start_of c.args.hall.now) (view c.args.caller.now.pass) (view c.enter_proc-held.new.caller.pass) (view c.leave_looked.new.caller.pass) c.args.caller.now.number s (stance_of c.leave_looked.new.caller.session) s.stage (commands.Snap c.args.name.now) (replies.Refused refusals.Memory) _
+          c.requires.may.ready.at e.entered refl refl refl (λ j. by_at (e.same.1 j) (e.same.0 j).levels.commands) tt c.leave_looked.ensures.left refl refl refl (sym (not_refused s c.args.name.now c.requires.free c.requires.room)) (sym stance);
       stage = ap (λ z. z.stage) r.same.0 ∙ ap (λ z. z.stage) e.same.0;
       held = tt;
       still = λ q is. not_standing None q refl is;

@@ -44,7 +44,7 @@ returns-in-Ok-Raised g c =
     let seen = (view old.pass).seen in
     let raised = subst (λ z. RaisesMulti start u.number u.session h low (view u.pass).seen (view w.pass).seen (Ok z)) c.in-Ok-Raised.field-0-is e.raises in
     let section = subst (λ z. RaiseSection start u.number u.session h.multi (view u.pass) (view w.pass) (Ok z)) c.in-Ok-Raised.field-0-is e.section in
-    let first : Visited hall c.args.banks IsPlain [] old u = visited_now hall c.args.banks IsPlain [] old u c.requires.step b.own b.ready (went_none old.number seen (view u.pass).seen b.went) b.same (look_adds start (view old.pass) (view u.pass) old.number old.session IsPlain a tt b.section) in
+    let first : Visited hall c.args.banks IsPlain [] old u = visited_now hall c.args.banks IsPlain [] old u c.requires.step b.own b.ready (went_none old.number seen (view u.pass).seen b.went) b.same (look_adds start (view old.pass) (view u.pass) old.number old.session IsPlain a (λ number. tt) tt b.section) in
     let second : Visited hall c.args.banks IsPlain (raise_event u.number u.session h.multi offset ∷ []) u w = visited_now hall c.args.banks IsPlain (raise_event u.number u.session h.multi offset ∷ []) u w first.step e.own e.ready raised.0.went e.same
     (shared_adds start (view u.pass) (view w.pass) multi_lock (entry_of (raise_event u.number u.session h.multi offset)) (by_at u.number u.session.levels.commands) u.session IsPlain (omega arith) b.ready.at section refl tt) in
     let from = pinned_from start seen old.number h.multi a.kept c.requires.pinned.pins in
@@ -74,7 +74,7 @@ returns-in-Err g c =
     let e = c.in-Err.ensures in
     let h = c.args.held.now in
     let seen = (view old.pass).seen in
-    let first : Visited hall c.args.banks IsPlain [] old u = visited_now hall c.args.banks IsPlain [] old u c.requires.step b.own b.ready (went_none old.number seen (view u.pass).seen b.went) b.same (look_adds start (view old.pass) (view u.pass) old.number old.session IsPlain a tt b.section) in
+    let first : Visited hall c.args.banks IsPlain [] old u = visited_now hall c.args.banks IsPlain [] old u c.requires.step b.own b.ready (went_none old.number seen (view u.pass).seen b.went) b.same (look_adds start (view old.pass) (view u.pass) old.number old.session IsPlain a (λ number. tt) tt b.section) in
     let second : Visited hall c.args.banks IsPlain [] u w = visited_now hall c.args.banks IsPlain [] u w first.step e.own e.ready e.raises.0 e.same
     (shared_adds start (view u.pass) (view w.pass) multi_lock (look_by u.number u.session) (by_at u.number u.session.levels.commands) u.session IsPlain (omega arith) b.ready.at e.section refl tt) in
     let both = visited_then hall c.args.banks IsPlain IsPlain IsPlain [] [] old u w (λ lock kind m. m) (λ lock kind m. m) first second in

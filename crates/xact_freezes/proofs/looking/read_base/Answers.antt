@@ -5,8 +5,7 @@ use Rattle.notes.specs.Lists.{at}
 use Rattle.tx_core.specs.Locks.{proc_lock}
 use Rattle.engine_parts.specs.Faults.{look_of}
 use Rattle.engine_parts.specs.Sessions.{by_at, look_by}
-use Rattle.engine_parts.proofs.Sectioning.{same_command, section_of}
-use Rattle.engine_parts.proofs.Stepping.{went_quiet}
+use Rattle.engine_parts.proofs.Sectioning.{proc_quiet, proc_section_of, same_command}
 use Rattle.engine_parts.proofs.Tabling.{proc_looks}
 use Rattle.xact_freezes.proofs.looking.read_base.Goals as goal
 
@@ -21,13 +20,13 @@ returns-clause-section g c =
     let t = c.enter_proc-held.new.caller in
     let s = c.args.caller.now.session in
     let n = c.args.caller.now.number in
-    section_of (start_of c.args.hall.now) (view c.args.caller.now.pass) (view t.pass) (view c.leave_looked.new.caller.pass) proc_lock (look_by t.number t.session) (look_by n s) e.entered (ap look_of (same_command n t.number s t.session e.same.1 e.same.0)) c.leave_looked.ensures.left
+    proc_section_of (start_of c.args.hall.now) (view c.args.caller.now.pass) (view t.pass) (view c.leave_looked.new.caller.pass) (look_by t.number t.session) (look_by n s) e.entered (ap look_of (same_command n t.number s t.session e.same.1 e.same.0)) c.leave_looked.ensures.left
 
 pub returns-clause-went : goal.returns-clause-went
 returns-clause-went g c =
     let e = c.enter_proc-held.ensures in
     let wide = c.requires.ready.at.wide in
-    went_quiet (start_of c.args.hall.now) (view c.args.caller.now.pass) (view c.enter_proc-held.new.caller.pass) (view c.leave_looked.new.caller.pass) c.args.caller.now.number proc_lock c.args.caller.now.session _ c.requires.ready.at e.entered.kept e.entered.learns (omega arith) refl refl refl c.leave_looked.ensures.left
+    proc_quiet (start_of c.args.hall.now) (view c.args.caller.now.pass) (view c.enter_proc-held.new.caller.pass) (view c.leave_looked.new.caller.pass) c.args.caller.now.number c.args.caller.now.session _ c.requires.ready.at e.entered refl refl refl c.leave_looked.ensures.left
 
 pub returns-clause-base : goal.returns-clause-base
 returns-clause-base g c =

@@ -78,7 +78,7 @@ returns-in-None-clause-adds g c =
     let e = c.read_horizons-found.ensures in
     let found = c.read_horizons-found.result in
     let start = start_of c.args.hall.now in
-    look_adds start (view v.pass) (view u.pass) v.number v.session (MayMeet (refusals.TooOld found.oldest)) c.requires.ready.at tt e.section
+    look_adds start (view v.pass) (view u.pass) v.number v.session (MayMeet (refusals.TooOld found.oldest)) c.requires.ready.at (λ number. tt) tt e.section
 
 pub returns-then-lt-clause-adds : goal.returns-then-lt-clause-adds
 returns-then-lt-clause-adds g c =
@@ -87,7 +87,7 @@ returns-then-lt-clause-adds g c =
     let e = c.read_horizons-found.ensures in
     let found = c.read_horizons-found.result in
     let start = start_of c.args.hall.now in
-    look_adds start (view v.pass) (view u.pass) v.number v.session (MayMeet (refusals.TooOld found.oldest)) c.requires.ready.at tt e.section
+    look_adds start (view v.pass) (view u.pass) v.number v.session (MayMeet (refusals.TooOld found.oldest)) c.requires.ready.at (λ number. tt) tt e.section
 
 pub returns-in-None-clause-allowed : goal.returns-in-None-clause-allowed
 returns-in-None-clause-allowed g c =
@@ -116,7 +116,7 @@ returns-then-ge-clause-adds g c =
     let e = c.read_horizons-found.ensures in
     let found = c.read_horizons-found.result in
     let start = start_of c.args.hall.now in
-    look_adds start (view v.pass) (view u.pass) v.number v.session IsPlain c.requires.ready.at tt e.section
+    look_adds start (view v.pass) (view u.pass) v.number v.session IsPlain c.requires.ready.at (λ number. tt) tt e.section
 
 pub returns-then-ge-clause-allowed : goal.returns-then-ge-clause-allowed
 returns-then-ge-clause-allowed g c =
@@ -163,7 +163,7 @@ returns-in-Ok-clause-adds g c =
     let w = c.stores_say.new.caller in
     let f = c.in-Ok.ensures in
     read_adds v.number u.number v.session u.session IsPlain (view v.pass).seen (view u.pass).seen (view w.pass).seen e.same.1 e.same.0 (λ lock kind m. m)
-    (look_adds start (view v.pass) (view u.pass) v.number v.session IsPlain c.requires.ready.at tt e.section) f.adds
+    (look_adds start (view v.pass) (view u.pass) v.number v.session IsPlain c.requires.ready.at (λ number. tt) tt e.section) f.adds
 
 pub returns-in-Err-clause-went : goal.returns-in-Err-clause-went
 returns-in-Err-clause-went g c =
@@ -186,7 +186,7 @@ returns-in-Err-clause-adds g c =
     let w = c.stores_say.new.caller in
     let f = c.in-Err.ensures in
     read_adds v.number u.number v.session u.session (MayMeet c.in-Err.refusal) (view v.pass).seen (view u.pass).seen (view w.pass).seen e.same.1 e.same.0 (plain_meets c.in-Err.refusal)
-    (look_adds start (view v.pass) (view u.pass) v.number v.session IsPlain c.requires.ready.at tt e.section) f.adds
+    (look_adds start (view v.pass) (view u.pass) v.number v.session IsPlain c.requires.ready.at (λ number. tt) tt e.section) f.adds
 
 pub returns-in-Ok-clause-allowed : goal.returns-in-Ok-clause-allowed
 returns-in-Ok-clause-allowed g c =

@@ -31,6 +31,6 @@ returns g c =
     let may = may_counted c.args.hall.now old u c.count.ensures c.requires in
     ran_read c.args.hall.now old u w commands.Horizon (replies.Horizon c.read_horizons.result.oldest_xmin) c.count.ensures c.requires e.own e.ready e.went e.same.0 e.same.1 refl
     (adds_wider (by_at u.number u.session.levels.commands) IsPlain _ (view u.pass).seen (view w.pass).seen (plain_leaves commands.Horizon (stance_of u.session) u.session.stage (open_ids u.number (history (view u.pass).seen)) (replies.Horizon c.read_horizons.result.oldest_xmin))
-    (look_adds start (view u.pass) (view w.pass) u.number u.session IsPlain may.ready.at tt e.section))
+    (look_adds start (view u.pass) (view w.pass) u.number u.session IsPlain may.ready.at (λ number. tt) tt e.section))
     (xmin_answer start (view u.pass) (view w.pass) u.number u.session c.read_horizons.result.oldest_xmin (at_same start (view w.pass) u.number w.number u.session w.session e.same.1 e.same.0 e.ready) e.went e.horizons.xmin)
     refl refl refl refl refl refl refl

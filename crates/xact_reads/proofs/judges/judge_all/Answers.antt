@@ -5,36 +5,37 @@ use Rattle.bank_stores.specs.declared.slot.Slot.{Slot}
 use Rattle.tx_model.specs.declared.reply.MemberVerdict.{MemberVerdict}
 use Rattle.life_law.specs.MultiReplies.{IsOfId}
 use Rattle.engine_parts.specs.Adding.{IsPlain, MayMeet}
-use Rattle.engine_parts.proofs.Adding.{plain_meets}
+use Rattle.engine_parts.specs.Sessions.{by_at}
+use Rattle.engine_parts.proofs.Adding.{adds_wider, plain_meets}
 use Rattle.engine_parts.proofs.Answering.{few_before}
-use Rattle.engine_parts.proofs.Unmoved.{look_adds}
 use Rattle.engine_parts.specs.declared.session.Session.{Session}
 use Rattle.xact_reads.specs.Glances.{IsNamed}
 use Rattle.xact_reads.specs.Multis.{AreJudged, pair_in}
 use Rattle.xact_reads.proofs.Going.{read_adds, went_both}
-use Rattle.xact_reads.proofs.Judging.{all_later, carried_later, carried_now}
-use Rattle.xact_reads.proofs.Replying.{named_at, oldest_from}
+use Rattle.xact_reads.proofs.Judging.{all_later, carried_later}
+use Rattle.xact_reads.proofs.Replying.{named_at}
 use Rattle.xact_reads.proofs.Verdicts.{has_room, judged_slot, next_place}
+use Rattle.xact_reads.proofs.WordReading.{word_carried, word_from}
 use Rattle.xact_reads.proofs.judges.judge_all.Goals as goal
 
 pub loop-place-init : goal.loop-place-init
 loop-place-init g c =
     let start = start_of c.args.hall.now in
     let old = c.args.caller.now in
-    let u = c.read_oldest-oldest.new.caller in
-    let e = c.read_oldest-oldest.ensures in
+    let u = c.read_oldest_word-oldest.new.caller in
+    let e = c.read_oldest_word-oldest.ensures in
     record {
       own = e.own;
       ready = e.ready;
       went = e.went;
       same = e.same;
-      oldest = carried_now start (view u.pass).seen c.read_oldest-oldest.result e.oldest;
-      from = (let low = oldest_from start (view u.pass).seen e.ready.at.kept in let is = e.oldest in omega (arith, low, is));
+      oldest = word_carried start (view old.pass).seen (view u.pass).seen c.read_oldest_word-oldest.result e.shown;
+      from = word_from start (view old.pass).seen (view u.pass).seen c.read_oldest_word-oldest.result e.ready.at.kept e.shown;
       within = omega arith;
       room = c.requires.room;
       said = λ told few fits k named. subst (λ (xs : List MemberVerdict). AreJudged start (view u.pass).seen k [] xs) (sym c.requires.none) tt;
       ranges = subst (AllByRecursion IsOfId) (sym c.requires.none) tt;
-      adds = look_adds start (view old.pass) (view u.pass) old.number old.session IsPlain c.requires.ready.at tt e.section;
+      adds = adds_wider (by_at old.number old.session.levels.commands) (λ lock kind. ⊥) IsPlain (view old.pass).seen (view u.pass).seen (λ lock kind no. absurd no) e.adds;
     }
 
 pub returns-in-Err-clause-went : goal.returns-in-Err-clause-went

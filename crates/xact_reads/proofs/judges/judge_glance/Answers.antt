@@ -1,5 +1,4 @@
 use Rattle.std.proofs.Common.{IfErr, IfOk, Result, Some, arith, subst, sym, ◌≤◌}
-use Rattle.std.proofs.lemmas.Bool.Decides.{nat_tests}
 use Rattle.hall.specs.Calls.{view, start_of}
 use Rattle.tx_events.specs.declared.refusal.Refusal.{Refusal}
 use Rattle.tx_model.specs.declared.reply.Verdict.{Verdict}
@@ -15,7 +14,9 @@ returns-in-Ok-clause-said g c told few k named =
     let start = start_of c.args.hall.now in
     let w = (view c.show.new.caller.pass).seen in
     let from = c.requires.from in
-    let young : c.args.oldest ≤ c.args.glance.id = grind (arith, nat_tests, c.if-lt.false, c.lt.ensures) in
+    let past = c.if-number-oldest.false in
+    let value = c.number.ensures.value in
+    let young : c.args.oldest ≤ c.args.glance.id = omega arith in
     subst (IsVerdictOn start w k.place (Some c.args.glance.id)) (sym c.verdict_on.ensures)
     (verdict_shown start w k.place c.args.glance.id c.in-Ok.shown (c.in-Ok.ensures.shown told few (omega (arith, from, young)) k named))
 

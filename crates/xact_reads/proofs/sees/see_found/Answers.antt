@@ -1,18 +1,19 @@
-use Rattle.std.proofs.Common.{[], None, Some, arith, subst, ◌∙◌}
-use Rattle.std.proofs.lemmas.Bool.Decides.{nat_tests}
+use Rattle.std.proofs.Common.{[], None, Some, ◌<◌, ℕ, arith, subst, ◌∙◌}
 use Rattle.hall.specs.Calls.{view, start_of}
 use Rattle.tx_events.specs.declared.event.By.{By}
 use Rattle.tx_events.specs.declared.refusal.Refusal.TheVariants as refusals
 use Rattle.engine_parts.specs.declared.session.Session.{Session}
 use Rattle.engine_parts.specs.Adding.{IsPlain, MayMeet}
+use Rattle.engine_parts.specs.Sessions.{by_at}
 use Rattle.engine_parts.specs.Steps.{WentOn}
-use Rattle.engine_parts.proofs.Adding.{plain_meets}
+use Rattle.engine_parts.proofs.Adding.{adds_wider, plain_meets}
 use Rattle.engine_parts.proofs.Sectioning.{same_command}
 use Rattle.engine_parts.proofs.Unmoved.{at_same, look_adds}
 use Rattle.xact_reads.specs.Glances.{IsGlance, Shows}
 use Rattle.xact_reads.specs.Readings.{IsShown, IsUnread}
 use Rattle.xact_reads.proofs.Going.{read_adds, went_both}
 use Rattle.xact_reads.proofs.Replying.{old_answer, seen_answer, unread_answer}
+use Rattle.xact_reads.proofs.WordReading.{word_upto}
 use Rattle.xact_reads.proofs.sees.see_found.Goals as goal
 
 pub returns-in-None-clause-allowed : goal.returns-in-None-clause-allowed
@@ -25,52 +26,90 @@ returns-in-None-clause-allowed g c =
     old_answer start (view old.pass) (view u.pass) old.number old.session c.args.name.now c.args._x h.registered (at_same start (view u.pass) old.number u.number old.session u.session e.same.1 e.same.0 e.ready) e.went h.named (g.P.PageDisk.tells) None c.read_oldest-oldest.result c.requires.normal
     (subst (IsGlance h.registered.snapshot c.args._x.number) c.in-None.is h.glance) tt e.oldest
 
-pub returns-then-lt-clause-allowed : goal.returns-then-lt-clause-allowed
-returns-then-lt-clause-allowed g c =
+pub returns-in-None-clause-adds : goal.returns-in-None-clause-adds
+returns-in-None-clause-adds g c =
     let old = c.args.caller.now in
-    let u = c.read_oldest-oldest.new.caller in
-    let e = c.read_oldest-oldest.ensures in
+    look_adds (start_of c.args.hall.now) (view old.pass) (view c.read_oldest-oldest.new.caller.pass) old.number old.session (MayMeet (refusals.TooOld c.read_oldest-oldest.result)) c.requires.ready.at (λ number. tt) tt c.read_oldest-oldest.ensures.section
+
+pub returns-then-number-published-clause-went : goal.returns-then-number-published-clause-went
+returns-then-number-published-clause-went g c =
+    let u = c.read_oldest_word-published.new.caller in
+    let e = c.read_oldest_word-published.ensures in
+    went_both c.args.caller.now.number u.number (view c.args.caller.now.pass).seen (view u.pass).seen (view c.read_oldest-oldest-then-number-published.new.caller.pass).seen e.same.1 e.went c.read_oldest-oldest-then-number-published.ensures.went
+
+pub returns-then-number-published-clause-allowed : goal.returns-then-number-published-clause-allowed
+returns-then-number-published-clause-allowed g c =
+    let old = c.args.caller.now in
+    let u = c.read_oldest_word-published.new.caller in
+    let w = c.read_oldest-oldest-then-number-published.new.caller in
+    let e = c.read_oldest_word-published.ensures in
+    let f = c.read_oldest-oldest-then-number-published.ensures in
     let h = c.requires.glanced in
     let start = start_of c.args.hall.now in
     let glance = c.in-Some.glance in
     let shows : Shows h.registered.snapshot c.args._x.number glance = subst (IsGlance h.registered.snapshot c.args._x.number) c.in-Some.is h.glance in
-    old_answer start (view old.pass) (view u.pass) old.number old.session c.args.name.now c.args._x h.registered (at_same start (view u.pass) old.number u.number old.session u.session e.same.1 e.same.0 e.ready) e.went h.named (g.P.PageDisk.tells) (Some glance.id) c.read_oldest-oldest.result c.requires.normal shows.near
-    (grind (arith, nat_tests, c.if-lt.true, c.lt.ensures)) e.oldest
+    let upto = word_upto start (view old.pass).seen (view u.pass).seen (view w.pass).seen c.read_oldest_word-published.result e.ready.at.kept f.ready.at.kept f.went.on.grows e.shown in
+    let before = c.if-number-published.true in
+    let value = c.number.ensures.value in
+    let is = f.oldest in
+    old_answer start (view old.pass) (view w.pass) old.number old.session c.args.name.now c.args._x h.registered (at_same start (view w.pass) old.number w.number old.session w.session (f.same.1 ∙ e.same.1) (f.same.0 ∙ e.same.0) f.ready) (returns-then-number-published-clause-went g c) h.named (g.P.PageDisk.tells) (Some glance.id) c.read_oldest-oldest-then-number-published.result c.requires.normal shows.near
+    (omega arith) f.oldest
+
+pub returns-then-number-published-clause-adds : goal.returns-then-number-published-clause-adds
+returns-then-number-published-clause-adds g c =
+    let old = c.args.caller.now in
+    let u = c.read_oldest_word-published.new.caller in
+    let w = c.read_oldest-oldest-then-number-published.new.caller in
+    let e = c.read_oldest_word-published.ensures in
+    let told = MayMeet (refusals.TooOld c.read_oldest-oldest-then-number-published.result) in
+    read_adds old.number u.number old.session u.session told (view old.pass).seen (view u.pass).seen (view w.pass).seen e.same.1 e.same.0 (plain_meets (refusals.TooOld c.read_oldest-oldest-then-number-published.result))
+    (adds_wider (by_at old.number old.session.levels.commands) (λ lock kind. ⊥) IsPlain (view old.pass).seen (view u.pass).seen (λ lock kind no. absurd no) e.adds)
+    (look_adds (start_of c.args.hall.now) (view u.pass) (view w.pass) u.number u.session told e.ready.at (λ number. tt) tt c.read_oldest-oldest-then-number-published.ensures.section)
 
 pub returns-in-Ok-clause-went : goal.returns-in-Ok-clause-went
 returns-in-Ok-clause-went g c =
-    let u = c.read_oldest-oldest.new.caller in
-    let e = c.read_oldest-oldest.ensures in
+    let u = c.read_oldest_word-published.new.caller in
+    let e = c.read_oldest_word-published.ensures in
     went_both c.args.caller.now.number u.number (view c.args.caller.now.pass).seen (view u.pass).seen (view c.show.new.caller.pass).seen e.same.1 e.went c.in-Ok.ensures.went
 
 pub returns-in-Ok-clause-allowed : goal.returns-in-Ok-clause-allowed
 returns-in-Ok-clause-allowed g c =
     let old = c.args.caller.now in
-    let u = c.read_oldest-oldest.new.caller in
+    let u = c.read_oldest_word-published.new.caller in
     let w = c.show.new.caller in
-    let e = c.read_oldest-oldest.ensures in
+    let e = c.read_oldest_word-published.ensures in
     let f = c.in-Ok.ensures in
     let h = c.requires.glanced in
     let start = start_of c.args.hall.now in
     let glance = c.in-Some.glance in
     let shows : Shows h.registered.snapshot c.args._x.number glance = subst (IsGlance h.registered.snapshot c.args._x.number) c.in-Some.is h.glance in
-    seen_answer (g.P.PageDisk.tells) start (view old.pass) (view u.pass) (view w.pass) old.number old.session c.args.name.now c.args._x h.registered glance c.read_oldest-oldest.result c.in-Ok.shown (at_same start (view u.pass) old.number u.number old.session u.session e.same.1 e.same.0 e.ready) e.went
-    (subst (λ z. WentOn z [] (view u.pass).seen (view w.pass).seen) e.same.1 f.went) h.named c.requires.normal shows e.oldest
-    (grind (arith, nat_tests, c.if-lt.false, c.lt.ensures))
+    let past = c.if-number-published.false in
+    let value = c.number.ensures.value in
+    seen_answer (g.P.PageDisk.tells) start (view old.pass) (view u.pass) (view w.pass) old.number old.session c.args.name.now c.args._x h.registered glance c.read_oldest_word-published.result c.in-Ok.shown (at_same start (view u.pass) old.number u.number old.session u.session e.same.1 e.same.0 e.ready) e.went
+    (subst (λ z. WentOn z [] (view u.pass).seen (view w.pass).seen) e.same.1 f.went) h.named c.requires.normal shows e.shown
+    (omega arith)
     (λ told. subst (λ (z : Session). IsShown start (view w.pass).seen z.levels c.args.name.now glance.id c.in-Ok.shown) e.same.0 (f.shown told))
+
+pub returns-in-Ok-clause-adds : goal.returns-in-Ok-clause-adds
+returns-in-Ok-clause-adds g c =
+    let old = c.args.caller.now in
+    let u = c.read_oldest_word-published.new.caller in
+    let e = c.read_oldest_word-published.ensures in
+    read_adds old.number u.number old.session u.session IsPlain (view old.pass).seen (view u.pass).seen (view c.show.new.caller.pass).seen e.same.1 e.same.0 (λ lock kind m. m)
+    (adds_wider (by_at old.number old.session.levels.commands) (λ lock kind. ⊥) IsPlain (view old.pass).seen (view u.pass).seen (λ lock kind no. absurd no) e.adds) c.in-Ok.ensures.adds
 
 pub returns-in-Err-clause-went : goal.returns-in-Err-clause-went
 returns-in-Err-clause-went g c =
-    let u = c.read_oldest-oldest.new.caller in
-    let e = c.read_oldest-oldest.ensures in
+    let u = c.read_oldest_word-published.new.caller in
+    let e = c.read_oldest_word-published.ensures in
     went_both c.args.caller.now.number u.number (view c.args.caller.now.pass).seen (view u.pass).seen (view c.show.new.caller.pass).seen e.same.1 e.went c.in-Err.ensures.went
 
 pub returns-in-Err-clause-allowed : goal.returns-in-Err-clause-allowed
 returns-in-Err-clause-allowed g c =
     let old = c.args.caller.now in
-    let u = c.read_oldest-oldest.new.caller in
+    let u = c.read_oldest_word-published.new.caller in
     let w = c.show.new.caller in
-    let e = c.read_oldest-oldest.ensures in
+    let e = c.read_oldest_word-published.ensures in
     let f = c.in-Err.ensures in
     let h = c.requires.glanced in
     let start = start_of c.args.hall.now in
@@ -83,9 +122,9 @@ returns-in-Err-clause-allowed g c =
 pub returns-in-Err-clause-standing : goal.returns-in-Err-clause-standing
 returns-in-Err-clause-standing g c =
     let old = c.args.caller.now in
-    let u = c.read_oldest-oldest.new.caller in
+    let u = c.read_oldest_word-published.new.caller in
     let w = c.show.new.caller in
-    let e = c.read_oldest-oldest.ensures in
+    let e = c.read_oldest_word-published.ensures in
     let f = c.in-Err.ensures in
     let h = c.requires.glanced in
     let start = start_of c.args.hall.now in
@@ -95,28 +134,10 @@ returns-in-Err-clause-standing g c =
     (subst (IsGlance h.registered.snapshot c.args._x.number) c.in-Some.is h.glance)
     (subst (λ (b : By). IsUnread start (view w.pass).seen b glance.id c.in-Err.refusal) (same_command old.number u.number old.session u.session e.same.1 e.same.0) f.unread)).1
 
-pub returns-in-None-clause-adds : goal.returns-in-None-clause-adds
-returns-in-None-clause-adds g c =
-    let old = c.args.caller.now in
-    look_adds (start_of c.args.hall.now) (view old.pass) (view c.read_oldest-oldest.new.caller.pass) old.number old.session (MayMeet (refusals.TooOld c.read_oldest-oldest.result)) c.requires.ready.at tt c.read_oldest-oldest.ensures.section
-
-pub returns-then-lt-clause-adds : goal.returns-then-lt-clause-adds
-returns-then-lt-clause-adds g c =
-    let old = c.args.caller.now in
-    look_adds (start_of c.args.hall.now) (view old.pass) (view c.read_oldest-oldest.new.caller.pass) old.number old.session (MayMeet (refusals.TooOld c.read_oldest-oldest.result)) c.requires.ready.at tt c.read_oldest-oldest.ensures.section
-
-pub returns-in-Ok-clause-adds : goal.returns-in-Ok-clause-adds
-returns-in-Ok-clause-adds g c =
-    let old = c.args.caller.now in
-    let u = c.read_oldest-oldest.new.caller in
-    let e = c.read_oldest-oldest.ensures in
-    read_adds old.number u.number old.session u.session IsPlain (view old.pass).seen (view u.pass).seen (view c.show.new.caller.pass).seen e.same.1 e.same.0 (λ lock kind m. m)
-    (look_adds (start_of c.args.hall.now) (view old.pass) (view u.pass) old.number old.session IsPlain c.requires.ready.at tt e.section) c.in-Ok.ensures.adds
-
 pub returns-in-Err-clause-adds : goal.returns-in-Err-clause-adds
 returns-in-Err-clause-adds g c =
     let old = c.args.caller.now in
-    let u = c.read_oldest-oldest.new.caller in
-    let e = c.read_oldest-oldest.ensures in
+    let u = c.read_oldest_word-published.new.caller in
+    let e = c.read_oldest_word-published.ensures in
     read_adds old.number u.number old.session u.session (MayMeet c.in-Err.refusal) (view old.pass).seen (view u.pass).seen (view c.show.new.caller.pass).seen e.same.1 e.same.0 (plain_meets c.in-Err.refusal)
-    (look_adds (start_of c.args.hall.now) (view old.pass) (view u.pass) old.number old.session IsPlain c.requires.ready.at tt e.section) c.in-Err.ensures.adds
+    (adds_wider (by_at old.number old.session.levels.commands) (λ lock kind. ⊥) IsPlain (view old.pass).seen (view u.pass).seen (λ lock kind no. absurd no) e.adds) c.in-Err.ensures.adds

@@ -50,4 +50,4 @@ returns-then-lt-clause-adds g c =
     let told = MayMeet (refusals.TooOld c.read_oldest-oldest.result) in
     let first = cut_adds start (view old.pass) (view u.pass) (xact_lock bank) by old.session c.requires.ready.at (is_xact_lock start bank inside) _ c.in-Err-Cut.field-0 _ c.in-Err-Cut.field-0-is d.section in
     read_adds old.number u.number old.session u.session told (view old.pass).seen (view u.pass).seen w.seen d.same.1 d.same.0 (plain_meets (refusals.TooOld c.read_oldest-oldest.result)) first
-    (look_adds start (view u.pass) w u.number u.session told d.ready.at tt c.read_oldest-oldest.ensures.section)
+    (look_adds start (view u.pass) w u.number u.session told d.ready.at (λ number. tt) tt c.read_oldest-oldest.ensures.section)

@@ -6,7 +6,7 @@ use Rattle.tx_model.specs.declared.command.Command.TheVariants as commands
 use Rattle.tx_model.specs.declared.reply.Reply.TheVariants as replies
 use Rattle.tx_model.specs.Replies.{alone}
 use Rattle.tx_core.specs.Entries.{history}
-use Rattle.tx_core.specs.Locks.{proc_lock}
+use Rattle.tx_core.specs.declared.entry.Kind.TheVariants as kinds
 use Rattle.engine_parts.specs.declared.session.Session.{Session}
 use Rattle.engine_parts.specs.Adding.{IsPlain, MayLeave, MayMeet}
 use Rattle.engine_parts.specs.Answers.{MayAnswer}
@@ -14,7 +14,7 @@ use Rattle.engine_parts.specs.Sessions.{by_at, stance_of}
 use Rattle.engine_parts.specs.Steps.{WentOn}
 use Rattle.engine_parts.proofs.Adding.{adds_nothing, adds_wider, met_leaves, plain_leaves, plain_meets}
 use Rattle.engine_parts.proofs.Calling.{may_counted, own_counted}
-use Rattle.engine_parts.proofs.Sectioning.{shared_adds}
+use Rattle.engine_parts.proofs.Sectioning.{proc_section_adds}
 use Rattle.engine_parts.proofs.Stepping.{went_nowhere, went_then}
 use Rattle.engine_parts.proofs.Unmoved.{look_adds, ran_read, ran_unmoved}
 use Rattle.proc_sections.specs.Askings.{question}
@@ -46,7 +46,7 @@ returns-in-Err g c =
     let may = may_counted c.args.hall.now old u c.count.ensures c.requires in
     let normal : 3 ≤ x = subst (λ z. 3 ≤ z) c.number.ensures.value c.if-number-lt3.false in
     ran_read c.args.hall.now old u w (commands.Status x) (replies.Refused refusals.Memory) c.count.ensures c.requires e.own e.ready e.asks e.same.0 e.same.1 refl
-    (look_adds (start_of c.args.hall.now) (view u.pass) (view w.pass) u.number u.session (MayLeave (commands.Status x) (stance_of u.session) u.session.stage (open_ids u.number (history (view u.pass).seen)) (replies.Refused refusals.Memory)) may.ready.at tt e.section)
+    (look_adds (start_of c.args.hall.now) (view u.pass) (view w.pass) u.number u.session (MayLeave (commands.Status x) (stance_of u.session) u.session.stage (open_ids u.number (history (view u.pass).seen)) (replies.Refused refusals.Memory)) may.ready.at (λ number. tt) tt e.section)
     (le-leb 3 x normal) refl refl refl refl refl refl refl
 
 pub returns-in-Ok-settle : goal.returns-in-Ok-settle
@@ -69,7 +69,7 @@ returns-in-Ok-settle g c =
     (asked_event by x reply normal f.behind)
     (adds_wider by IsPlain _ (view u.pass).seen (view w.pass).seen (plain_leaves (commands.Status x) (stance_of u.session) u.session.stage (open_ids u.number (history (view u.pass).seen)) reply)
     (read_adds u.number t.number u.session t.session IsPlain (view u.pass).seen (view t.pass).seen (view w.pass).seen a.same.1 a.same.0 (λ lock kind m. m)
-    (shared_adds start (view u.pass) (view t.pass) proc_lock _ by u.session IsPlain (omega arith) may.ready.at a.section refl tt) f.adds))
+    (proc_section_adds start (view u.pass) (view t.pass) u.number u.session (record { by = by; kind = kinds.Event event }) may.ready.at refl a.section IsPlain (λ number. tt) tt) f.adds))
     (subst (λ (z : ℕ × Session). MayAnswer (g.P.PageDisk.tells) start (view w.pass).seen (alone (history (view u.pass).seen) (history (view w.pass).seen)) (by_at z.0 z.1.levels.commands) (stance_of z.1) z.1.stage (commands.Status x) reply) (λ j. (a.same.1 j, a.same.0 j))
     (f.allowed (history (view u.pass).seen) (went_further u.number event (view u.pass).seen (view t.pass).seen a.asks.0)))
     refl f.standing refl refl refl refl f.standing
@@ -95,7 +95,7 @@ returns-in-Err-settle g c =
     (asked_event by x reply normal f.behind)
     (adds_wider by (MayMeet refusal) _ (view u.pass).seen (view w.pass).seen (met_leaves (commands.Status x) (stance_of u.session) u.session.stage (open_ids u.number (history (view u.pass).seen)) refusal)
     (read_adds u.number t.number u.session t.session (MayMeet refusal) (view u.pass).seen (view t.pass).seen (view w.pass).seen a.same.1 a.same.0 (plain_meets refusal)
-    (shared_adds start (view u.pass) (view t.pass) proc_lock _ by u.session IsPlain (omega arith) may.ready.at a.section refl tt) f.adds))
+    (proc_section_adds start (view u.pass) (view t.pass) u.number u.session (record { by = by; kind = kinds.Event event }) may.ready.at refl a.section IsPlain (λ number. tt) tt) f.adds))
     (subst (λ (z : ℕ × Session). MayAnswer (g.P.PageDisk.tells) start (view w.pass).seen (alone (history (view u.pass).seen) (history (view w.pass).seen)) (by_at z.0 z.1.levels.commands) (stance_of z.1) z.1.stage (commands.Status x) reply) (λ j. (a.same.1 j, a.same.0 j))
     (f.allowed (history (view u.pass).seen) (went_further u.number event (view u.pass).seen (view t.pass).seen a.asks.0)))
     refl f.standing refl refl refl refl f.standing

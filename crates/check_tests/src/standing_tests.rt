@@ -5,7 +5,7 @@ use standing_rules::{
 };
 use std::process::Abort;
 use tx_events::{By, Lock, Mode, Refusal, Sequence, Xid};
-use tx_model::{Command, Line, Pair, PairList, Reply};
+use tx_model::{Command, Line, Pair, Reply};
 
 /// The reply that tells this refusal, or `ok`.
 fn reply_of(refusal: Option<Refusal>) -> Reply {
@@ -210,10 +210,9 @@ fn updater() -> Pair {
 }
 
 fn two_updaters<R: Abort + AllocGlobal>(rt: &R) -> Command {
-    let mut pairs = Sequence::new(rt.alloc());
-    assert!(rt; pairs.push(updater()).is_ok());
-    assert!(rt; pairs.push(updater()).is_ok());
-    let members = PairList::of(rt.alloc(), pairs).expect(rt, "memory");
+    let mut members = Sequence::new(rt.alloc());
+    assert!(rt; members.push(updater()).is_ok());
+    assert!(rt; members.push(updater()).is_ok());
     Command::Multi { members }
 }
 

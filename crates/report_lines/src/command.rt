@@ -140,7 +140,7 @@ fn long_command<'a>(
     ensures { Gives (λ x. (x.0, behind x.1.now)) result (long_command word.now (behind rest.now)) }
 {
     if is_word(word, b"multi") {
-        let mut members = PairList::new(alloc)?;
+        let mut members = PairList::new(alloc);
         let rest = read_pairs(&mut members, rest)?;
         return Ok((Command::Multi { members }, rest));
     }

@@ -92,7 +92,7 @@ fn number_fault(kind: Kind, more: &[u8]) -> Kind
 pub fn pairs_in(alloc: Global, words: &[u8]) -> Result<PairList, Stop>
     ensures { Gives (λ pairs. pairs) result (pairs_in (words_in words.now)) }
 {
-    let mut pairs = PairList::new(alloc)?;
+    let mut pairs = PairList::new(alloc);
     let mut rest = words;
     while let Some((word, more)) = next_word(rest) {
         let (id, mode) = parts_of(word);

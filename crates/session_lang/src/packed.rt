@@ -9,7 +9,7 @@ ghost use Rattle.session_lang.specs.Rounds.{asked_by, asked_in, crash_in, sessio
 use crate::script::{Between, Dump, Item};
 use std::alloc::Global;
 use tx_events::{FullMulti, FullXid, MultiId, Xid};
-use tx_model::{Command, DumpOf, How, Memory, Name, Pair, PairList, Sequence};
+use tx_model::{Command, DumpOf, How, Memory, Name, Pair, PairList};
 
 /// A command without arguments.
 #[derive(Clone, Copy)]
@@ -253,7 +253,7 @@ fn pair_list(alloc: Global, members: &[Pair]) -> Result<PairList, Memory>
 {
     let mut pairs = Vec::new(alloc);
     pairs.extend_from_slice(members)?;
-    PairList::of(alloc, Sequence::of(pairs))
+    Ok(PairList::of(pairs))
 }
 
 /// The session of a command in short.

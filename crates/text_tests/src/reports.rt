@@ -7,8 +7,7 @@ use tx_events::{
     Rec, RecList, Refusal, Sequence, Xid,
 };
 use tx_model::{
-    Command, DumpOf, How, Life, LifeReport, Line, NameList, Pair, PairList, Reply, Report, Step,
-    StepList,
+    Command, DumpOf, How, Life, LifeReport, Line, NameList, Pair, Reply, Report, Step, StepList,
 };
 
 fn first_counters(rt: &impl Abort) -> Counters {
@@ -67,8 +66,7 @@ fn line(session: u32, number: u64, command: Command, reply: Reply) -> Line {
 fn round(rt: &(impl Abort + AllocGlobal)) -> Step {
     let x = Xid { number: 3 };
     let mode = Mode::KeySh;
-    let pairs = list(rt, [Pair { x, mode }]);
-    let members = PairList::of(rt.alloc(), pairs).expect(rt, "memory");
+    let members = list(rt, [Pair { x, mode }]);
     let see = Command::See {
         name: Name::of(b"s"),
         x,

@@ -1,6 +1,5 @@
 //! What a session may be told to do.
-use crate::pairs::PairList;
-use tx_events::{Copied, FullMulti, FullXid, Memory, Mode, MultiId, Name, Xid};
+use tx_events::{Copied, FullMulti, FullXid, Memory, Mode, MultiId, Name, Sequence, Xid};
 
 /// A member as a script writes it: the stored half of its id.
 #[derive(Clone, Copy, Debug, PartialEq, Eq)]
@@ -14,6 +13,9 @@ impl Copied for Pair {
         Ok(*self)
     }
 }
+
+/// Members as a script writes them, in order.
+pub type PairList = Sequence<Pair>;
 
 /// A command of a session, as a script has it behind the session's name.
 #[derive(Clone, Drop)]

@@ -7,7 +7,7 @@ use Rattle.script_lines.proofs.member.pairs_in.Goals as goal
 
 pub loop-word-init : goal.loop-word-init
 loop-word-init c =
-    ap (λ ps. pairs_of ps (words_in c.args.words.now)) c.in_ok-pairs.ensures ∙ all_pairs (words_in c.args.words.now)
+    ap (λ ps. pairs_of ps (words_in c.args.words.now)) c.new-pairs.ensures ∙ all_pairs (words_in c.args.words.now)
 
 pub returns-in-Err : goal.returns-in-Err
 returns-in-Err c =

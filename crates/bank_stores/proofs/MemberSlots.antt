@@ -1,7 +1,7 @@
 -- A slot of members is set, and the other slots stay.
-use Rattle.std.proofs.Common.{◌≡◌, ◌≢◌, ◌⊎◌, inl, inr, ⊎_elim, ℕ, zero, suc, ◌+◌, ◌/◌, ◌<◌, ◌≤◌, ◌==◌, ◌&&◌, Bool, true, false, List, length, slice_index, slice_set, Result, Ok, Err, OnOk, refl, sym, ◌∙◌, ap, subst, arith}
+use Rattle.std.proofs.Common.{◌≡◌, ◌≢◌, ◌⊎◌, inl, inr, ⊎_elim, ℕ, zero, suc, ◌+◌, ◌/◌, ◌<◌, ◌≤◌, ◌==◌, ◌&&◌, Bool, true, false, List, length, take, drop, slice_index, slice_set, Result, Ok, Err, OnOk, refl, sym, ◌∙◌, ap, subst, arith}
 use Rattle.std.proofs.lemmas.Bool.{eqb-true}
-use Rattle.std.proofs.lemmas.List.{get_or-set_same, get_or-set_other}
+use Rattle.std.proofs.lemmas.List.{get_or-drop, get_or-take, get_or-set_same, get_or-set_other}
 use Rattle.tx_events.specs.PageOrder.{Offsets}
 use Rattle.store_pages.specs.Layouts.{number_in}
 use Rattle.tx_events.specs.Pages.{mode_at, id_at}
@@ -41,6 +41,23 @@ whole_byte : (b s : ℕ) → b < 256 → s ≤ 5 → masked b 255 s ≡ s
 whole_byte b s b_small s_small = eqb-true (masked b 255 s) s (each 6 (λ s. masked b 255 s == s) s (omega arith) (each 256 (λ b. every 6 (λ s. masked b 255 s == s)) b b_small all_set))
 
 -- ---- places on a page
+
+-- ---- what was read from a mode on
+
+pub mode_read : (xs : List ℕ) (at n : ℕ) → 1 ≤ n → slice_index (take n (drop at xs)) 0 ≡ slice_index xs at
+mode_read xs at n some = let e : at + 0 ≡ at = omega arith in get_or-take n (drop at xs) 0 0 (omega arith) ∙ get_or-drop at xs 0 0 ∙ ap (λ (i : ℕ). slice_index xs i) e
+
+-- a byte of it
+byte_read : (xs : List ℕ) (at n i k : ℕ) → i < n → at + i ≡ k → slice_index (take n (drop at xs)) i ≡ slice_index xs k
+byte_read xs at n i k within e = get_or-take n (drop at xs) i 0 within ∙ get_or-drop at xs i 0 ∙ ap (λ (i : ℕ). slice_index xs i) e
+
+pub number_read : (xs : List ℕ) (at n i k : ℕ) → i + 4 ≤ n → at + i ≡ k → number_in (take n (drop at xs)) i ≡ number_in xs k
+number_read xs at n i k within e =
+    let b0 = byte_read xs at n i k (omega arith) e in
+    let b1 = byte_read xs at n (i + 1) (k + 1) (omega arith) (omega arith) in
+    let b2 = byte_read xs at n (i + 2) (k + 2) (omega arith) (omega arith) in
+    let b3 = byte_read xs at n (i + 3) (k + 3) (omega arith) (omega arith) in
+    rw (b0, b1, b2, b3) refl
 
 either_way : (a b : ℕ) → (a < b) ⊎ ((a ≡ b) ⊎ (b < a))
 either_way a b = grind arith

@@ -1,5 +1,5 @@
 // A member is a mode byte in front of its group's ids, and an id of four bytes.
-ghost use Rattle.std.specs.Prelude.{◌≡◌, ℕ, ◌+◌, ◌*◌, ◌/◌, ◌%◌, ◌^◌, IsTrue, slice_index, OnOk, OnErr, IfOk};
+ghost use Rattle.std.specs.Prelude.{◌≡◌, ℕ, ◌+◌, ◌*◌, ◌/◌, ◌%◌, ◌^◌, ◌≤◌, IsTrue, length, slice_index, OnOk, OnErr, IfOk};
 ghost use Rattle.tx_events.specs.Ids.{low_half};
 ghost use Rattle.tx_events.specs.PageOrder.{Offsets, page_precedes};
 ghost use Rattle.store_pages.specs.Layouts.{number_in};
@@ -12,7 +12,7 @@ ghost use Rattle.bank_stores.specs.Changes.{SetsMember, TrimsMembers};
 use crate::Slot;
 use crate::modes::slot_of_numbers;
 use disk_core::PageDisk;
-use slru_bank::{BankRefusal, SlruBank, put_number, read_number};
+use slru_bank::{BankRefusal, SlruBank, put_number};
 use store_pages::{MemberPages, id_position, member_page, mode_position};
 use tx_events::{Mode, Xid};
 
@@ -33,6 +33,19 @@ pub fn write_member<P: PageDisk>(
     put_number(bank, page, id_position(offset), x.number)
 }
 
+// How many bytes at most stand from a member's mode to the end of its id, in its group.
+const SPAN: usize = 17;
+
+// The number in four bytes, the low one first.
+fn number_at(bytes: &[u8], at: usize) -> u32
+    requires { at + 4 ≤ length bytes.now }
+    ensures { result ≡ number_in bytes.now at }
+{
+    let low = u32::from(bytes[at]) + 256 * u32::from(bytes[at + 1]);
+    let high = u32::from(bytes[at + 2]) + 256 * u32::from(bytes[at + 3]);
+    low + 65_536 * high
+}
+
 /// What is in a slot (as `GetMultiXactIdMembers` reads it).
 pub fn read_member<P: PageDisk>(
     bank: &mut SlruBank<P, MemberPages>,
@@ -43,11 +56,12 @@ pub fn read_member<P: PageDisk>(
     ensures same { IsTrue P.tells → SamePages bank.old bank.new }
     ensures bank { CallsBank (member_page offset) bank.old bank.new result }
 {
-    let page = member_page(offset);
-    let mut byte = [0; 1];
-    bank.read(page, mode_position(offset), &mut byte)?;
-    let number = read_number(bank, page, id_position(offset))?;
-    Ok(slot_of_numbers(byte[0], number))
+    let at = mode_position(offset);
+    let id = (id_position(offset) - at) as usize;
+    let mut bytes = [0; SPAN];
+    bank.read(member_page(offset), at, &mut bytes)?;
+    let number = number_at(&bytes, id);
+    Ok(slot_of_numbers(bytes[0], number))
 }
 
 /// Clears the members from an offset on: their ids on its page, and each later page is removed (`TrimMultiXact`). The

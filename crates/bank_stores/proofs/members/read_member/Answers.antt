@@ -1,26 +1,22 @@
-use Rattle.std.proofs.Common.{◌≡◌, ℕ, List, slice_index, ap, refl, rules, ◌∙◌}
-use Rattle.tx_events.specs.Pages.{member_page, member_place, mode_at}
-use Rattle.slru_bank.specs.ByteRange.{first_read}
-use Rattle.slru_bank.specs.Calls.{calls_again, pages_of}
+use Rattle.std.proofs.Common.{◌≡◌, ℕ, ◌+◌, ◌-◌, ◌≤◌, List, slice_index, ap, arith, refl, ◌∙◌}
+use Rattle.store_pages.specs.Layouts.{number_in}
+use Rattle.tx_events.specs.Pages.{id_at, member_page, member_place, mode_at}
+use Rattle.slru_bank.specs.Calls.{pages_of}
+use Rattle.bank_stores.proofs.MemberSlots.{mode_read, number_read}
 use Rattle.bank_stores.proofs.members.read_member.Goals as goal
-
-pub returns-clause-bank : goal.returns-clause-bank
-returns-clause-bank g c =
-    let both = calls_again c.member_page-page.result c.args.bank.now c.read.new.self c.read_number.new.bank tt c.read.result c.read_number.result c.in_ok-read.was c.read.ensures.bank c.read_number.ensures.bank in
-    let calls = rw c.member_page-page.ensures.page at both in
-    search (rules, calls)
-
-pub returns-in_err-number-clause-bank : goal.returns-in_err-number-clause-bank
-returns-in_err-number-clause-bank g c =
-    let both = calls_again c.member_page-page.result c.args.bank.now c.read.new.self c.read_number.new.bank tt c.read.result c.read_number.result c.in_ok-read.was c.read.ensures.bank c.read_number.ensures.bank in
-    let calls = rw c.member_page-page.ensures.page at both in
-    search (rules, calls)
 
 pub returns-clause-is : goal.returns-clause-is
 returns-clause-is g c told =
-    let m = pages_of c.args.bank.now in
-    let bytes = rw (c.member_page-page.ensures.page, c.mode_position.ensures.position) at (c.in_ok-read.ensures.bytes told) in
-    let byte : slice_index c.read.new.into 0 ≡ slice_index (m (member_page c.args.offset)) (mode_at (member_place c.args.offset)) =
-    ap (λ (l : List ℕ). slice_index l 0) bytes ∙ first_read (m (member_page c.args.offset)) (mode_at (member_place c.args.offset)) in
-    let number = rw (c.member_page-page.ensures.page, c.id_position.ensures.position, c.read.ensures.same told (member_page c.args.offset)) at (c.in_ok-number.ensures.is told) in
+    let xs : List ℕ = pages_of c.args.bank.now (member_page c.args.offset) in
+    let place = member_place c.args.offset in
+    let from = c.mode_position-at.ensures.position in
+    let to = c.id_position.ensures.position in
+    let bytes = rw (c.member_page.ensures.page, from) at (c.in_ok-read.ensures.bytes told) in
+    let byte : slice_index c.read.new.into 0 ≡ slice_index xs (mode_at place) =
+    ap (λ (l : List ℕ). slice_index l 0) bytes ∙ mode_read xs (mode_at place) 17 (omega arith) in
+    let within : c.id_position.result - c.mode_position-at.result + 4 ≤ 17 = omega (arith, from, to) in
+    let there : mode_at place + (c.id_position.result - c.mode_position-at.result) ≡ id_at place = omega (arith, from, to) in
+    let number : c.number_at-number.result ≡ number_in xs (id_at place) =
+    c.number_at-number.ensures ∙ ap (λ (l : List ℕ). number_in l (c.id_position.result - c.mode_position-at.result)) bytes
+    ∙ number_read xs (mode_at place) 17 (c.id_position.result - c.mode_position-at.result) (id_at place) within there in
     c.slot_of_numbers.ensures ∙ rw (byte, number) refl

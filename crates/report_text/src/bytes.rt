@@ -130,7 +130,31 @@ fn number_over(bytes: &mut [u8], at: usize, n: u64) -> usize
     digits_over(bytes, next, n)
 }
 
-/// Writes a name of up to three bytes behind a space.
+/// Writes a name of one to three bytes.
+#[inline(always)]
+fn short_over(bytes: &mut [u8], at: usize, name: &[u8]) -> usize
+    requires room { at + 3 ≤ length bytes.old }
+    requires some { 1 ≤ length name.now }
+    requires short { length name.now ≤ 3 }
+    ensures next { result ≤ length bytes.old }
+    ensures written { take result bytes.new ≡ take at bytes.old ++ name.now }
+{
+    match name {
+        [a] => byte_over(bytes, at, *a),
+        [a, b] => {
+            let next = byte_over(bytes, at, *a);
+            byte_over(bytes, next, *b)
+        }
+        [a, b, c] => {
+            let next = byte_over(bytes, at, *a);
+            let next = byte_over(bytes, next, *b);
+            byte_over(bytes, next, *c)
+        }
+        _ => at,
+    }
+}
+
+/// Writes a name of one to three bytes behind a space.
 #[inline(always)]
 fn name_over(bytes: &mut [u8], at: usize, name: &[u8]) -> usize
     requires room { at + 4 ≤ length bytes.old }
@@ -140,19 +164,7 @@ fn name_over(bytes: &mut [u8], at: usize, name: &[u8]) -> usize
     ensures written { take result bytes.new ≡ take at bytes.old ++ 32 ∷ name.now }
 {
     let next = byte_over(bytes, at, b' ');
-    match name {
-        [a] => byte_over(bytes, next, *a),
-        [a, b] => {
-            let next = byte_over(bytes, next, *a);
-            byte_over(bytes, next, *b)
-        }
-        [a, b, c] => {
-            let next = byte_over(bytes, next, *a);
-            let next = byte_over(bytes, next, *b);
-            byte_over(bytes, next, *c)
-        }
-        _ => next,
-    }
+    short_over(bytes, next, name)
 }
 
 /// Lays the digits of a number of up to eight over the bytes from a place on.
@@ -187,6 +199,18 @@ fn lay_name(bytes: &mut Vec<u8>, at: usize, name: &[u8]) -> usize
     ensures written { take result bytes.new.items ≡ take at bytes.old.items ++ 32 ∷ name.now }
 {
     name_over(bytes, at, name)
+}
+
+/// Lays a name of up to three bytes over the bytes from a place on.
+#[inline(always)]
+fn lay_short(bytes: &mut Vec<u8>, at: usize, name: &[u8]) -> usize
+    requires room { at + 3 ≤ length bytes.old.items }
+    requires some { 1 ≤ length name.now }
+    requires short { length name.now ≤ 3 }
+    ensures within { result ≤ length bytes.new.items }
+    ensures written { take result bytes.new.items ≡ take at bytes.old.items ++ name.now }
+{
+    short_over(bytes, at, name)
 }
 
 /// How much room is laid out behind so many bytes: a short text isn't to take much more than its bytes.
@@ -356,6 +380,20 @@ impl Bytes {
             return self.long_name(name);
         }
         self.used = lay_name(&mut self.laid, self.used, name);
+        Ok(())
+    }
+
+    /// Adds a name. A short one is copied without a loop.
+    pub fn short(&mut self, name: &[u8]) -> Result<(), Memory>
+        ensures ok { OnOk result (self.new ≡ self.old ++ name.now) }
+    {
+        if name.is_empty() || name.len() > 3 {
+            return self.put(name);
+        }
+        if self.laid.len() - self.used < 3 {
+            return self.put(name);
+        }
+        self.used = lay_short(&mut self.laid, self.used, name);
         Ok(())
     }
 }

@@ -22,7 +22,7 @@ pub fn put_command_line(
 ) -> Result<(), Memory>
     ensures ok { OnOk result (out.new ≡ out.old ++ command_line names.now (record { by = by; command = command.now; reply = reply.now })) }
 {
-    out.put(name_of(names, by.session))?;
+    out.front(name_of(names, by.session))?;
     out.number(by.command)?;
     put_command(out, command)?;
     put_answer(out, names, reply)?;

@@ -56,6 +56,14 @@ impl Text {
         self.bytes.put(word)
     }
 
+    /// A name at the front of a line.
+    #[inline(always)]
+    pub fn front(&mut self, name: &[u8]) -> Result<(), Memory>
+        ensures ok { OnOk result (self.new ≡ self.old ++ name.now) }
+    {
+        self.bytes.short(name)
+    }
+
     /// A name behind a space.
     pub fn name(&mut self, name: &[u8]) -> Result<(), Memory>
         ensures ok { OnOk result (self.new ≡ self.old ++ more (name.now ∷ [])) }

@@ -3,13 +3,11 @@ ghost use Rattle.std.specs.Prelude.{◌≡◌, ℕ, ◌+◌, ◌<◌, ◌≤◌,
 ghost use Rattle.std.specs.Fmt.{decimal};
 ghost use Rattle.report_text.specs.Words.{more, pair};
 
+use crate::room::{lay_out, room_behind};
 use itoa::Buffer;
 use std::alloc::Global;
 use std::marker::Model;
 use tx_events::Memory;
-
-// What is laid out behind the bytes. Nearly every piece is shorter than the least of it.
-static ROOM: [u8; 4096] = [0; 4096];
 
 /// Bytes that grow at their end. Behind them lies room, so that a short piece need not ask for it. A contract sees the
 /// bytes.
@@ -211,22 +209,6 @@ fn lay_short(bytes: &mut Vec<u8>, at: usize, name: &[u8]) -> usize
     ensures written { take result bytes.new.items ≡ take at bytes.old.items ++ name.now }
 {
     short_over(bytes, at, name)
-}
-
-/// How much room is laid out behind so many bytes: a short text isn't to take much more than its bytes.
-fn room_behind(length: usize) -> usize
-    ensures { result ≤ 4096 }
-{
-    if length < 32_768 { 512 } else { 4096 }
-}
-
-/// Lays out room behind the bytes. Without memory there is none.
-fn lay_out(bytes: &mut Vec<u8>)
-    ensures long { length bytes.old.items ≤ length bytes.new.items }
-    ensures same { take (length bytes.old.items) bytes.new.items ≡ bytes.old.items }
-{
-    let count = room_behind(bytes.len());
-    let _ = bytes.extend_from_slice(&ROOM[..count]);
 }
 
 impl Bytes {

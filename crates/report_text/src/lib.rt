@@ -11,6 +11,7 @@ mod record;
 mod refusal;
 mod reply;
 mod report;
+mod room;
 mod step;
 mod text;
 

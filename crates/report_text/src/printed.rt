@@ -1,5 +1,5 @@
 //! A list of ids that was printed, with its words.
-ghost use Rattle.std.specs.Prelude.{◌≡◌, ◌++◌, [], IsTrue, OnOk};
+ghost use Rattle.std.specs.Prelude.{◌≡◌, ◌++◌, [], IsTrue, OnOk, length};
 ghost use Rattle.report_text.specs.Words.{more, numbers};
 
 use crate::bytes::Bytes;
@@ -10,6 +10,19 @@ use tx_events::{FullXid, Memory};
 
 // Shorter lists are printed anew.
 const MANY: usize = 8;
+
+/// Whether two lists of as many ids are the same. It looks at all of them, some at once.
+#[tactic(auto, using(std::proofs::lemmas::List::take_more_same, std::proofs::lemmas::List::take_all))]
+fn are_same(a: &[FullXid], b: &[FullXid]) -> bool
+    requires { length a.now ≡ length b.now }
+    ensures { IsTrue result → a.now ≡ b.now }
+{
+    let mut same = true;
+    for i in 0..a.len() {
+        same = same & (a[i] == b[i]);
+    }
+    same
+}
 
 /// The list of ids that was printed last, with its words, so that these need not be made anew for the same list. A
 /// contract sees the ids.
@@ -45,7 +58,7 @@ impl Printed {
     fn is_of(&self, ids: &[FullXid]) -> bool
         ensures { IsTrue result → self.now ≡ ids.now }
     {
-        self.ids.as_slice() == ids
+        self.ids.len() == ids.len() && are_same(&self.ids, ids)
     }
 
     // Where there is no memory, none are kept.

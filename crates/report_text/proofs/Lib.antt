@@ -1,2 +1,3 @@
 pub mod MoreWords
 pub mod Laid
+pub mod Differing

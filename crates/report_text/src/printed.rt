@@ -12,16 +12,16 @@ use tx_events::{FullXid, Memory};
 const MANY: usize = 8;
 
 /// Whether two lists of as many ids are the same. It looks at all of them, some at once.
-#[tactic(auto, using(std::proofs::lemmas::List::take_more_same, std::proofs::lemmas::List::take_all))]
+#[tactic(auto, using(crate::proofs::Differing::same_so_far, std::proofs::lemmas::List::take_more_same, std::proofs::lemmas::List::take_all))]
 fn are_same(a: &[FullXid], b: &[FullXid]) -> bool
     requires { length a.now ≡ length b.now }
     ensures { IsTrue result → a.now ≡ b.now }
 {
-    let mut same = true;
+    let mut differing = 0;
     for i in 0..a.len() {
-        same = same & (a[i] == b[i]);
+        differing |= a[i].number() ^ b[i].number();
     }
-    same
+    differing == 0
 }
 
 /// The list of ids that was printed last, with its words, so that these need not be made anew for the same list. A

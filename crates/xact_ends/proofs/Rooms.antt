@@ -1,5 +1,5 @@
 -- A commit whose record stands finds no log full.
-use Rattle.std.proofs.Common.{◌≡◌, Result, Ok, Err, IfErr, subst}
+use Rattle.std.proofs.Common.{Result, Ok, Err, IfErr, subst}
 use Rattle.hall.specs.Calls.{view}
 use Rattle.disk_core.specs.declared.log_disk.LogDisk as logs
 use Rattle.disk_core.specs.declared.page_disk.PageDisk as disks

@@ -35,6 +35,7 @@ use Rattle.log_sections.specs.declared.appending.Appended.{Appended}
 use Rattle.log_sections.specs.declared.appending.Appended.TheVariants as came
 use Rattle.log_sections.specs.LogSections.{IsTruncationOf}
 use Rattle.log_sections.specs.MultiRecords.{IsMakingRecord, TakesMulti}
+use Rattle.multi_makes.specs.Pending.{IsPending}
 
 -- the oldest multixact and its offset are those with which the life began, or were announced together
 abbrev IsPair : Counters → List MultiEvent → Type 0
@@ -80,7 +81,7 @@ truncation_found start first second oldest found rec g is same of =
 pub is_truncation : (rec : Rec) (oldest multi offset : ℕ) → rec ≡ records.Truncate oldest multi offset → IsTruncation rec
 is_truncation rec oldest multi offset is = subst IsTruncation (sym is) tt
 
-pub of_truncation : (rec : Rec) → IsTruncation rec → IsOfMulti rec
+of_truncation : (rec : Rec) → IsTruncation rec → IsOfMulti rec
 of_truncation (records.Truncate oldest multi offset) t = tt
 of_truncation _ t = absurd t
 
@@ -89,7 +90,12 @@ of_truncation _ t = absurd t
 pub truncation_wider : (lock : ℕ) (kind : Kind) → MayAdd IsTruncation ⊥ (λ r. ⊥) lock kind → MayAdd IsOfMulti ⊥ (λ r. ⊥) lock kind
 truncation_wider = may_wider IsTruncation IsOfMulti ⊥ ⊥ (λ r. ⊥) (λ r. ⊥) of_truncation (λ m. m) (λ r m. m)
 
-pub making_of_multi : (o : Option Making) (rec : Rec) → IsMakingRecord o rec → IsOfMulti rec
+-- the record that isn't logged yet is the pending one
+pub making_pending : (o : Option Making) (rec : Rec) → IsMakingRecord o rec → IsPending o rec
+making_pending None rec p = absurd p
+making_pending (Some m) rec p = p.0
+
+making_of_multi : (o : Option Making) (rec : Rec) → IsMakingRecord o rec → IsOfMulti rec
 making_of_multi None rec p = absurd p
 making_of_multi (Some m) rec p = subst IsOfMulti (sym p.0) tt
 

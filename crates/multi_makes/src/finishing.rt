@@ -6,7 +6,7 @@ ghost use Rattle.engine_parts.specs.Adding.{IsOfMulti, IsToldBy, MayAdd, MayFaul
 ghost use Rattle.engine_parts.specs.Calls.{MayStep};
 ghost use Rattle.engine_parts.specs.Sessions.{by_at};
 ghost use Rattle.tx_core.specs.OwnMultis.{IsMultiDone};
-ghost use Rattle.log_sections.specs.Rooms.{MetFull};
+ghost use Rattle.log_sections.specs.Rooms.{MetFullFor};
 ghost use Rattle.multi_makes.specs.Logged.{LogsMulti};
 ghost use Rattle.multi_makes.specs.Pending.{ArePending, Finishes, IsLogged, IsMultiFault, IsPending, IsRecDone, IsRecordedRec};
 ghost use Rattle.multi_makes.specs.Visits.{Visited};
@@ -56,8 +56,8 @@ fn log_pending<R: Passing, L: LogDisk, P: PageDisk>(
     ensures visited { Visited hall.now banks (MayAdd IsOfMulti ⊥ (λ _. ⊥)) caller.old caller.new }
     ensures logs { LogsMulti (start_of hall.now) (view caller.new.pass).seen caller.old.session caller.new.session
         result }
-    ensures full { IfErr result (MetFull L.LogDisk (start_of hall.now) (view caller.new.pass).seen
-        (by_at caller.old.number caller.old.session.levels.commands) IsOfMulti) }
+    ensures full { IfErr result (MetFullFor L.LogDisk (start_of hall.now) (view caller.new.pass).seen
+        (by_at caller.old.number caller.old.session.levels.commands) (IsPending caller.new.session.making)) }
 {
     if is_logged(&caller.session.making) {
         return Ok(());
@@ -129,8 +129,8 @@ fn finish_record<R: Passing, L: LogDisk, P: PageDisk>(
     ensures visited { Visited hall.now banks (MayAdd IsOfMulti ⊥ (IsToldBy result)) caller.old caller.new }
     ensures finishes { Finishes (start_of hall.now) caller.old.number caller.old.session caller.new.session
         (view caller.new.pass).seen result }
-    ensures full { IfErr result (MetFull L.LogDisk (start_of hall.now) (view caller.new.pass).seen
-        (by_at caller.old.number caller.old.session.levels.commands) IsOfMulti) }
+    ensures full { IfErr result (MetFullFor L.LogDisk (start_of hall.now) (view caller.new.pass).seen
+        (by_at caller.old.number caller.old.session.levels.commands) (IsPending caller.new.session.making)) }
 {
     match log_pending(rt, hall, caller, banks, rec) {
         Ok(()) => match set_pending(rt, hall, caller, banks, rec) {
@@ -159,8 +159,8 @@ pub(crate) fn finish<R: Passing, L: LogDisk, P: PageDisk>(
     ensures visited { Visited hall.now banks (MayAdd IsOfMulti ⊥ (IsToldBy result)) caller.old caller.new }
     ensures finishes { Finishes (start_of hall.now) caller.old.number caller.old.session caller.new.session
         (view caller.new.pass).seen result }
-    ensures full { IfErr result (MetFull L.LogDisk (start_of hall.now) (view caller.new.pass).seen
-        (by_at caller.old.number caller.old.session.levels.commands) IsOfMulti) }
+    ensures full { IfErr result (MetFullFor L.LogDisk (start_of hall.now) (view caller.new.pass).seen
+        (by_at caller.old.number caller.old.session.levels.commands) (IsPending caller.new.session.making)) }
 {
     match pending_record(&caller.session.making) {
         Ok(None) => Ok(()),

@@ -7,8 +7,9 @@ ghost use Rattle.engine_parts.specs.Sessions.{MayCall, by_at};
 ghost use Rattle.engine_parts.specs.Steps.{WentOn};
 ghost use Rattle.log_sections.specs.LogSections.{IsAppendRefused};
 ghost use Rattle.log_sections.specs.MultiRecords.{IsMakingRecord};
-ghost use Rattle.log_sections.specs.Rooms.{MetFull};
+ghost use Rattle.log_sections.specs.Rooms.{FoundNoBase, MetFull, MetFullFor};
 ghost use Rattle.multi_makes.specs.Logged.{LogsMulti};
+ghost use Rattle.multi_makes.specs.Pending.{IsPending};
 
 use disk_core::{LogDisk, PageDisk};
 use engine_parts::{Caller, EngineLaw, Passing};
@@ -51,8 +52,9 @@ fn log_truncation<R: Passing, L: LogDisk, P: PageDisk>(
     append_truncation(rt, hall, caller, &rec)
 }
 
-/// Appends the record of a truncation, and then the multixact's. Behind the one the log can take the other: it tells the
-/// oldest numbers that were announced by then, and the multixact was given below their limits.
+/// Appends the record of a truncation, and then the multixact's, which the log couldn't take before. Behind the one it
+/// can take the other: it tells the oldest numbers that were announced by then, and the multixact was given below their
+/// limits.
 fn log_behind<R: Passing, L: LogDisk, P: PageDisk>(
     rt: &R,
     hall: &Hall<EngineLaw<L, P>>,
@@ -63,6 +65,8 @@ fn log_behind<R: Passing, L: LogDisk, P: PageDisk>(
     requires laid { hall.now.cells ≡ 3 + 4 * (start_of hall.now).banks }
     requires may { MayCall (start_of hall.now) (view caller.old.pass) caller.old.number caller.old.session }
     requires record { IsMakingRecord caller.old.session.making rec.now }
+    requires no_base { FoundNoBase (start_of hall.now) (view caller.old.pass).seen
+        (by_at caller.old.number caller.old.session.levels.commands) rec.now }
     ensures own { IsOf hall.now caller.new.pass }
     ensures may { MayCall (start_of hall.now) (view caller.new.pass) caller.new.number caller.new.session }
     ensures went { WentOn caller.old.number [] (view caller.old.pass).seen (view caller.new.pass).seen }
@@ -71,8 +75,8 @@ fn log_behind<R: Passing, L: LogDisk, P: PageDisk>(
     ensures logs { LogsMulti (start_of hall.now) (view caller.new.pass).seen caller.old.session caller.new.session
         result }
     ensures number { caller.new.number ≡ caller.old.number }
-    ensures full { IfErr result (MetFull L.LogDisk (start_of hall.now) (view caller.new.pass).seen
-        (by_at caller.old.number caller.old.session.levels.commands) IsOfMulti) }
+    ensures full { IfErr result (MetFullFor L.LogDisk (start_of hall.now) (view caller.new.pass).seen
+        (by_at caller.old.number caller.old.session.levels.commands) (IsPending caller.new.session.making)) }
 {
     rec.tell_forms();
     match log_truncation(rt, hall, caller) {
@@ -108,8 +112,8 @@ pub(crate) fn log_multi<R: Passing, L: LogDisk, P: PageDisk>(
     ensures logs { LogsMulti (start_of hall.now) (view caller.new.pass).seen caller.old.session caller.new.session
         result }
     ensures number { caller.new.number ≡ caller.old.number }
-    ensures full { IfErr result (MetFull L.LogDisk (start_of hall.now) (view caller.new.pass).seen
-        (by_at caller.old.number caller.old.session.levels.commands) IsOfMulti) }
+    ensures full { IfErr result (MetFullFor L.LogDisk (start_of hall.now) (view caller.new.pass).seen
+        (by_at caller.old.number caller.old.session.levels.commands) (IsPending caller.new.session.making)) }
 {
     match append_multi(rt, hall, caller, rec) {
         Ok(Appended::At { .. }) => Ok(()),

@@ -12,8 +12,9 @@ ghost use Rattle.engine_parts.specs.Adding.{Adds, IsOfMulti, IsToldBy, MayAdd};
 ghost use Rattle.engine_parts.specs.Answers.{reply_of};
 ghost use Rattle.engine_parts.specs.Calls.{MayRun, MayStep, Ran, next_command};
 ghost use Rattle.engine_parts.specs.Sessions.{by_at};
-ghost use Rattle.log_sections.specs.Rooms.{MetFull};
+ghost use Rattle.log_sections.specs.Rooms.{MetFullFor};
 ghost use Rattle.multi_makes.specs.Makes.{IsMade, LeavesMaking, MakesNew, MakesNext, MakesOf, given_reply};
+ghost use Rattle.multi_makes.specs.Pending.{IsPending};
 
 use crate::finishing::finish;
 use crate::full::full_members;
@@ -48,8 +49,8 @@ fn make_of<R: Passing, L: LogDisk, P: PageDisk>(
     ensures makes { MakesOf (start_of hall.now) caller.old.number caller.old.session caller.new.session
         members (view caller.old.pass).seen (view caller.new.pass).seen result }
     ensures left { LeavesMaking caller.old caller.new }
-    ensures full { IfErr result (MetFull L.LogDisk (start_of hall.now) (view caller.new.pass).seen
-        (by_at caller.old.number caller.old.session.levels.commands) IsOfMulti) }
+    ensures full { IfErr result (MetFullFor L.LogDisk (start_of hall.now) (view caller.new.pass).seen
+        (by_at caller.old.number caller.old.session.levels.commands) (IsPending caller.new.session.making)) }
 {
     match take_multi(rt, hall, caller, members) {
         Ok(given) => match finish(rt, hall, caller, banks) {
@@ -78,8 +79,8 @@ fn make_new<R: Passing, L: LogDisk, P: PageDisk>(
     ensures makes { MakesNew (start_of hall.now) caller.old.number caller.old.session caller.new.session
         pairs.now (view caller.old.pass).seen (view caller.new.pass).seen result }
     ensures left { LeavesMaking caller.old caller.new }
-    ensures full { IfErr result (MetFull L.LogDisk (start_of hall.now) (view caller.new.pass).seen
-        (by_at caller.old.number caller.old.session.levels.commands) IsOfMulti) }
+    ensures full { IfErr result (MetFullFor L.LogDisk (start_of hall.now) (view caller.new.pass).seen
+        (by_at caller.old.number caller.old.session.levels.commands) (IsPending caller.new.session.making)) }
 {
     let found = read_horizons(rt, hall, caller);
     match full_members(alloc, &found, pairs) {
@@ -105,8 +106,8 @@ fn make_next<R: Passing, L: LogDisk, P: PageDisk>(
     ensures makes { MakesNext (start_of hall.now) caller.old.number caller.old.session caller.new.session
         pairs.now (view caller.old.pass).seen (view caller.new.pass).seen result }
     ensures left { LeavesMaking caller.old caller.new }
-    ensures full { IfErr result (MetFull L.LogDisk (start_of hall.now) (view caller.new.pass).seen
-        (by_at caller.old.number caller.old.session.levels.commands) IsOfMulti) }
+    ensures full { IfErr result (MetFullFor L.LogDisk (start_of hall.now) (view caller.new.pass).seen
+        (by_at caller.old.number caller.old.session.levels.commands) (IsPending caller.new.session.making)) }
 {
     match finish(rt, hall, caller, banks) {
         Ok(()) => make_new(rt, hall, caller, banks, pairs, alloc),
@@ -137,8 +138,8 @@ pub fn multi<R: Passing, L: LogDisk, P: PageDisk>(
         caller.old caller.new }
     ensures done { IfOk result (IsMade (start_of hall.now) (view caller.new.pass).seen caller.old.number) }
     ensures words { by_members (reply_of given_reply result) ≡ refused_by_members (commands.Multi members.now) }
-    ensures full { IfErr result (MetFull L.LogDisk (start_of hall.now) (view caller.new.pass).seen
-        (by_at caller.old.number (next_command caller.old)) IsOfMulti) }
+    ensures full { IfErr result (MetFullFor L.LogDisk (start_of hall.now) (view caller.new.pass).seen
+        (by_at caller.old.number (next_command caller.old)) (IsPending caller.new.session.making)) }
 {
     count(caller);
     match refused_pairs(members.items()) {

@@ -4,11 +4,11 @@ ghost use Rattle.hall.specs.Calls.{view, start_of};
 ghost use Rattle.tx_model.specs.declared.command.Command.TheVariants as commands;
 ghost use Rattle.tx_model.specs.declared.reply.Reply.TheVariants as replies;
 ghost use Rattle.engine_parts.specs.declared.session.Stage.TheVariants as stages;
-ghost use Rattle.engine_parts.specs.Adding.{IsOfCommit};
+ghost use Rattle.engine_parts.specs.Adding.{IsCommitOf};
 ghost use Rattle.engine_parts.specs.Answers.{reply_of};
 ghost use Rattle.engine_parts.specs.Calls.{MayRun, MayStep, Ran, next_command};
 ghost use Rattle.engine_parts.specs.Sessions.{by_at, stance_of};
-ghost use Rattle.log_sections.specs.Rooms.{MetFull};
+ghost use Rattle.log_sections.specs.Rooms.{MetFullFor};
 
 use crate::committing::{finish, flush_and_finish, start_commit};
 use crate::idless::close_idless;
@@ -32,9 +32,9 @@ fn commit_anew<R: Passing, L: LogDisk, P: PageDisk>(
     requires levels { 1 ≤ length (stance_of caller.old.session).levels }
     ensures ran { Ran hall.now caller.old.session.levels.commands commands.Commit (reply_of (λ _. replies.Done) result)
         caller.old caller.new }
-    ensures full { IfErr result (MetFull L.LogDisk (start_of hall.now) (view caller.new.pass).seen
+    ensures full { IfErr result (MetFullFor L.LogDisk (start_of hall.now) (view caller.new.pass).seen
         (by_at caller.old.number caller.old.session.levels.commands)
-        (IsOfCommit caller.old.session.levels.open_ids.items)) }
+        (IsCommitOf caller.old.session.levels.open_ids.items)) }
 {
     if caller.session.levels.open_ids.is_empty() {
         close_idless(caller);
@@ -62,9 +62,9 @@ pub fn commit<R: Passing, L: LogDisk, P: PageDisk>(
     requires { MayRun hall.now banks caller.old }
     ensures ran { Ran hall.now (next_command caller.old) commands.Commit (reply_of (λ _. replies.Done) result)
         caller.old caller.new }
-    ensures full { IfErr result (MetFull L.LogDisk (start_of hall.now) (view caller.new.pass).seen
+    ensures full { IfErr result (MetFullFor L.LogDisk (start_of hall.now) (view caller.new.pass).seen
         (by_at caller.old.number (next_command caller.old))
-        (IsOfCommit caller.old.session.levels.open_ids.items)) }
+        (IsCommitOf caller.old.session.levels.open_ids.items)) }
 {
     count(caller);
     if depth(&caller.session.levels) == 0 {

@@ -5,7 +5,7 @@ ghost use Rattle.engine_parts.specs.declared.session.Stage.TheVariants as stages
 ghost use Rattle.engine_parts.specs.Adding.{Adds, IsCommitOf, IsOfCommit, IsToldBy, MayAdd, MayFault};
 ghost use Rattle.engine_parts.specs.Calls.{MayStep};
 ghost use Rattle.engine_parts.specs.Sessions.{by_at};
-ghost use Rattle.log_sections.specs.Rooms.{MetFull};
+ghost use Rattle.log_sections.specs.Rooms.{MetFullFor};
 ghost use Rattle.xact_ends.specs.Ends.{Commits};
 
 use crate::logging::log_commit_record;
@@ -108,9 +108,9 @@ fn log_and_finish<R: Passing, L: LogDisk, P: PageDisk>(
     ensures commits { Commits (start_of hall.now) caller.old.number caller.old.session caller.new.session
         (view caller.old.pass).seen (view caller.new.pass).seen result }
     ensures number { caller.new.number ≡ caller.old.number }
-    ensures full { IfErr result (MetFull L.LogDisk (start_of hall.now) (view caller.new.pass).seen
+    ensures full { IfErr result (MetFullFor L.LogDisk (start_of hall.now) (view caller.new.pass).seen
         (by_at caller.old.number caller.old.session.levels.commands)
-        (IsOfCommit caller.old.session.levels.open_ids.items)) }
+        (IsCommitOf caller.old.session.levels.open_ids.items)) }
 {
     let rec = match record_of(alloc, &caller.session.levels.open_ids) {
         Ok(rec) => rec,
@@ -143,9 +143,9 @@ pub(crate) fn start_commit<R: Passing, L: LogDisk, P: PageDisk>(
     ensures commits { Commits (start_of hall.now) caller.old.number caller.old.session caller.new.session
         (view caller.old.pass).seen (view caller.new.pass).seen result }
     ensures number { caller.new.number ≡ caller.old.number }
-    ensures full { IfErr result (MetFull L.LogDisk (start_of hall.now) (view caller.new.pass).seen
+    ensures full { IfErr result (MetFullFor L.LogDisk (start_of hall.now) (view caller.new.pass).seen
         (by_at caller.old.number caller.old.session.levels.commands)
-        (IsOfCommit caller.old.session.levels.open_ids.items)) }
+        (IsCommitOf caller.old.session.levels.open_ids.items)) }
 {
     match record_parent(rt, hall, caller, banks) {
         Ok(()) => log_and_finish(rt, hall, caller, banks, alloc),

@@ -7,7 +7,7 @@ ghost use Rattle.engine_parts.specs.Sessions.{MayCall, by_at};
 ghost use Rattle.engine_parts.specs.Stages.{may_be_aborted, may_be_recorded};
 ghost use Rattle.engine_parts.specs.Steps.{WentOn};
 ghost use Rattle.log_sections.specs.LogSections.{Appends, IsAbortOf, IsAppendRefused, IsCommitOf, TakesAbort};
-ghost use Rattle.log_sections.specs.Rooms.{MetFull};
+ghost use Rattle.log_sections.specs.Rooms.{FoundNoBase, MetFull, MetFullFor};
 ghost use Rattle.log_takes.specs.Takes.{IsOldestTold};
 ghost use Rattle.xact_ends.specs.Logged.{IsNumbered};
 
@@ -44,7 +44,7 @@ fn log_truncation<R: Passing, L: LogDisk, P: PageDisk>(
     append_truncation(rt, hall, caller, &rec)
 }
 
-/// Appends the record of a truncation, and then the commit record.
+/// Appends the record of a truncation, and then the commit record, which the log couldn't take before.
 fn log_commit_behind<R: Passing, L: LogDisk, P: PageDisk>(
     rt: &R,
     hall: &Hall<EngineLaw<L, P>>,
@@ -57,6 +57,8 @@ fn log_commit_behind<R: Passing, L: LogDisk, P: PageDisk>(
     requires clear { caller.old.session.stage ≡ stages.Clear }
     requires linked { caller.old.session.unlinked ≡ None }
     requires record { IsCommitOf caller.old.session.levels.open_ids.items rec.now }
+    requires no_base { FoundNoBase (start_of hall.now) (view caller.old.pass).seen
+        (by_at caller.old.number caller.old.session.levels.commands) rec.now }
     ensures own { IsOf hall.now caller.new.pass }
     ensures may { MayCall (start_of hall.now) (view caller.new.pass) caller.new.number caller.new.session }
     ensures went { WentOn caller.old.number [] (view caller.old.pass).seen (view caller.new.pass).seen }
@@ -67,9 +69,9 @@ fn log_commit_behind<R: Passing, L: LogDisk, P: PageDisk>(
         caller.new.session result }
     ensures numbered { IsNumbered result }
     ensures number { caller.new.number ≡ caller.old.number }
-    ensures full { IfErr result (MetFull L.LogDisk (start_of hall.now) (view caller.new.pass).seen
+    ensures full { IfErr result (MetFullFor L.LogDisk (start_of hall.now) (view caller.new.pass).seen
         (by_at caller.old.number caller.old.session.levels.commands)
-        (IsOfCommit caller.old.session.levels.open_ids.items)) }
+        (IsCommitOf caller.old.session.levels.open_ids.items)) }
 {
     match log_truncation(rt, hall, caller) {
         Ok(_) => append_commit(rt, hall, caller, rec),
@@ -104,9 +106,9 @@ pub(crate) fn log_commit_record<R: Passing, L: LogDisk, P: PageDisk>(
         caller.new.session result }
     ensures numbered { IsNumbered result }
     ensures number { caller.new.number ≡ caller.old.number }
-    ensures full { IfErr result (MetFull L.LogDisk (start_of hall.now) (view caller.new.pass).seen
+    ensures full { IfErr result (MetFullFor L.LogDisk (start_of hall.now) (view caller.new.pass).seen
         (by_at caller.old.number caller.old.session.levels.commands)
-        (IsOfCommit caller.old.session.levels.open_ids.items)) }
+        (IsCommitOf caller.old.session.levels.open_ids.items)) }
 {
     match append_commit(rt, hall, caller, rec) {
         Ok(appended) => match appended {

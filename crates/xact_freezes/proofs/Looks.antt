@@ -1,5 +1,5 @@
 -- What a trim looks at.
-use Rattle.std.proofs.Common.{◌≡◌, [], arith, refl}
+use Rattle.std.proofs.Common.{◌≡◌, ℕ, [], arith, refl}
 use Rattle.disk_core.specs.declared.log_disk.LogDisk as logs
 use Rattle.disk_core.specs.declared.page_disk.PageDisk as disks
 use Rattle.hall.specs.declared.hall.Hall.{Hall}

@@ -17,7 +17,7 @@ use Rattle.engine_parts.proofs.Leaving.{call_left}
 use Rattle.engine_parts.proofs.Logging.{appends, begins_untouched, failed_more, first_same, goes_on, unflushed, up_more}
 use Rattle.engine_parts.proofs.Sectioning.{same_command, section_of}
 use Rattle.engine_parts.proofs.Stepping.{went_quiet}
-use Rattle.log_sections.proofs.Rooms.{found_full}
+use Rattle.log_sections.proofs.Rooms.{full_answer}
 use Rattle.log_sections.proofs.Sections.{append_refused, base_of_log, down_left, log_refused, not_down, same_err, stands_under, up_left}
 use Rattle.tx_core.specs.FaultsRise.{count_in, faults_at, faults_told}
 use Rattle.tx_core.proofs.LastNumbers.{number_same}
@@ -164,13 +164,13 @@ leave_truncated-requires-clause-record g c =
 -- the log was full
 pub returns-in-Err-clause-full : goal.returns-in-Err-clause-full
 returns-in-Err-clause-full g c =
-    let start = start_of c.args.hall.now in
-    let e = c.enter_log-held.ensures in
+    let old = c.args.caller.now in
     let u = c.enter_log-held.new.caller in
-    let s = c.args.caller.now.session in
-    let n = c.args.caller.now.number in
-    let wide = c.requires.may.ready.at.wide in
-    let long = e.entered.learns.long in
-    found_full g.L.LogDisk start (view u.pass) (view c.leave_looked.new.caller.pass) (by_at u.number u.session.levels.commands) (by_at n s.levels.commands) c.deref_mut-log.result.now c.args.rec.now c.in-Err.refusal c.refusal_of.result
-    (same_command n u.number s u.session e.same.1 e.same.0) (omega arith) c.leave_looked.ensures.left
-    (subst (λ l. IsLogOf start l (at (view u.pass).seen log_lock)) (sym c.deref_mut-log.ensures.value) e.stands) (λ is. c.in-Err.ensures.full (ap Err is)) c.refusal_of.ensures
+    let e = c.enter_log-held.ensures in
+    let x = c.in-Err.ensures in
+    let start = start_of c.args.hall.now in
+    let stands = subst (λ l. IsLogOf start l (at (view u.pass).seen log_lock)) (sym c.deref_mut-log.ensures.value) e.stands in
+    let may = truncation_follows start c.deref_mut-log.result.now (view u.pass).seen c.args.rec.now e.entered.kept c.requires.may.ready.at.base stands
+    (truncation_later start (view old.pass).seen (view u.pass).seen c.args.rec.now e.entered.learns.knows.grows c.requires.record) c.tell_forms.ensures.truncation in
+    full_answer g.L.LogDisk (start_of c.args.hall.now) (view old.pass) (view u.pass) (view c.leave_looked.new.caller.pass) old.number u.number old.session u.session c.deref_mut-log.result.now _ c.args.rec.now c.in-Err.refusal c.refusal_of.result c.requires.may.ready.at e.entered e.same
+    c.deref_mut-log.ensures.value e.stands may (λ down is. same_err (x.is_down down is)) (λ is. x.full (ap Err is)) c.refusal_of.ensures c.leave_looked.ensures.left

@@ -8,6 +8,7 @@ use Rattle.engine_parts.specs.Makings.{Makes}
 use Rattle.engine_parts.specs.Sessions.{by_at}
 use Rattle.engine_parts.proofs.Adding.{plain_wider}
 use Rattle.multi_makes.specs.Pending.{IsMultiFault, IsPending, IsRecDone}
+use Rattle.log_sections.specs.Rooms.{IsOneOrBefore}
 use Rattle.log_sections.proofs.Rooms.{met_never}
 use Rattle.multi_makes.proofs.Announcing.{fault_wider, told_wider}
 use Rattle.multi_makes.proofs.Going.{visited_then, visited_wider}
@@ -68,8 +69,11 @@ returns-in-Ok-set_pending-clause-finishes g c =
 
 pub returns-in-Err-set_pending-clause-full : goal.returns-in-Err-set_pending-clause-full
 returns-in-Err-set_pending-clause-full g c =
+    let start = start_of c.args.hall.now in
     let old = c.args.caller.now in
     let w = c.log_pending.new.caller in
-    let seen = (view c.set_pending.new.caller.pass).seen in
+    let x = c.set_pending.new.caller in
+    let seen = (view x.pass).seen in
+    let by = by_at old.number old.session.levels.commands in
     let refused : Result (Unit {0}) Refusal = Err c.in-Err-set_pending.refusal in
-    met_never g.L.LogDisk (start_of c.args.hall.now) seen (by_at old.number old.session.levels.commands) IsOfMulti (IsMultiFault seen (by_at w.number w.session.levels.commands)) refused c.in-Err-set_pending.ensures.fault (λ none. none)
+    met_never g.L.LogDisk start seen by (IsOneOrBefore start seen by (IsPending x.session.making)) (IsMultiFault seen (by_at w.number w.session.levels.commands)) refused c.in-Err-set_pending.ensures.fault (λ none. none)

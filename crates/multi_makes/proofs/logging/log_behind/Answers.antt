@@ -1,13 +1,15 @@
-use Rattle.std.proofs.Common.{◌≡◌, Err, Result, refl, subst, sym}
+use Rattle.std.proofs.Common.{◌≡◌, ◌∙◌, Err, Result, subst, sym}
 use Rattle.hall.specs.Calls.{view, start_of}
 use Rattle.tx_events.specs.declared.refusal.Refusal.{Refusal}
+use Rattle.engine_parts.specs.declared.session.Session.{Session}
 use Rattle.engine_parts.specs.Adding.{IsOfMulti, IsTruncation, MayAdd}
 use Rattle.engine_parts.specs.Sessions.{by_at}
 use Rattle.engine_parts.proofs.Adding.{adds_wider}
 use Rattle.engine_parts.proofs.Sectioning.{same_command}
 use Rattle.log_sections.proofs.Added.{append_adds}
-use Rattle.log_sections.proofs.Rooms.{met_then}
-use Rattle.multi_makes.proofs.Announcing.{making_of_multi, of_truncation, record_wider, truncation_wider}
+use Rattle.log_sections.proofs.Rooms.{met_before, met_for, no_base_stays}
+use Rattle.multi_makes.specs.Pending.{IsPending}
+use Rattle.multi_makes.proofs.Announcing.{making_pending, record_wider, truncation_wider}
 use Rattle.multi_makes.proofs.Going.{both_add, on_then}
 use Rattle.multi_makes.proofs.Landing.{multi_lands}
 use Rattle.multi_makes.proofs.logging.log_behind.Goals as goal
@@ -73,15 +75,22 @@ pub returns-in-Err-append_multi-clause-full : goal.returns-in-Err-append_multi-c
 returns-in-Err-append_multi-clause-full g c =
     let old = c.args.caller.now in
     let t = c.log_truncation.new.caller in
+    let w = c.append_multi.new.caller in
     let e = c.log_truncation.ensures in
     let rec = c.args.rec.now in
     let refused : Result (Unit {0}) Refusal = Err c.in-Err-append_multi.refusal in
-    met_then g.L.LogDisk (start_of c.args.hall.now) (view c.append_multi.new.caller.pass).seen (by_at t.number t.session.levels.commands) (by_at old.number old.session.levels.commands) (λ z. z ≡ rec) IsOfMulti refused
-    (same_command old.number t.number old.session t.session e.same.1 e.same.0) (λ z is. subst IsOfMulti (sym is) (making_of_multi old.session.making rec c.requires.record)) c.in-Err-append_multi.ensures.full
+    met_for g.L.LogDisk (start_of c.args.hall.now) (view w.pass).seen (by_at t.number t.session.levels.commands) (by_at old.number old.session.levels.commands) (λ z. z ≡ rec) (IsPending w.session.making) refused (same_command old.number t.number old.session t.session e.same.1 e.same.0)
+    (λ z is. subst (IsPending w.session.making) (sym is) (subst (λ (s : Session). IsPending s.making rec) (sym (c.in-Err-append_multi.ensures.takes.0 ∙ e.same.0)) (making_pending old.session.making rec c.requires.record))) c.in-Err-append_multi.ensures.full
 
 pub returns-in-Err-clause-full : goal.returns-in-Err-clause-full
 returns-in-Err-clause-full g c =
+    let start = start_of c.args.hall.now in
     let old = c.args.caller.now in
+    let t = c.log_truncation.new.caller in
+    let rec = c.args.rec.now in
     let by = by_at old.number old.session.levels.commands in
+    let more = (view t.pass).seen in
+    let e = c.log_truncation.ensures in
     let refused : Result (Unit {0}) Refusal = Err c.in-Err.refusal in
-    met_then g.L.LogDisk (start_of c.args.hall.now) (view c.log_truncation.new.caller.pass).seen by by IsTruncation IsOfMulti refused refl of_truncation c.in-Err.ensures.full
+    met_before g.L.LogDisk start more by (IsPending t.session.making) refused rec (subst (λ (s : Session). IsPending s.making rec) (sym e.same.0) (making_pending old.session.making rec c.requires.record))
+    (no_base_stays start (view old.pass).seen more by rec e.went.on.grows c.requires.no_base) c.in-Err.ensures.full

@@ -12,9 +12,11 @@ use Rattle.engine_parts.specs.Sessions.{by_at}
 use Rattle.engine_parts.proofs.Adding.{adds_wider, plain_wider}
 use Rattle.engine_parts.proofs.Sectioning.{same_command}
 use Rattle.engine_parts.proofs.Unmoved.{look_adds}
-use Rattle.log_sections.proofs.Rooms.{met_never, met_then}
+use Rattle.log_sections.specs.Rooms.{IsOneOrBefore}
+use Rattle.log_sections.proofs.Rooms.{met_for_then, met_never}
 use Rattle.multi_makes.specs.Full.{AreFullOf, AreNotFull}
 use Rattle.multi_makes.specs.Makes.{MakesOf}
+use Rattle.multi_makes.specs.Pending.{IsPending}
 use Rattle.multi_makes.proofs.Going.{both_add, same_making, step_of, went_none}
 use Rattle.multi_makes.proofs.Outcomes.{new_of}
 use Rattle.multi_makes.proofs.Reading.{full_each, full_fit}
@@ -112,13 +114,17 @@ pub returns-in-Ok-clause-full : goal.returns-in-Ok-clause-full
 returns-in-Ok-clause-full g c =
     let old = c.args.caller.now in
     let u = c.read_horizons-found.new.caller in
+    let x = c.make_of.new.caller in
     let e = c.read_horizons-found.ensures in
-    met_then g.L.LogDisk (start_of c.args.hall.now) (view c.make_of.new.caller.pass).seen (by_at u.number u.session.levels.commands) (by_at old.number old.session.levels.commands) IsOfMulti IsOfMulti c.make_of.result
+    met_for_then g.L.LogDisk (start_of c.args.hall.now) (view x.pass).seen (by_at u.number u.session.levels.commands) (by_at old.number old.session.levels.commands) (IsPending x.session.making) (IsPending x.session.making) c.make_of.result
     (same_command old.number u.number old.session u.session e.same.1 e.same.0) (λ z of. of) c.make_of.ensures.full
 
 pub returns-in-Err-clause-full : goal.returns-in-Err-clause-full
 returns-in-Err-clause-full g c =
+    let start = start_of c.args.hall.now in
     let old = c.args.caller.now in
+    let by = by_at old.number old.session.levels.commands in
+    let u = c.read_horizons-found.new.caller in
     let found = c.read_horizons-found.result in
     let refused : Result (Unit {0}) Refusal = Err c.in-Err.refusal in
-    met_never g.L.LogDisk (start_of c.args.hall.now) (view c.read_horizons-found.new.caller.pass).seen (by_at old.number old.session.levels.commands) IsOfMulti (AreNotFull found.next found.oldest c.args.pairs.now) refused c.in-Err.ensures (λ none. none.refused)
+    met_never g.L.LogDisk start (view u.pass).seen by (IsOneOrBefore start (view u.pass).seen by (IsPending u.session.making)) (AreNotFull found.next found.oldest c.args.pairs.now) refused c.in-Err.ensures (λ none. none.refused)

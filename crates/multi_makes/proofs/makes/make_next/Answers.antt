@@ -3,8 +3,9 @@ use Rattle.hall.specs.Calls.{view, start_of}
 use Rattle.engine_parts.specs.declared.session.Session.{Session}
 use Rattle.engine_parts.specs.Adding.{IsOfMulti, IsToldBy, MayAdd}
 use Rattle.engine_parts.specs.Sessions.{by_at}
-use Rattle.log_sections.proofs.Rooms.{met_then}
+use Rattle.log_sections.proofs.Rooms.{met_for_then}
 use Rattle.multi_makes.specs.Makes.{MakesNew}
+use Rattle.multi_makes.specs.Pending.{IsPending}
 use Rattle.multi_makes.proofs.Announcing.{told_wider}
 use Rattle.multi_makes.proofs.Going.{both_add, command_kept}
 use Rattle.multi_makes.proofs.Outcomes.{next_of}
@@ -41,7 +42,8 @@ pub returns-in-Ok-clause-full : goal.returns-in-Ok-clause-full
 returns-in-Ok-clause-full g c =
     let old = c.args.caller.now in
     let t = c.finish.new.caller in
+    let x = c.make_new.new.caller in
     let f = c.in-Ok.ensures in
     let same : t.session ≡ record old.session { making = t.session.making } = f.finishes.0 ∙ (λ j. record old.session { making = (sym f.finishes.0 j).making }) in
-    met_then g.L.LogDisk (start_of c.args.hall.now) (view c.make_new.new.caller.pass).seen (by_at t.number t.session.levels.commands) (by_at old.number old.session.levels.commands) IsOfMulti IsOfMulti c.make_new.result
+    met_for_then g.L.LogDisk (start_of c.args.hall.now) (view x.pass).seen (by_at t.number t.session.levels.commands) (by_at old.number old.session.levels.commands) (IsPending x.session.making) (IsPending x.session.making) c.make_new.result
     (command_kept old.number t.number old.session t.session f.visited.number same) (λ z of. of) c.make_new.ensures.full

@@ -8,9 +8,10 @@ use Rattle.engine_parts.specs.Adding.{IsOfMulti, IsPlain, MayAdd}
 use Rattle.engine_parts.specs.Sessions.{by_at}
 use Rattle.engine_parts.proofs.Adding.{adds_wider, plain_wider}
 use Rattle.engine_parts.proofs.Sectioning.{shared_adds}
-use Rattle.log_sections.proofs.Rooms.{met_never, met_then}
+use Rattle.log_sections.specs.Rooms.{IsOneOrBefore}
+use Rattle.log_sections.proofs.Rooms.{met_for_then, met_never}
 use Rattle.multi_sections.specs.Takings.{IsNotTaken}
-use Rattle.multi_makes.specs.Pending.{StopsMaking}
+use Rattle.multi_makes.specs.Pending.{IsPending, StopsMaking}
 use Rattle.multi_makes.proofs.Announcing.{multi_look_adds}
 use Rattle.multi_makes.proofs.Going.{both_add, command_kept, same_making, step_of}
 use Rattle.multi_makes.proofs.Making.{same_taken}
@@ -104,15 +105,18 @@ pub returns-in-Err-finish-clause-full : goal.returns-in-Err-finish-clause-full
 returns-in-Err-finish-clause-full g c =
     let old = c.args.caller.now in
     let t = c.take_multi.new.caller in
+    let x = c.finish.new.caller in
     let same = same_taken old.session t.session c.args.members (Ok c.in-Ok.given) c.in-Ok.ensures.session in
     let refused : Result (Unit {0}) Refusal = Err c.in-Err-finish.refusal in
-    met_then g.L.LogDisk (start_of c.args.hall.now) (view c.finish.new.caller.pass).seen (by_at t.number t.session.levels.commands) (by_at old.number old.session.levels.commands) IsOfMulti IsOfMulti refused
+    met_for_then g.L.LogDisk (start_of c.args.hall.now) (view x.pass).seen (by_at t.number t.session.levels.commands) (by_at old.number old.session.levels.commands) (IsPending x.session.making) (IsPending x.session.making) refused
     (command_kept old.number t.number old.session t.session c.take_multi.ensures.number same) (λ z of. of) c.in-Err-finish.ensures.full
 
 pub returns-in-Err-clause-full : goal.returns-in-Err-clause-full
 returns-in-Err-clause-full g c =
     let start = start_of c.args.hall.now in
     let old = c.args.caller.now in
-    let seen = (view c.take_multi.new.caller.pass).seen in
+    let by = by_at old.number old.session.levels.commands in
+    let t = c.take_multi.new.caller in
+    let seen = (view t.pass).seen in
     let refused : Result (Unit {0}) Refusal = Err c.in-Err.refusal in
-    met_never g.L.LogDisk start seen (by_at old.number old.session.levels.commands) IsOfMulti (IsNotTaken start.base (multi_history seen) (length c.args.members)) refused c.in-Err.ensures.takes.1 (λ none. none)
+    met_never g.L.LogDisk start seen by (IsOneOrBefore start seen by (IsPending t.session.making)) (IsNotTaken start.base (multi_history seen) (length c.args.members)) refused c.in-Err.ensures.takes.1 (λ none. none)

@@ -5,13 +5,13 @@ use Rattle.tx_model.specs.declared.command.Command.TheVariants as commands
 use Rattle.tx_model.specs.declared.command.Pair.{Pair}
 use Rattle.tx_model.specs.declared.reply.Reply.TheVariants as replies
 use Rattle.life_law.specs.Refused.{refused_by_members}
-use Rattle.engine_parts.specs.Adding.{IsOfMulti}
 use Rattle.engine_parts.specs.Answers.{reply_of}
 use Rattle.engine_parts.specs.Calls.{next_command}
 use Rattle.engine_parts.specs.Sessions.{by_at}
 use Rattle.engine_parts.proofs.Calling.{ran_counted, step_counted}
-use Rattle.log_sections.proofs.Rooms.{met_then}
+use Rattle.log_sections.proofs.Rooms.{counted_by, met_for_then}
 use Rattle.multi_makes.specs.Makes.{given_reply}
+use Rattle.multi_makes.specs.Pending.{IsPending}
 use Rattle.multi_makes.proofs.Acts.{makes_items, makes_ran, words_are, words_ran}
 use Rattle.multi_makes.proofs.makes.multi.Goals as goal
 
@@ -45,9 +45,9 @@ pub returns-in-None-clause-full : goal.returns-in-None-clause-full
 returns-in-None-clause-full g c =
     let old = c.args.caller.now in
     let u = c.count.new.caller in
-    let counted : u.session.levels.commands ≡ next_command old = ap (λ k. k.commands) c.count.ensures.levels in
-    met_then g.L.LogDisk (start_of c.args.hall.now) (view c.make_next.new.caller.pass).seen (by_at u.number u.session.levels.commands) (by_at old.number (next_command old)) IsOfMulti IsOfMulti c.make_next.result
-    (λ j. by_at (c.count.ensures.number j) (counted j)) (λ z of. of) c.make_next.ensures.full
+    let x = c.make_next.new.caller in
+    met_for_then g.L.LogDisk (start_of c.args.hall.now) (view x.pass).seen (by_at u.number u.session.levels.commands) (by_at old.number (next_command old)) (IsPending x.session.making) (IsPending x.session.making) c.make_next.result
+    (counted_by old u c.count.ensures) (λ z of. of) c.make_next.ensures.full
 
 pub returns-in-Some-clause-full : goal.returns-in-Some-clause-full
 returns-in-Some-clause-full g c = λ is.

@@ -11,10 +11,11 @@ use Rattle.engine_parts.specs.Stages.{pending_in}
 use Rattle.life_law.specs.Refused.{held_by}
 use Rattle.engine_parts.proofs.Calling.{may_counted, ran_counted, ran_held, ran_refused, step_counted}
 use Rattle.engine_parts.proofs.Refusing.{first_fails, first_holds, held_up}
-use Rattle.engine_parts.specs.Adding.{IsOfCommit}
+use Rattle.engine_parts.specs.Adding.{IsCommitOf}
 use Rattle.engine_parts.specs.Calls.{next_command}
-use Rattle.log_sections.proofs.Rooms.{met_then}
-use Rattle.xact_ends.proofs.Rooms.{recorded_never}
+use Rattle.log_sections.specs.Rooms.{IsOneOrBefore}
+use Rattle.log_sections.proofs.Rooms.{counted_by, met_for_then}
+use Rattle.xact_ends.proofs.Rooms.{IsBegun, recorded_never}
 use Rattle.xact_ends.proofs.Acts.{ran_commit, logged_leaves}
 use Rattle.xact_ends.proofs.Finishing.{logged_at, settling_at, some_logged, some_settling}
 use Rattle.engine_parts.proofs.Adding.{adds_wider}
@@ -101,26 +102,25 @@ returns-in-Clear-clause-full g c =
     let old = c.args.caller.now in
     let u = c.count.new.caller in
     let opened = old.session.levels.open_ids.items in
-    let counted : u.session.levels.commands ≡ next_command old = ap (λ k. k.commands) c.count.ensures.levels in
     let same : u.session.levels.open_ids.items ≡ opened = ap (λ k. k.open_ids.items) c.count.ensures.levels in
-    met_then g.L.LogDisk (start_of c.args.hall.now) (view c.commit_anew.new.caller.pass).seen (by_at u.number u.session.levels.commands) (by_at old.number (next_command old)) (IsOfCommit u.session.levels.open_ids.items) (IsOfCommit opened) c.commit_anew.result
-    (λ j. by_at (c.count.ensures.number j) (counted j)) (λ z of. subst (λ (l : List ℕ). IsOfCommit l z) same of) c.commit_anew.ensures.full
+    met_for_then g.L.LogDisk (start_of c.args.hall.now) (view c.commit_anew.new.caller.pass).seen (by_at u.number u.session.levels.commands) (by_at old.number (next_command old)) (IsCommitOf u.session.levels.open_ids.items) (IsCommitOf opened) c.commit_anew.result
+    (counted_by old u c.count.ensures) (λ z of. subst (λ (l : List ℕ). IsCommitOf l z) same of) c.commit_anew.ensures.full
 
 pub returns-in-Logged-clause-full : goal.returns-in-Logged-clause-full
 returns-in-Logged-clause-full g c =
+    let start = start_of c.args.hall.now in
     let old = c.args.caller.now in
-    let u = c.count.new.caller in
     let x = c.flush_and_finish.new.caller in
-    recorded_never g.L.LogDisk (start_of c.args.hall.now) (by_at old.number (next_command old)) (IsOfCommit old.session.levels.open_ids.items) u.number u.session x.session (view u.pass).seen (view x.pass).seen c.flush_and_finish.result c.flush_and_finish.ensures.commits
-    (λ clear. let two : stages.Logged c.in-Logged.number ≡ stages.Clear = sym c.in-Logged.is ∙ clear in absurd cc)
+    let by = by_at old.number (next_command old) in
+    recorded_never start c.count.new.caller x by (IsOneOrBefore start (view x.pass).seen by (IsCommitOf old.session.levels.open_ids.items)) c.flush_and_finish.result (subst IsBegun (sym c.in-Logged.is) tt) c.flush_and_finish.ensures.commits
 
 pub returns-in-Settling-clause-full : goal.returns-in-Settling-clause-full
 returns-in-Settling-clause-full g c =
+    let start = start_of c.args.hall.now in
     let old = c.args.caller.now in
-    let u = c.count.new.caller in
     let x = c.finish.new.caller in
-    recorded_never g.L.LogDisk (start_of c.args.hall.now) (by_at old.number (next_command old)) (IsOfCommit old.session.levels.open_ids.items) u.number u.session x.session (view u.pass).seen (view x.pass).seen c.finish.result c.finish.ensures.commits
-    (λ clear. let two : stages.Settling c.in-Settling.steps ≡ stages.Clear = sym c.in-Settling.is ∙ clear in absurd cc)
+    let by = by_at old.number (next_command old) in
+    recorded_never start c.count.new.caller x by (IsOneOrBefore start (view x.pass).seen by (IsCommitOf old.session.levels.open_ids.items)) c.finish.result (subst IsBegun (sym c.in-Settling.is) tt) c.finish.ensures.commits
 
 pub returns-then-depth-eq0-clause-full : goal.returns-then-depth-eq0-clause-full
 returns-then-depth-eq0-clause-full g c is = let two : refusals.NoTransaction ≡ refusals.Full = is in absurd cc

@@ -10,7 +10,8 @@ use Rattle.log_sections.specs.declared.appending.Appended.TheVariants as came
 use Rattle.log_sections.specs.LogSections.{Appends, IsCommitOf}
 use Rattle.xact_ends.specs.Logged.{IsNumbered}
 use Rattle.xact_ends.specs.Stops.{Stops}
-use Rattle.xact_ends.proofs.Rooms.{recorded_never}
+use Rattle.log_sections.specs.Rooms.{IsOneOrBefore}
+use Rattle.xact_ends.proofs.Rooms.{IsBegun, recorded_never}
 use Rattle.xact_ends.proofs.Finishing.{append_stops, commits_then, stops_appended}
 use Rattle.engine_parts.specs.Adding.{IsOfCommit, IsToldBy, MayAdd}
 use Rattle.engine_parts.proofs.Adding.{adds_nothing, adds_wider, may_wider}
@@ -99,8 +100,8 @@ pub returns-in-At-clause-full : goal.returns-in-At-clause-full
 returns-in-At-clause-full g c =
     let start = start_of c.args.hall.now in
     let s = c.args.caller.now.session in
+    let by = by_at c.args.caller.now.number s.levels.commands in
     let t = c.log_commit_record.new.caller in
     let x = c.flush_and_finish.new.caller in
     let appends : Appends start (view t.pass).seen c.in-Ok.rec s t.session (Ok (came.At c.in-At.number)) = subst (λ (a : Appended). Appends start (view t.pass).seen c.in-Ok.rec s t.session (Ok a)) c.in-At.is c.in-Ok-log_commit_record.ensures.appends in
-    recorded_never g.L.LogDisk start (by_at c.args.caller.now.number s.levels.commands) (IsOfCommit s.levels.open_ids.items) t.number t.session x.session (view t.pass).seen (view x.pass).seen c.flush_and_finish.result c.flush_and_finish.ensures.commits
-    (λ clear. let two : stages.Logged c.in-At.number ≡ stages.Clear = sym (ap (λ (z : Session). z.stage) appends) ∙ clear in absurd cc)
+    recorded_never start t x by (IsOneOrBefore start (view x.pass).seen by (IsCommitOf s.levels.open_ids.items)) c.flush_and_finish.result (subst (λ (z : Session). IsBegun z.stage) (sym appends) tt) c.flush_and_finish.ensures.commits

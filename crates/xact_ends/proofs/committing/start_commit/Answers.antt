@@ -6,10 +6,11 @@ use Rattle.engine_parts.specs.declared.session.Stage.{Stage}
 use Rattle.engine_parts.specs.declared.session.Stage.TheVariants as stages
 use Rattle.engine_parts.specs.Sessions.{by_at}
 use Rattle.bank_sections.specs.Faults.{IsSubtransFault}
-use Rattle.log_sections.proofs.Rooms.{met_never, met_then}
+use Rattle.log_sections.specs.Rooms.{IsOneOrBefore}
+use Rattle.log_sections.proofs.Rooms.{met_for_then, met_never}
 use Rattle.xact_ends.specs.Stops.{Stops}
 use Rattle.xact_ends.proofs.Finishing.{commits_then, link_stops}
-use Rattle.engine_parts.specs.Adding.{IsOfCommit, IsPlain, IsToldBy, MayAdd, MayMeet}
+use Rattle.engine_parts.specs.Adding.{IsCommitOf, IsOfCommit, IsPlain, IsToldBy, MayAdd, MayMeet}
 use Rattle.engine_parts.proofs.Adding.{adds_wider, may_wider, plain_wider}
 use Rattle.xact_ends.proofs.Added.{both_add, fault_wider}
 use Rattle.xact_ends.proofs.committing.start_commit.Goals as goal
@@ -82,13 +83,14 @@ returns-in-Ok-clause-full g c =
     let recorded = c.in-Ok.ensures.recorded in
     let opened = old.session.levels.open_ids.items in
     let same : t.session.levels.open_ids.items ≡ opened = ap (λ (z : Session). z.levels.open_ids.items) recorded in
-    met_then g.L.LogDisk (start_of c.args.hall.now) (view c.log_and_finish.new.caller.pass).seen (by_at t.number t.session.levels.commands) (by_at old.number old.session.levels.commands) (IsOfCommit t.session.levels.open_ids.items) (IsOfCommit opened) c.log_and_finish.result
-    (λ j. by_at (c.record_parent.ensures.number j) (recorded j).levels.commands) (λ z of. subst (λ (l : List ℕ). IsOfCommit l z) same of) c.log_and_finish.ensures.full
+    met_for_then g.L.LogDisk (start_of c.args.hall.now) (view c.log_and_finish.new.caller.pass).seen (by_at t.number t.session.levels.commands) (by_at old.number old.session.levels.commands) (IsCommitOf t.session.levels.open_ids.items) (IsCommitOf opened) c.log_and_finish.result
+    (λ j. by_at (c.record_parent.ensures.number j) (recorded j).levels.commands) (λ z of. subst (λ (l : List ℕ). IsCommitOf l z) same of) c.log_and_finish.ensures.full
 
 pub returns-in-Err-clause-full : goal.returns-in-Err-clause-full
 returns-in-Err-clause-full g c =
+    let start = start_of c.args.hall.now in
     let old = c.args.caller.now in
     let by = by_at old.number old.session.levels.commands in
     let seen = (view c.record_parent.new.caller.pass).seen in
     let refused : Result (Unit {0}) Refusal = Err c.in-Err.refusal in
-    met_never g.L.LogDisk (start_of c.args.hall.now) seen by (IsOfCommit old.session.levels.open_ids.items) (IsSubtransFault seen by) refused c.in-Err.ensures.recorded.1 (λ none. none)
+    met_never g.L.LogDisk start seen by (IsOneOrBefore start seen by (IsCommitOf old.session.levels.open_ids.items)) (IsSubtransFault seen by) refused c.in-Err.ensures.recorded.1 (λ none. none)

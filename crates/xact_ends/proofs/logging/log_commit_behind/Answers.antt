@@ -1,4 +1,4 @@
-use Rattle.std.proofs.Common.{Err, Result, inl, inr, ℕ, ◌≡◌, ◌∙◌, ap, refl, sym, subst}
+use Rattle.std.proofs.Common.{Err, Result, ◌≡◌, ◌∙◌, ap, sym, subst}
 use Rattle.hall.specs.Calls.{view, start_of}
 use Rattle.tx_events.specs.declared.refusal.Refusal.{Refusal}
 use Rattle.engine_parts.specs.declared.session.Session.{Session}
@@ -6,9 +6,10 @@ use Rattle.engine_parts.specs.Adding.{IsCommitOf, IsOfCommit, IsTruncation, MayA
 use Rattle.engine_parts.specs.Sessions.{by_at}
 use Rattle.engine_parts.proofs.Adding.{adds_wider}
 use Rattle.engine_parts.proofs.Sectioning.{same_command}
+use Rattle.log_sections.specs.declared.appending.Appended.{Appended}
 use Rattle.log_sections.specs.LogSections.{Appends}
 use Rattle.log_sections.proofs.Added.{append_adds}
-use Rattle.log_sections.proofs.Rooms.{met_then}
+use Rattle.log_sections.proofs.Rooms.{met_before, met_for, no_base_stays}
 use Rattle.xact_ends.proofs.Added.{both_add}
 use Rattle.xact_ends.proofs.Landing.{commit_lands}
 use Rattle.xact_ends.proofs.Truncating.{commit_wider, truncation_wider, went_on}
@@ -77,12 +78,14 @@ returns-in-Ok-clause-full g c =
     let e = c.in-Ok.ensures in
     let rec = c.args.rec.now in
     let opened = old.session.levels.open_ids.items in
-    met_then g.L.LogDisk (start_of c.args.hall.now) (view c.append_commit.new.caller.pass).seen (by_at t.number t.session.levels.commands) (by_at old.number old.session.levels.commands) (λ z. z ≡ rec) (IsOfCommit opened) c.append_commit.result
-    (same_command old.number t.number old.session t.session e.same.1 e.same.0) (λ z is. inl (subst (IsCommitOf opened) (sym is) c.requires.record)) c.append_commit.ensures.full
+    met_for g.L.LogDisk (start_of c.args.hall.now) (view c.append_commit.new.caller.pass).seen (by_at t.number t.session.levels.commands) (by_at old.number old.session.levels.commands) (λ z. z ≡ rec) (IsCommitOf opened) c.append_commit.result
+    (same_command old.number t.number old.session t.session e.same.1 e.same.0) (λ z is. subst (IsCommitOf opened) (sym is) c.requires.record) c.append_commit.ensures.full
 
 pub returns-in-Err-clause-full : goal.returns-in-Err-clause-full
 returns-in-Err-clause-full g c =
+    let start = start_of c.args.hall.now in
     let old = c.args.caller.now in
     let by = by_at old.number old.session.levels.commands in
-    let refused : Result ℕ Refusal = Err c.in-Err.refusal in
-    met_then g.L.LogDisk (start_of c.args.hall.now) (view c.log_truncation.new.caller.pass).seen by by IsTruncation (IsOfCommit old.session.levels.open_ids.items) refused refl (λ z of. inr of) c.in-Err.ensures.full
+    let more = (view c.log_truncation.new.caller.pass).seen in
+    let refused : Result Appended Refusal = Err c.in-Err.refusal in
+    met_before g.L.LogDisk start more by (IsCommitOf old.session.levels.open_ids.items) refused c.args.rec.now c.requires.record (no_base_stays start (view old.pass).seen more by c.args.rec.now c.log_truncation.ensures.went.on.grows c.requires.no_base) c.in-Err.ensures.full

@@ -1,4 +1,4 @@
-use Rattle.std.proofs.Common.{Err, Ok, Result, inl, ◌≡◌, ◌∙◌, ap, refl, sym, subst}
+use Rattle.std.proofs.Common.{Err, Ok, Result, ◌≡◌, ◌∙◌, ap, arith, refl, sym, subst}
 use Rattle.hall.specs.Calls.{view, start_of}
 use Rattle.tx_events.specs.declared.refusal.Refusal.{Refusal}
 use Rattle.engine_parts.specs.declared.session.Session.{Session}
@@ -9,7 +9,7 @@ use Rattle.engine_parts.proofs.Sectioning.{same_command}
 use Rattle.log_sections.specs.declared.appending.Appended.{Appended}
 use Rattle.log_sections.specs.LogSections.{Appends}
 use Rattle.log_sections.proofs.Added.{append_adds}
-use Rattle.log_sections.proofs.Rooms.{met_then}
+use Rattle.log_sections.proofs.Rooms.{found_no_base, met_for, met_for_then}
 use Rattle.xact_ends.proofs.Added.{both_add}
 use Rattle.xact_ends.proofs.Truncating.{commit_wider, unlogged_same, went_on}
 use Rattle.xact_ends.proofs.logging.log_commit_record.Goals as goal
@@ -91,14 +91,24 @@ returns-in-Err-clause-adds g c =
 pub returns-in-NoBase-clause-numbered : goal.returns-in-NoBase-clause-numbered
 returns-in-NoBase-clause-numbered g c = c.log_commit_behind.ensures.numbered
 
+pub log_commit_behind-requires-clause-no_base : goal.log_commit_behind-requires-clause-no_base
+log_commit_behind-requires-clause-no_base g c =
+    let start = start_of c.args.hall.now in
+    let old = c.args.caller.now in
+    let t = c.append_commit.new.caller in
+    let wide = c.requires.may.ready.at.wide in
+    let same = unlogged_same start (view t.pass).seen c.args.rec.now old.session t.session c.in-Ok.appended c.in-NoBase.is c.in-Ok.ensures.appends in
+    found_no_base start (view old.pass) (view t.pass) (by_at old.number old.session.levels.commands) (by_at t.number t.session.levels.commands) c.args.rec.now c.in-Ok.appended (sym (same_command old.number t.number old.session t.session c.append_commit.ensures.number same)) c.in-NoBase.is (omega arith) c.in-Ok.ensures.section
+    (subst (λ (z : Appended). Appends start (view t.pass).seen c.args.rec.now old.session t.session (Ok z)) c.in-NoBase.is c.in-Ok.ensures.appends).1
+
 pub returns-in-NoBase-clause-full : goal.returns-in-NoBase-clause-full
 returns-in-NoBase-clause-full g c =
     let start = start_of c.args.hall.now in
     let old = c.args.caller.now in
     let t = c.append_commit.new.caller in
     let same = unlogged_same start (view t.pass).seen c.args.rec.now old.session t.session c.in-Ok.appended c.in-NoBase.is c.in-Ok.ensures.appends in
-    met_then g.L.LogDisk start (view c.log_commit_behind.new.caller.pass).seen (by_at t.number t.session.levels.commands) (by_at old.number old.session.levels.commands) (IsOfCommit t.session.levels.open_ids.items) (IsOfCommit old.session.levels.open_ids.items) c.log_commit_behind.result
-    (same_command old.number t.number old.session t.session c.append_commit.ensures.number same) (λ z of. subst (λ (s : Session). IsOfCommit s.levels.open_ids.items z) same of) c.log_commit_behind.ensures.full
+    met_for_then g.L.LogDisk start (view c.log_commit_behind.new.caller.pass).seen (by_at t.number t.session.levels.commands) (by_at old.number old.session.levels.commands) (IsCommitOf t.session.levels.open_ids.items) (IsCommitOf old.session.levels.open_ids.items) c.log_commit_behind.result
+    (same_command old.number t.number old.session t.session c.append_commit.ensures.number same) (λ z of. subst (λ (s : Session). IsCommitOf s.levels.open_ids.items z) same of) c.log_commit_behind.ensures.full
 
 pub returns-in-Err-clause-full : goal.returns-in-Err-clause-full
 returns-in-Err-clause-full g c =
@@ -106,4 +116,4 @@ returns-in-Err-clause-full g c =
     let by = by_at old.number old.session.levels.commands in
     let opened = old.session.levels.open_ids.items in
     let refused : Result Appended Refusal = Err c.in-Err.refusal in
-    met_then g.L.LogDisk (start_of c.args.hall.now) (view c.append_commit.new.caller.pass).seen by by (λ z. z ≡ c.args.rec.now) (IsOfCommit opened) refused refl (λ z is. inl (subst (IsCommitOf opened) (sym is) c.requires.record)) c.in-Err.ensures.full
+    met_for g.L.LogDisk (start_of c.args.hall.now) (view c.append_commit.new.caller.pass).seen by by (λ z. z ≡ c.args.rec.now) (IsCommitOf opened) refused refl (λ z is. subst (IsCommitOf opened) (sym is) c.requires.record) c.in-Err.ensures.full

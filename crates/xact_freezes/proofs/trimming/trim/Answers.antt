@@ -18,7 +18,7 @@ use Rattle.engine_parts.specs.Calls.{next_command}
 use Rattle.engine_parts.specs.Sessions.{by_at}
 use Rattle.engine_parts.proofs.Calling.{step_counted}
 use Rattle.engine_parts.proofs.Leaving.{grows_then}
-use Rattle.log_sections.proofs.Rooms.{met_never, met_then}
+use Rattle.log_sections.proofs.Rooms.{counted_by, met_never, met_then}
 use Rattle.xact_freezes.specs.Trims.{AreCut, HasFlushed, HasTrimmed, IsCutMet, IsTrimMet}
 use Rattle.xact_freezes.proofs.Going.{command_kept}
 use Rattle.xact_freezes.proofs.Letting.{xmin_later}
@@ -137,8 +137,7 @@ returns-in-Ok-clause-trimmed g c =
     let begun = (view old.pass).seen in
     let rec : Rec = records.Truncate found.oldest multis.oldest_multi multis.oldest_offset in
     let by : By = by_at old.number (next_command old) in
-    let counted : u.session.levels.commands ≡ next_command old = ap (λ k. k.commands) c.count.ensures.levels in
-    let named : by_at d.number d.session.levels.commands ≡ by = command_kept u.number d.number u.session d.session seen.number seen.session ∙ (λ j. by_at (c.count.ensures.number j) (counted j)) in
+    let named : by_at d.number d.session.levels.commands ≡ by = command_kept u.number d.number u.session d.session seen.number seen.session ∙ counted_by old u c.count.ensures in
     let cutter : by_at f.number f.session.levels.commands ≡ by = command_kept d.number f.number d.session f.session v.number v.session ∙ named in
     let flushed : HasFlushed start (view w.pass).seen by rec = has_flushed_later start (view f.pass).seen (view w.pass).seen by rec t.went.grows (subst (λ k. HasFlushed start (view f.pass).seen k rec) named c.in-Ok.ensures.flushed) in
     let near : Grows begun (view b.pass).seen = subst (λ k. Grows (view k).seen (view b.pass).seen) c.count.ensures.pass looks.near.went.grows in
@@ -205,6 +204,5 @@ returns-clause-full g c =
     let looks = trim_looks hall banks u c.read_base-base.new.caller b d (step_counted hall old u c.count.ensures c.requires.may) x.section x.own x.ready x.went x.same y.section y.own y.ready y.went y.same z.section z.own z.ready z.went z.same in
     let seen = looks.all in
     let refused : Result (Unit {0}) Refusal = Err c.in-Err.refusal in
-    let counted : u.session.levels.commands ≡ next_command old = ap (λ k. k.commands) c.count.ensures.levels in
     met_then g.L.LogDisk start (view c.log_trim.new.caller.pass).seen (by_at d.number d.session.levels.commands) (by_at old.number (next_command old)) IsTruncation IsTruncation refused
-    (command_kept u.number d.number u.session d.session seen.number seen.session ∙ (λ j. by_at (c.count.ensures.number j) (counted j))) (λ z of. of) c.in-Err.ensures.full
+    (command_kept u.number d.number u.session d.session seen.number seen.session ∙ counted_by old u c.count.ensures) (λ z of. of) c.in-Err.ensures.full

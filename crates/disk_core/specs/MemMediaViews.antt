@@ -1,8 +1,10 @@
 -- What a media in memory holds.
 use Rattle.std.specs.Prelude.{◌≡◌, ℕ, Bool, not, List, None, is_some, IsSomeAnd, All}
+use Rattle.std.specs.Global.{Box}
 use Rattle.disk_core.specs.MemLogViews.{written, synced}
-use Rattle.disk_core.specs.MemPagesViews.{pages_now, pages_synced}
+use Rattle.disk_core.specs.MemPagesViews.{pages_now, pages_synced, pages_crashed, PagesFell}
 use Rattle.disk_core.specs.Media.{HasBanks}
+use Rattle.disk_core.specs.declared.media.Crash.{Crash}
 use Rattle.disk_core.specs.declared.media.Volumes.{Volumes}
 use Rattle.disk_core.specs.declared.mem_log.MemLog.{MemLog}
 use Rattle.disk_core.specs.declared.mem_pages.MemPages.{MemPages}
@@ -12,7 +14,7 @@ abbrev pub is_new : MemMedia → Bool
 is_new m = not (is_some m.held)
 
 -- what the next mount gives
-abbrev pub gives : MemMedia → Volumes MemLog MemPages → Type 0
+abbrev pub gives : MemMedia → Volumes MemLog (Box MemPages) → Type 0
 gives m volumes = IsSomeAnd m.held (λ held. volumes ≡ held)
 
 -- what the log has at the first mount
@@ -23,11 +25,18 @@ abbrev pub is_idle : MemMedia → Bool
 is_idle m = not m.is_mounted
 
 -- a page volume without pages, which has counted no fault
-abbrev pub IsNewBank : MemPages → Type 0
-IsNewBank p = ((q : ℕ) → pages_now p q ≡ None) × ((q : ℕ) → pages_synced p q ≡ None) × (p.faults ≡ 0)
+abbrev pub IsNewBank : Box MemPages → Type 0
+IsNewBank p = ((q : ℕ) → pages_now p.value q ≡ None) × ((q : ℕ) → pages_synced p.value q ≡ None) × (p.value.faults ≡ 0)
+
+-- what a crash makes of one
+abbrev pub bank_crashed : Box MemPages → Box MemPages → Type 0
+bank_crashed old new = pages_crashed old.value new.value
+
+abbrev pub BankFell : Crash → Box MemPages → Box MemPages → Type 0
+BankFell how old new = PagesFell how old.value new.value
 
 -- the volumes of a first mount: this log, all of it synced, and no pages; none has counted a fault
-pub record IsFirst (log : List ℕ) (banks : ℕ) (volumes : Volumes MemLog MemPages) : Type 0 where
+pub record IsFirst (log : List ℕ) (banks : ℕ) (volumes : Volumes MemLog (Box MemPages)) : Type 0 where
   pub has : HasBanks banks volumes
   pub log_written : written volumes.log ≡ record { start = 0; bytes = log }
   pub log_synced : synced volumes.log ≡ record { start = 0; bytes = log }

@@ -3,8 +3,7 @@ ghost use Rattle.std.specs.Prelude.{◌≡◌, ◌≤◌, IfOk, OnOk, OnErr};
 ghost use Rattle.disk_core.specs.Faults.{CountsFault, counted_by};
 ghost use Rattle.disk_core.specs.Media.{AllCrashed, HaveSameBanks};
 ghost use Rattle.disk_core.specs.MemLogViews.{log_crashed, LogFell};
-ghost use Rattle.disk_core.specs.MemMediaViews.{IsFirst};
-ghost use Rattle.disk_core.specs.MemPagesViews.{pages_crashed, PagesFell};
+ghost use Rattle.disk_core.specs.MemMediaViews.{BankFell, IsFirst, bank_crashed};
 
 use crate::mem_banks::{crash_banks, new_banks};
 use crate::{Crash, Failed, Media, MemLog, MemPages, MountRefusal, Volumes};
@@ -16,7 +15,7 @@ pub struct MemMedia {
     alloc: Global,
     // The log's bytes before the first mount.
     log: Vec<u8>,
-    held: Option<Volumes<MemLog, MemPages>>,
+    held: Option<Volumes<MemLog, Box<MemPages>>>,
     is_mounted: bool,
     faults: u64,
 }
@@ -57,7 +56,7 @@ fn first_volumes(
     alloc: Global,
     log: &mut Vec<u8>,
     banks: u32,
-) -> Result<Volumes<MemLog, MemPages>, AllocError>
+) -> Result<Volumes<MemLog, Box<MemPages>>, AllocError>
     requires some { 1 ≤ banks }
     requires few { banks ≤ 16 }
     ensures first { IfOk result (IsFirst log.old.items banks) }
@@ -77,9 +76,9 @@ fn first_volumes(
     })
 }
 
-fn crash_all(volumes: &mut Volumes<MemLog, MemPages>, how: Crash) -> Result<(), Failed>
-    ensures crashed { OnOk result (AllCrashed log_crashed pages_crashed volumes.old volumes.new) }
-    ensures fell { OnOk result (AllCrashed (LogFell how) (PagesFell how) volumes.old volumes.new) }
+fn crash_all(volumes: &mut Volumes<MemLog, Box<MemPages>>, how: Crash) -> Result<(), Failed>
+    ensures crashed { OnOk result (AllCrashed log_crashed bank_crashed volumes.old volumes.new) }
+    ensures fell { OnOk result (AllCrashed (LogFell how) (BankFell how) volumes.old volumes.new) }
     ensures banks { HaveSameBanks volumes.old volumes.new }
 {
     volumes.log.crash(how);
@@ -92,15 +91,15 @@ fn crash_all(volumes: &mut Volumes<MemLog, MemPages>, how: Crash) -> Result<(), 
 impl Media for MemMedia {
     type Log = MemLog;
 
-    type Pages = MemPages;
+    type Pages = Box<MemPages>;
 
+    ghost use Rattle.std.specs.Global.{Box};
     ghost use Rattle.std.specs.Prelude.{◌≡◌, ◌≤◌, IsTrue, IfOk, OnOk, OnErr, false};
     ghost use Rattle.disk_core.specs.Images.{NoMore, Only};
     ghost use Rattle.disk_core.specs.Media.{HasBanks, HaveSameBanks, CountsMount, AllCrashed};
     ghost use Rattle.disk_core.specs.declared.media.Volumes.{Volumes};
     ghost use Rattle.disk_core.specs.MemLogViews.{log_crashed, LogFell};
-    ghost use Rattle.disk_core.specs.MemPagesViews.{pages_crashed, PagesFell};
-    ghost use Rattle.disk_core.specs.MemMediaViews.{is_idle, is_new, gives, first_log, IsFirst};
+    ghost use Rattle.disk_core.specs.MemMediaViews.{BankFell, IsFirst, bank_crashed, first_log, gives, is_idle, is_new};
 
     ghost is_idle = { λ m. is_idle m };
 
@@ -110,11 +109,11 @@ impl Media for MemMedia {
 
     ghost gives = { λ m. gives m };
 
-    ghost falls = { λ how. AllCrashed (LogFell how) (PagesFell how) };
+    ghost falls = { λ how. AllCrashed (LogFell how) (BankFell how) };
 
     ghost faults = { λ m. m.faults };
 
-    fn mount(&mut self, banks: u32) -> Result<Volumes<MemLog, MemPages>, MountRefusal>
+    fn mount(&mut self, banks: u32) -> Result<Volumes<MemLog, Box<MemPages>>, MountRefusal>
         requires idle { IsTrue (is_idle self.old) }
         requires some { 1 ≤ banks }
         requires few { banks ≤ 16 }
@@ -140,12 +139,12 @@ impl Media for MemMedia {
         Ok(volumes)
     }
 
-    fn crash(&mut self, volumes: Volumes<MemLog, MemPages>, how: Crash) -> Result<(), Failed>
+    fn crash(&mut self, volumes: Volumes<MemLog, Box<MemPages>>, how: Crash) -> Result<(), Failed>
         ensures idle { IsTrue (is_idle self.new) }
         ensures old { is_new self.new ≡ false }
-        ensures left { OnOk result ((next : Volumes MemLog MemPages) → gives self.new next → AllCrashed log_crashed pages_crashed volumes next) }
-        ensures fell { OnOk result ((next : Volumes MemLog MemPages) → gives self.new next → AllCrashed (LogFell how) (PagesFell how) volumes next) }
-        ensures banks { (next : Volumes MemLog MemPages) → gives self.new next → HaveSameBanks volumes next }
+        ensures left { OnOk result ((next : Volumes MemLog (Box MemPages)) → gives self.new next → AllCrashed log_crashed bank_crashed volumes next) }
+        ensures fell { OnOk result ((next : Volumes MemLog (Box MemPages)) → gives self.new next → AllCrashed (LogFell how) (BankFell how) volumes next) }
+        ensures banks { (next : Volumes MemLog (Box MemPages)) → gives self.new next → HaveSameBanks volumes next }
         ensures cause { CountsFault result self.old.faults self.new.faults }
         ensures counted { self.new.faults ≡ counted_by result self.old.faults }
     {
@@ -156,7 +155,7 @@ impl Media for MemMedia {
         count_failed(outcome, &mut self.faults)
     }
 
-    fn rest(&mut self, volumes: Volumes<MemLog, MemPages>)
+    fn rest(&mut self, volumes: Volumes<MemLog, Box<MemPages>>)
         ensures idle { IsTrue (is_idle self.new) }
         ensures old { is_new self.new ≡ false }
         ensures same { Only volumes (gives self.new) }

@@ -128,7 +128,10 @@ fn remove_page(now: &mut Map, before: &mut Before, page: u32) -> Result<(), Allo
 fn forget_notes(before: &mut Before, spare: &mut Option<PageBytes>)
     ensures { (q : ℕ) → tree.get nat_cmp before.new q ≡ None }
 {
-    if let Some((_, Some(bytes))) = before.pop_first() {
+    let Some((_, bytes)) = before.pop_first() else {
+        return;
+    };
+    if let Some(bytes) = bytes {
         *spare = Some(bytes);
     }
     before.clear();

@@ -31,7 +31,7 @@ pub fn new_cluster(banks: u32, sessions: u32) -> Cluster
 }
 
 /// Lets the parts of a lock table go. Answers how many events its history has.
-fn let_go(parts: Parts<MemLog, MemPages>) -> u64 {
+fn let_go(parts: Parts<MemLog, Box<MemPages>>) -> u64 {
     let Parts {
         cluster: _,
         locks,
@@ -57,8 +57,13 @@ fn let_go(parts: Parts<MemLog, MemPages>) -> u64 {
 /// Makes the lock table over parts. None for want of memory.
 fn table_of(
     alloc: Global,
-    parts: Parts<MemLog, MemPages>,
-) -> Option<(Hall<EngineLaw<MemLog, MemPages>>, Host<MemLog, MemPages>)>
+    parts: Parts<MemLog, Box<MemPages>>,
+) -> Option<
+    (
+        Hall<EngineLaw<MemLog, Box<MemPages>>>,
+        Host<MemLog, Box<MemPages>>,
+    ),
+>
     requires { AreParts parts }
     ensures host { IfSome result (λ r. IsHost r.0 r.1) }
     ensures cluster { IfSome result (λ r. r.1.cluster ≡ parts.cluster) }
@@ -79,9 +84,14 @@ fn table_of(
 fn open_parts(
     alloc: Global,
     log: WalLog<MemLog>,
-    volumes: BankVolumes<MemPages>,
+    volumes: BankVolumes<Box<MemPages>>,
     cluster: Cluster,
-) -> Option<(Hall<EngineLaw<MemLog, MemPages>>, Host<MemLog, MemPages>)>
+) -> Option<
+    (
+        Hall<EngineLaw<MemLog, Box<MemPages>>>,
+        Host<MemLog, Box<MemPages>>,
+    ),
+>
     requires cluster { IsCluster cluster }
     requires volumes { HaveEach cluster.banks volumes }
     requires new { IsEmptyLog log }
@@ -101,9 +111,14 @@ fn open_parts(
 /// Opens a lock table over mounted volumes, if their log has no record.
 fn open_mounted(
     alloc: Global,
-    volumes: Volumes<MemLog, MemPages>,
+    volumes: Volumes<MemLog, Box<MemPages>>,
     cluster: Cluster,
-) -> Option<(Hall<EngineLaw<MemLog, MemPages>>, Host<MemLog, MemPages>)>
+) -> Option<
+    (
+        Hall<EngineLaw<MemLog, Box<MemPages>>>,
+        Host<MemLog, Box<MemPages>>,
+    ),
+>
     requires cluster { IsCluster cluster }
     requires banks { HasBanks cluster.banks volumes }
     ensures host { IfSome result (λ r. IsHost r.0 r.1) }
@@ -139,7 +154,12 @@ fn open_mounted(
 pub fn open_table(
     alloc: Global,
     cluster: Cluster,
-) -> Option<(Hall<EngineLaw<MemLog, MemPages>>, Host<MemLog, MemPages>)>
+) -> Option<
+    (
+        Hall<EngineLaw<MemLog, Box<MemPages>>>,
+        Host<MemLog, Box<MemPages>>,
+    ),
+>
     requires { IsCluster cluster }
     ensures host { IfSome result (λ r. IsHost r.0 r.1) }
     ensures cluster { IfSome result (λ r. r.1.cluster ≡ cluster) }
@@ -155,7 +175,10 @@ pub fn open_table(
 }
 
 /// Closes a table whose sessions were all taken back. Answers how many events its history has.
-pub fn close_table(hall: Hall<EngineLaw<MemLog, MemPages>>, host: Host<MemLog, MemPages>) -> u64
+pub fn close_table(
+    hall: Hall<EngineLaw<MemLog, Box<MemPages>>>,
+    host: Host<MemLog, Box<MemPages>>,
+) -> u64
     requires host { IsHost hall host }
     requires all { HoldsAllBut host [] }
 {

@@ -286,11 +286,17 @@ impl Bytes {
     }
 
     /// Adds a byte.
+    #[tactic(auto, using(std::proofs::lemmas::List::take_more_set))]
     #[inline(always)]
     pub fn byte(&mut self, byte: u8) -> Result<(), Memory>
         ensures ok { OnOk result (self.new ≡ self.old ++ byte ∷ []) }
     {
-        self.put(&[byte])
+        if self.laid.len() == self.used {
+            return self.append(&[byte]);
+        }
+        self.laid[self.used] = byte;
+        self.used += 1;
+        Ok(())
     }
 
     // Adds a number that is long, or for which there is no room.

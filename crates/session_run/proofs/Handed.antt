@@ -1,4 +1,5 @@
 -- Which media may be handed to a run.
+use Rattle.std.specs.Global.{Box}
 use Rattle.std.proofs.Common.{IsTrue, List, None, [], ap, false, length, refl, subst, sym, true, ℕ, ◌∙◌, ◌≡◌}
 use Rattle.std.proofs.lemmas.Bool.{false≢true}
 use Rattle.std.specs.Prelude.{IsSome, Option}
@@ -13,7 +14,6 @@ use Rattle.disk_core.specs.declared.mem_log.MemLog.{MemLog}
 use Rattle.disk_core.specs.declared.mem_media.MemMedia.{MemMedia}
 use Rattle.disk_core.specs.declared.mem_pages.MemPages.{MemPages}
 use Rattle.disk_core.specs.contracts.mem_log.MemLogLogDisk.TheImpl as mem_log
-use Rattle.disk_core.specs.contracts.mem_pages.MemPagesPageDisk.TheImpl as mem_pages
 use Rattle.wal_core.specs.Log.{history_on}
 use Rattle.wal_core.specs.Opening.{opened}
 use Rattle.recoverable.specs.Fit.{KeptLog}
@@ -41,7 +41,7 @@ module _ {L P : Type 0} (l : logs.Ghosts L) (p : disks.Ghosts P) (kept : KeptLog
   silent_may_begin silent = record { banks = own_banks; tells = λ told. absurd (false≢true (sym silent ∙ told)); fits = λ told some. absurd (false≢true (sym silent ∙ told)) }
 
 -- a media in memory on which nothing was written
-pub mem_may_begin : (kept : KeptLog) (m : MemMedia) → first_log m ≡ [] → IsTrue (is_new m) → (banks : ℕ) (v : Volumes MemLog MemPages) → MayMount (is_new m) (λ n. IsFirst (first_log m) n) (gives m) banks v → MayBeginOver mem_log.ghosts mem_pages.ghosts kept v
-mem_may_begin kept m empty new banks v mounted =
+pub mem_may_begin : {p : disks.Ghosts (Box MemPages)} (kept : KeptLog) (m : MemMedia) → first_log m ≡ [] → IsTrue (is_new m) → (banks : ℕ) (v : Volumes MemLog (Box MemPages)) → MayMount (is_new m) (λ n. IsFirst (first_log m) n) (gives m) banks v → MayBeginOver mem_log.ghosts p kept v
+mem_may_begin {p} kept m empty new banks v mounted =
     let first = mounted.first new in
-    new_may_begin mem_log.ghosts mem_pages.ghosts kept banks v first.0 (λ told. refl) (λ told. none_on_empty (written v.log) (first.1.log_written ∙ ap (λ (bytes : List ℕ). record { start = 0; bytes = bytes }) empty))
+    new_may_begin mem_log.ghosts p kept banks v first.0 (λ told. refl) (λ told. none_on_empty (written v.log) (first.1.log_written ∙ ap (λ (bytes : List ℕ). record { start = 0; bytes = bytes }) empty))

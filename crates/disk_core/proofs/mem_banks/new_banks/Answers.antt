@@ -8,5 +8,6 @@ pub loop-preserved : goal.loop-preserved
 loop-preserved c =
     let items = c.in_ok-push.ensures.items in
     let old = c.loop.banks.items in
-    let long : length c.push.new.self.items ≡ c.loop.counter + 1 = ap length items ∙ omega (arith, length-append old (c.new.result ∷ [])) in
-    (long, subst (All IsNewBank) (sym items) (All-push IsNewBank old c.new.result c.loop.invariant.1 (c.new.ensures.now, c.new.ensures.synced, c.new.ensures.faults)))
+    let bank = c.in_ok-new_bank.field-0 in
+    let long : length c.push.new.self.items ≡ c.loop.counter + 1 = ap length items ∙ omega (arith, length-append old (bank ∷ [])) in
+    (long, subst (All IsNewBank) (sym items) (All-push IsNewBank old bank c.loop.invariant.1 c.in_ok-new_bank.ensures))

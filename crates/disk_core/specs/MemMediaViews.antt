@@ -2,8 +2,8 @@
 use Rattle.std.specs.Prelude.{◌≡◌, ℕ, Bool, not, List, None, is_some, IsSomeAnd, All}
 use Rattle.std.specs.Global.{Box}
 use Rattle.disk_core.specs.MemLogViews.{written, synced}
-use Rattle.disk_core.specs.MemPagesViews.{pages_now, pages_synced, pages_crashed, PagesFell}
-use Rattle.disk_core.specs.Media.{HasBanks}
+use Rattle.disk_core.specs.MemPagesViews.{pages_images, pages_now, pages_synced, PagesFell}
+use Rattle.disk_core.specs.Media.{HasBanks, PagesCrashed}
 use Rattle.disk_core.specs.declared.media.Crash.{Crash}
 use Rattle.disk_core.specs.declared.media.Volumes.{Volumes}
 use Rattle.disk_core.specs.declared.mem_log.MemLog.{MemLog}
@@ -30,7 +30,7 @@ IsNewBank p = ((q : ℕ) → pages_now p.value q ≡ None) × ((q : ℕ) → pag
 
 -- what a crash makes of one
 abbrev pub bank_crashed : Box MemPages → Box MemPages → Type 0
-bank_crashed old new = pages_crashed old.value new.value
+bank_crashed = PagesCrashed (λ b. pages_now b.value) (λ b. pages_images b.value) (λ b. b.value.faults)
 
 abbrev pub BankFell : Crash → Box MemPages → Box MemPages → Type 0
 BankFell how old new = PagesFell how old.value new.value

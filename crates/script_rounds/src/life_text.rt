@@ -1,5 +1,5 @@
 //! The text of a life, from its front to its end, and how it is written.
-ghost use Rattle.std.specs.Prelude.{◌≡◌, ◌++◌, ℕ, IfOk, OnErr, OnOk, take};
+ghost use Rattle.std.specs.Prelude.{◌≡◌, ◌++◌, ℕ, IfOk, IfSome, IsSome, OnErr, OnOk, take};
 ghost use Rattle.std.specs.List.{flat_map};
 ghost use Rattle.std.specs.Io.KnownBytes.{Appends};
 ghost use Rattle.tx_events.specs.Ids.{IsFullMulti};
@@ -12,6 +12,9 @@ use std::alloc::Global;
 use text_pieces::Pieces;
 use tx_io::{Failed, Sink, write_all};
 use tx_model::{Counters, How, Memory};
+
+// A part of a life's text up to so many bytes is copied behind the others, since a call of a sink may be a call of the system.
+const SHORT: usize = 4_096;
 
 /// The text of a life: what stands before its steps, these, its histories, and its log and what stands behind that.
 #[derive(Drop)]
@@ -126,8 +129,8 @@ fn put_behind<K: Sink>(
     put_both(sink, histories, log)
 }
 
-/// Writes the text of a life, or a front of it.
-pub fn put_life<K: Sink>(sink: &mut K, text: &LifeText) -> Result<(), Failed>
+// Writes the text of a life part by part, or a front of it.
+fn put_parts<K: Sink>(sink: &mut K, text: &LifeText) -> Result<(), Failed>
     ensures ok { OnOk result (Appends (K.held sink.old) (K.held sink.new) (text.now.front
         ++ (text.now.steps ++ (text.now.histories ++ text.now.log)))) }
     ensures front { OnErr result ((n : ℕ)
@@ -137,4 +140,53 @@ pub fn put_life<K: Sink>(sink: &mut K, text: &LifeText) -> Result<(), Failed>
 {
     write_all(sink, text.front.bytes())?;
     put_behind(sink, &text.steps, &text.histories, &text.log)
+}
+
+// A text that stands in one piece.
+fn one_piece(pieces: &Pieces) -> Option<&[u8]>
+    ensures { IfSome result (λ text. text.now ≡ pieces.now) }
+{
+    let (front, last) = pieces.parts();
+    if !front.is_empty() {
+        return None;
+    }
+    Some(last.bytes())
+}
+
+// Adds a piece to a text, if it is short and there is memory for it.
+fn add_short(text: &mut Text, piece: &[u8]) -> Option<()>
+    ensures { IsSome result → text.new ≡ text.old ++ piece.now }
+{
+    if piece.len() > SHORT {
+        return None;
+    }
+    text.put(piece).ok()
+}
+
+// The parts of a short text, joined. There are none where a part is long, or where there is no memory.
+fn joined(alloc: Global, text: &LifeText) -> Option<Text>
+    ensures { IfSome result (λ whole. whole ≡ text.now.front ++ (text.now.steps ++ (text.now.histories ++ text.now.log))) }
+{
+    let mut whole = Text::new(alloc);
+    add_short(&mut whole, text.front.bytes())?;
+    add_short(&mut whole, text.steps.plain()?)?;
+    add_short(&mut whole, one_piece(&text.histories)?)?;
+    add_short(&mut whole, one_piece(&text.log)?)?;
+    Some(whole)
+}
+
+/// Writes the text of a life, or a front of it. The sink gets a short one in one piece. The memory that this takes it can do
+/// without.
+pub fn put_life<K: Sink>(alloc: Global, sink: &mut K, text: &LifeText) -> Result<(), Failed>
+    ensures ok { OnOk result (Appends (K.held sink.old) (K.held sink.new) (text.now.front
+        ++ (text.now.steps ++ (text.now.histories ++ text.now.log)))) }
+    ensures front { OnErr result ((n : ℕ)
+        × Appends (K.held sink.old) (K.held sink.new) (take n (text.now.front
+        ++ (text.now.steps ++ (text.now.histories ++ text.now.log))))) }
+    ensures cause { HasCause (K.faults sink.old) (K.faults sink.new) result }
+{
+    match joined(alloc, text) {
+        Some(whole) => write_all(sink, whole.bytes()),
+        None => put_parts(sink, text),
+    }
 }

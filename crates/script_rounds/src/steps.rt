@@ -1,5 +1,5 @@
 //! The text of a life's steps.
-ghost use Rattle.std.specs.Prelude.{ℕ, OnErr, OnOk, take};
+ghost use Rattle.std.specs.Prelude.{◌≡◌, ℕ, IfSome, OnErr, OnOk, take};
 ghost use Rattle.std.specs.Io.KnownBytes.{Appends};
 ghost use Rattle.tx_io.specs.Causes.{HasCause};
 
@@ -81,6 +81,13 @@ impl LineKeeper for Steps {
 }
 
 impl Steps {
+    /// The text, where it stands in one piece.
+    pub fn plain(&self) -> Option<&[u8]>
+        ensures { IfSome result (λ text. text.now ≡ self.now) }
+    {
+        self.text.plain()
+    }
+
     /// Writes the text, or a front of it.
     pub fn write<K: Sink>(&self, sink: &mut K) -> Result<(), Failed>
         ensures ok { OnOk result (Appends (K.held sink.old) (K.held sink.new) self.now) }

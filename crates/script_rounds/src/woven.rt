@@ -240,6 +240,17 @@ impl Woven {
         self.put(rest)
     }
 
+    /// The text, where no piece of it is shared.
+    #[tactic(auto, unfolding(crate::specs::Woven::woven))]
+    pub fn plain(&self) -> Option<&[u8]>
+        ensures { IfSome result (λ text. text.now ≡ self.now) }
+    {
+        if !self.shared.is_empty() {
+            return None;
+        }
+        Some(self.own.bytes())
+    }
+
     /// Writes the text, or a front of it. The memory that it takes it can do without.
     pub fn write<K: Sink>(&self, sink: &mut K) -> Result<(), Failed>
         ensures ok { OnOk result (Appends (K.held sink.old) (K.held sink.new) self.now) }

@@ -166,7 +166,7 @@ fn tell_part<R: Threads + Sync, K: Sink, L: LogDisk + Drop, P: PageDisk + Drop>(
     let Ok(text) = whole_text(alloc, number, from, &base, steps, histories, log, crash) else {
         return (volumes, Err(Stopped::NoLife(NoLife::Memory)));
     };
-    match put_life(sink, &text) {
+    match put_life(alloc, sink, &text) {
         Ok(()) => (volumes, Ok(left)),
         Err(Failed) => (volumes, Err(Stopped::Sink)),
     }

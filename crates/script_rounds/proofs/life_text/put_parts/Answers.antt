@@ -2,7 +2,7 @@ use Rattle.std.proofs.Common.{subst, ◌++◌}
 use Rattle.std.proofs.lemmas.Result.{on_err_weaker}
 use Rattle.std.specs.Io.KnownBytes.{Appends}
 use Rattle.script_rounds.proofs.Fronts.{first_stopped, then_stopped}
-use Rattle.script_rounds.proofs.life_text.put_life.Goals as goal
+use Rattle.script_rounds.proofs.life_text.put_parts.Goals as goal
 
 pub returns-in_err-write_all-clause-front : goal.returns-in_err-write_all-clause-front
 returns-in_err-write_all-clause-front g c =

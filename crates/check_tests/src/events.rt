@@ -4,7 +4,8 @@ ghost use Rattle.tx_events.specs.Events.{by_of};
 
 use std::process::Abort;
 use tx_events::{
-    By, Counters, Event, FullMulti, FullXid, Member, MemberList, Mode, MultiEvent, Name, Sequence,
+    By, ByWords, Counters, Event, FullMulti, FullXid, Member, MemberList, Mode, MultiEvent, Name,
+    Sequence,
 };
 
 pub fn id<R: Abort>(rt: &R, number: u64) -> FullXid {
@@ -34,40 +35,40 @@ pub fn event_of<R: Abort>(rt: &R, by: By, act: Act) -> Event
 {
     match act {
         Act::Id(number) => Event::Id {
-            by,
+            by: ByWords::of(by),
             id: id(rt, number),
         },
         Act::Sub(parent, number) => Event::Sub {
-            by,
+            by: ByWords::of(by),
             parent: id(rt, parent),
             id: id(rt, number),
         },
         Act::Undo(number) => Event::Undo {
-            by,
+            by: ByWords::of(by),
             id: id(rt, number),
         },
         Act::Commit(number) => Event::Commit {
-            by,
+            by: ByWords::of(by),
             top: id(rt, number),
         },
         Act::Abort(number) => Event::Abort {
-            by,
+            by: ByWords::of(by),
             top: id(rt, number),
         },
         Act::Snap(letter) => Event::Snap {
-            by,
+            by: ByWords::of(by),
             name: Name::of(&[letter]),
         },
         Act::Drop(letter) => Event::SnapDrop {
-            by,
+            by: ByWords::of(by),
             name: Name::of(&[letter]),
         },
         Act::Oldest(number) => Event::Oldest {
-            by,
+            by: ByWords::of(by),
             oldest: id(rt, number),
         },
         Act::Ask(number) => Event::Ask {
-            by,
+            by: ByWords::of(by),
             id: id(rt, number),
         },
     }
@@ -100,21 +101,21 @@ pub fn multi_event_of<R: Abort + AllocGlobal>(rt: &R, session: u32, act: MultiAc
     };
     match act {
         MultiAct::Gen(number, offset, mode, count) => MultiEvent::Gen {
-            by,
+            by: ByWords::of(by),
             multi: multi(rt, number),
             offset,
             members: members(rt, mode, count),
         },
         MultiAct::Hold(number) => MultiEvent::Hold {
-            by,
+            by: ByWords::of(by),
             multi: multi(rt, number),
         },
         MultiAct::Unhold(number) => MultiEvent::Unhold {
-            by,
+            by: ByWords::of(by),
             multi: multi(rt, number),
         },
         MultiAct::Raise(number, offset) => MultiEvent::Raise {
-            by,
+            by: ByWords::of(by),
             multi: multi(rt, number),
             offset,
         },

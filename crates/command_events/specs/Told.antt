@@ -38,8 +38,8 @@ abbrev pub plain_events : By → Stance → Command → Reply → List Event
 plain_events by s commands.Undo replies.Done = undo_event by (innermost s.levels)
 plain_events by s commands.Commit replies.Done = commit_event by (top_level s.levels)
 plain_events by s commands.Abort replies.Done = abort_event by (top_level s.levels)
-plain_events by s (commands.Snap name) (replies.Snapped lists) = events.Snap by name ∷ []
-plain_events by s (commands.DropSnap name) replies.Done = events.SnapDrop by name ∷ []
+plain_events by s (commands.Snap name) (replies.Snapped lists) = events.Snap name by ∷ []
+plain_events by s (commands.DropSnap name) replies.Done = events.SnapDrop name by ∷ []
 plain_events by s (commands.Status x) reply = ask_event by x reply
 plain_events by s (commands.Freeze oldest) replies.Done = events.Oldest by oldest ∷ []
 plain_events by s command reply = []

@@ -71,7 +71,7 @@ fn is_hold(e: &MultiEvent, by: By, multi: FullMulti) -> bool
         MultiEvent::Hold {
             by: its,
             multi: held,
-        } => *its == by && *held == multi,
+        } => its.get() == by && *held == multi,
         _ => false,
     }
 }
@@ -83,7 +83,7 @@ fn is_unhold(e: &MultiEvent, by: By, multi: FullMulti) -> bool
         MultiEvent::Unhold {
             by: its,
             multi: held,
-        } => *its == by && *held == multi,
+        } => its.get() == by && *held == multi,
         _ => false,
     }
 }
@@ -96,7 +96,7 @@ fn is_raise(e: &MultiEvent, by: By, multi: FullMulti) -> bool
             by: its,
             multi: raised,
             ..
-        } => *its == by && *raised == multi,
+        } => its.get() == by && *raised == multi,
         _ => false,
     }
 }

@@ -72,7 +72,7 @@ fn is_of_gen(
             offset,
             members,
         } => {
-            if !stands_first(by, place, *its) {
+            if !stands_first(by, place, its.get()) {
                 return false;
             }
             begins_with(own, *multi, *offset) && are_given(reach, command, members)

@@ -6,7 +6,7 @@ ghost use Rattle.line_stances.specs.Settled.{is_snapped};
 ghost use Rattle.command_events.specs.Told.{as_list, plain_events};
 
 use line_stances::Standing;
-use tx_events::{By, Event, FullXid, Refusal};
+use tx_events::{By, ByWords, Event, FullXid, Refusal};
 use tx_model::{Command, Reply};
 
 fn is_done(reply: &Reply) -> bool
@@ -53,7 +53,10 @@ fn undo_of(by: By, innermost: Option<FullXid>) -> Option<Event>
     ensures { as_list result ≡ undo_event by innermost }
 {
     match innermost {
-        Some(id) => Some(Event::Undo { by, id }),
+        Some(id) => Some(Event::Undo {
+            by: ByWords::of(by),
+            id,
+        }),
         None => None,
     }
 }
@@ -62,7 +65,10 @@ fn commit_of(by: By, top: Option<FullXid>) -> Option<Event>
     ensures { as_list result ≡ commit_event by top }
 {
     match top {
-        Some(top) => Some(Event::Commit { by, top }),
+        Some(top) => Some(Event::Commit {
+            by: ByWords::of(by),
+            top,
+        }),
         None => None,
     }
 }
@@ -71,7 +77,10 @@ fn abort_of(by: By, top: Option<FullXid>) -> Option<Event>
     ensures { as_list result ≡ abort_event by top }
 {
     match top {
-        Some(top) => Some(Event::Abort { by, top }),
+        Some(top) => Some(Event::Abort {
+            by: ByWords::of(by),
+            top,
+        }),
         None => None,
     }
 }
@@ -85,11 +94,11 @@ fn done_event(by: By, standing: &Standing, command: &Command) -> Option<Event>
         Command::Commit => commit_of(by, standing.levels.top()),
         Command::Abort => abort_of(by, standing.levels.top()),
         Command::DropSnap { name } => Some(Event::SnapDrop {
-            by,
+            by: ByWords::of(by),
             name: name.same(),
         }),
         Command::Freeze { oldest } => Some(Event::Oldest {
-            by,
+            by: ByWords::of(by),
             oldest: *oldest,
         }),
         _ => None,
@@ -103,12 +112,15 @@ pub fn plain_event(by: By, standing: &Standing, command: &Command, reply: &Reply
     match command {
         Command::Status { x } => some_if(
             was_asked(reply) && x.number() >= 3,
-            Event::Ask { by, id: *x },
+            Event::Ask {
+                by: ByWords::of(by),
+                id: *x,
+            },
         ),
         Command::Snap { name } => some_if(
             is_snapped(reply),
             Event::Snap {
-                by,
+                by: ByWords::of(by),
                 name: name.same(),
             },
         ),

@@ -1,5 +1,5 @@
 -- What a call did that had no event, or one.
-use Rattle.std.proofs.Common.{Bool, false, ◌≡◌, ℕ, List, [], ◌∷◌, None, Some, sym, ap, subst, ◌∙◌, length, arith, append-nil}
+use Rattle.std.proofs.Common.{Bool, false, ◌≡◌, ℕ, List, [], ◌∷◌, None, Some, sym, subst, ◌∙◌, append-nil}
 use Rattle.std.specs.List.{filter}
 use Rattle.notes.specs.Lists.{at}
 use Rattle.notes.proofs.Growing.{begins_same}

@@ -1,5 +1,5 @@
 -- The published oldest id is read, and published by whoever is inside the ProcArray's lock.
-use Rattle.std.proofs.Common.{◌≡◌, ◌≢◌, ℕ, ◌+◌, ◌*◌, ◌≤◌, ◌<◌, ◌⊎◌, ⊎_elim, List, [], append-nil, ◌∷◌, ◌++◌, Contains, None, Some, false, true, length, length-set, ltb, inl, inr, refl, sym, ap, subst, ◌∙◌, arith}
+use Rattle.std.proofs.Common.{◌≡◌, ℕ, ◌+◌, ◌*◌, ◌≤◌, ◌<◌, ◌⊎◌, ⊎_elim, List, [], append-nil, ◌∷◌, ◌++◌, Contains, false, true, length, length-set, ltb, inl, inr, refl, sym, ap, subst, ◌∙◌, arith}
 use Rattle.std.proofs.lemmas.Bool.{eq-eqb, lt-ltb, le-ltb}
 use Rattle.std.proofs.lemmas.List.Elements.{Contains-push, filter_map-append}
 use Rattle.std.specs.List.{filter}
@@ -8,10 +8,9 @@ use Rattle.hall.specs.declared.view.Stage.TheVariants.{Free, Inside}
 use Rattle.hall.specs.Calls.{Loaded}
 use Rattle.hall.specs.Rule.{Holds}
 use Rattle.hall.specs.Told.{published}
-use Rattle.notes.specs.Lists.{Grows, Knows, add, at, own}
+use Rattle.notes.specs.Lists.{Knows, add, at, own}
 use Rattle.notes.proofs.Growing.{at_else, at_here, begins_same}
 use Rattle.tx_events.specs.declared.event.By.{By}
-use Rattle.tx_events.specs.declared.event.Event.{Event}
 use Rattle.tx_events.specs.Events.{is_of}
 use Rattle.tx_events.specs.Horizon.{oldest_id}
 use Rattle.tx_events.proofs.Membership.{has_contains}
@@ -40,7 +39,7 @@ use Rattle.engine_parts.specs.Steps.{WentOn}
 use Rattle.engine_parts.proofs.Adding.{section_added}
 use Rattle.engine_parts.proofs.Going.{at_on, own_events}
 use Rattle.engine_parts.proofs.Leaving.{grows_then, history_same, ready_quiet}
-use Rattle.engine_parts.proofs.Stepping.{went_nowhere, went_quiet}
+use Rattle.engine_parts.proofs.Stepping.{went_quiet}
 
 -- ---- what is learned
 

@@ -17,7 +17,7 @@ use Rattle.engine_parts.specs.declared.session.Stage.{Stage}
 use Rattle.engine_parts.specs.Adding.{Adds}
 use Rattle.engine_parts.specs.Answers.{MetFault, MetLogFault}
 use Rattle.engine_parts.specs.Faults.{fault_by, flush_fault_by}
-use Rattle.engine_parts.specs.Holds.{Enters, EntersProc, Knowledge, Leaves, ProcSection, Publishes, Section}
+use Rattle.engine_parts.specs.Holds.{Enters, EntersProc, Knowledge, Leaves, ProcSection, Section}
 use Rattle.engine_parts.specs.Sessions.{IsAt, IsReady, MayCall, by_at, inner_id}
 use Rattle.engine_parts.specs.Stages.{AsksNothing, IsInStage}
 use Rattle.engine_parts.specs.Steps.{GoesOn, WentOn}

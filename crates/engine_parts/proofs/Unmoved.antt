@@ -1,5 +1,5 @@
 -- What a call did that left its session as it stood.
-use Rattle.std.proofs.Common.{false, append-nil, ◌≡◌, ◌≤◌, ℕ, List, [], None, length, arith, refl, sym, ap, subst, ◌∙◌}
+use Rattle.std.proofs.Common.{false, append-nil, ◌≡◌, ◌≤◌, ℕ, List, [], None, length, refl, sym, ap, subst, ◌∙◌}
 use Rattle.std.specs.List.{AllByRecursion}
 use Rattle.disk_core.specs.declared.log_disk.LogDisk as logs
 use Rattle.disk_core.specs.declared.page_disk.PageDisk as disks

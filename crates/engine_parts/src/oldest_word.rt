@@ -1,5 +1,5 @@
 //! The published oldest id, which is read under no lock.
-ghost use Rattle.std.specs.Prelude.{◌≡◌, ℕ, ◌+◌, ◌*◌, [], ◌<◌};
+ghost use Rattle.std.specs.Prelude.{◌≡◌, ◌+◌, ◌*◌, [], ◌<◌};
 ghost use Rattle.hall.specs.declared.view.Stage.TheVariants.{Inside};
 ghost use Rattle.hall.specs.Calls.{view, IsOf, start_of};
 ghost use Rattle.notes.specs.Lists.{at};

@@ -41,12 +41,12 @@ event_is (events.Commit by id) (events.Commit its other) e =
 event_is (events.Abort by id) (events.Abort its other) e =
     let p = and_parts (same_by by its) (id == other) e in
     ap (λ x. events.Abort x id) (same_is by its p.0) ∙ ap (λ x. events.Abort its x) (eqb-true id other p.1)
-event_is (events.Snap by name) (events.Snap its other) e =
+event_is (events.Snap name by) (events.Snap other its) e =
     let p = and_parts (same_by by its) (same_name name other) e in
-    ap (λ x. events.Snap x name) (same_is by its p.0) ∙ ap (λ x. events.Snap its x) (same_name_equal name other p.1)
-event_is (events.SnapDrop by name) (events.SnapDrop its other) e =
+    ap (λ x. events.Snap name x) (same_is by its p.0) ∙ ap (λ x. events.Snap x its) (same_name_equal name other p.1)
+event_is (events.SnapDrop name by) (events.SnapDrop other its) e =
     let p = and_parts (same_by by its) (same_name name other) e in
-    ap (λ x. events.SnapDrop x name) (same_is by its p.0) ∙ ap (λ x. events.SnapDrop its x) (same_name_equal name other p.1)
+    ap (λ x. events.SnapDrop name x) (same_is by its p.0) ∙ ap (λ x. events.SnapDrop x its) (same_name_equal name other p.1)
 event_is (events.Oldest by id) (events.Oldest its other) e =
     let p = and_parts (same_by by its) (id == other) e in
     ap (λ x. events.Oldest x id) (same_is by its p.0) ∙ ap (λ x. events.Oldest its x) (eqb-true id other p.1)
@@ -61,8 +61,8 @@ event_self (events.Sub by parent id) = both (same_by by by) ((parent == parent) 
 event_self (events.Undo by id) = both (same_by by by) (id == id) (same_self by) (eqb-refl id)
 event_self (events.Commit by id) = both (same_by by by) (id == id) (same_self by) (eqb-refl id)
 event_self (events.Abort by id) = both (same_by by by) (id == id) (same_self by) (eqb-refl id)
-event_self (events.Snap by name) = both (same_by by by) (same_name name name) (same_self by) (same_name_refl name)
-event_self (events.SnapDrop by name) = both (same_by by by) (same_name name name) (same_self by) (same_name_refl name)
+event_self (events.Snap name by) = both (same_by by by) (same_name name name) (same_self by) (same_name_refl name)
+event_self (events.SnapDrop name by) = both (same_by by by) (same_name name name) (same_self by) (same_name_refl name)
 event_self (events.Oldest by id) = both (same_by by by) (id == id) (same_self by) (eqb-refl id)
 event_self (events.Ask by id) = both (same_by by by) (id == id) (same_self by) (eqb-refl id)
 

@@ -14,8 +14,8 @@ same_event (events.Sub by parent id) (events.Sub its under other) = same_by by i
 same_event (events.Undo by id) (events.Undo its other) = same_by by its && (id == other)
 same_event (events.Commit by top) (events.Commit its other) = same_by by its && (top == other)
 same_event (events.Abort by top) (events.Abort its other) = same_by by its && (top == other)
-same_event (events.Snap by name) (events.Snap its other) = same_by by its && same_name name other
-same_event (events.SnapDrop by name) (events.SnapDrop its other) = same_by by its && same_name name other
+same_event (events.Snap name by) (events.Snap other its) = same_by by its && same_name name other
+same_event (events.SnapDrop name by) (events.SnapDrop other its) = same_by by its && same_name name other
 same_event (events.Oldest by oldest) (events.Oldest its other) = same_by by its && (oldest == other)
 same_event (events.Ask by id) (events.Ask its other) = same_by by its && (id == other)
 same_event e other = false

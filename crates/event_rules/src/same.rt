@@ -51,7 +51,7 @@ fn same_event(a: &Event, b: &Event) -> bool
 {
     match a {
         Event::Id { by, id } => match b {
-            Event::Id { by: its, id: other } => same_by(*by, *its) && *id == *other,
+            Event::Id { by: its, id: other } => same_by(by.get(), its.get()) && *id == *other,
             _ => false,
         },
         Event::Sub { by, parent, id } => match b {
@@ -59,50 +59,50 @@ fn same_event(a: &Event, b: &Event) -> bool
                 by: its,
                 parent: under,
                 id: other,
-            } => same_by(*by, *its) && *parent == *under && *id == *other,
+            } => same_by(by.get(), its.get()) && *parent == *under && *id == *other,
             _ => false,
         },
         Event::Undo { by, id } => match b {
-            Event::Undo { by: its, id: other } => same_by(*by, *its) && *id == *other,
+            Event::Undo { by: its, id: other } => same_by(by.get(), its.get()) && *id == *other,
             _ => false,
         },
         Event::Commit { by, top } => match b {
             Event::Commit {
                 by: its,
                 top: other,
-            } => same_by(*by, *its) && *top == *other,
+            } => same_by(by.get(), its.get()) && *top == *other,
             _ => false,
         },
         Event::Abort { by, top } => match b {
             Event::Abort {
                 by: its,
                 top: other,
-            } => same_by(*by, *its) && *top == *other,
+            } => same_by(by.get(), its.get()) && *top == *other,
             _ => false,
         },
         Event::Snap { by, name } => match b {
             Event::Snap {
                 by: its,
                 name: other,
-            } => same_by(*by, *its) && same_name(name, other),
+            } => same_by(by.get(), its.get()) && same_name(name, other),
             _ => false,
         },
         Event::SnapDrop { by, name } => match b {
             Event::SnapDrop {
                 by: its,
                 name: other,
-            } => { same_by(*by, *its) && same_name(name, other) }
+            } => { same_by(by.get(), its.get()) && same_name(name, other) }
             _ => false,
         },
         Event::Oldest { by, oldest } => match b {
             Event::Oldest {
                 by: its,
                 oldest: other,
-            } => same_by(*by, *its) && *oldest == *other,
+            } => same_by(by.get(), its.get()) && *oldest == *other,
             _ => false,
         },
         Event::Ask { by, id } => match b {
-            Event::Ask { by: its, id: other } => same_by(*by, *its) && *id == *other,
+            Event::Ask { by: its, id: other } => same_by(by.get(), its.get()) && *id == *other,
             _ => false,
         },
     }
@@ -124,7 +124,7 @@ fn same_multi(a: &MultiEvent, b: &MultiEvent) -> bool
                 offset: at,
                 members: others,
             } => {
-                same_by(*by, *its)
+                same_by(by.get(), its.get())
                     && *multi == *given
                     && *offset == *at
                     && same_members(members.items(), others.items())
@@ -135,14 +135,14 @@ fn same_multi(a: &MultiEvent, b: &MultiEvent) -> bool
             MultiEvent::Hold {
                 by: its,
                 multi: other,
-            } => same_by(*by, *its) && *multi == *other,
+            } => same_by(by.get(), its.get()) && *multi == *other,
             _ => false,
         },
         MultiEvent::Unhold { by, multi } => match b {
             MultiEvent::Unhold {
                 by: its,
                 multi: other,
-            } => same_by(*by, *its) && *multi == *other,
+            } => same_by(by.get(), its.get()) && *multi == *other,
             _ => false,
         },
         MultiEvent::Raise { by, multi, offset } => match b {
@@ -150,7 +150,7 @@ fn same_multi(a: &MultiEvent, b: &MultiEvent) -> bool
                 by: its,
                 multi: other,
                 offset: at,
-            } => same_by(*by, *its) && *multi == *other && *offset == *at,
+            } => same_by(by.get(), its.get()) && *multi == *other && *offset == *at,
             _ => false,
         },
     }

@@ -166,8 +166,8 @@ kept_after base h (events.Sub by parent id) items legal may a = after_given base
 kept_after base h (events.Commit by t) items legal may a = after_commit base h by t items legal may a
 kept_after base h (events.Undo by id) items legal may a = after_quiet base h (events.Undo by id) items legal may refl (λ t. refl) a
 kept_after base h (events.Abort by t) items legal may a = after_quiet base h (events.Abort by t) items legal may refl (λ t. refl) a
-kept_after base h (events.Snap by name) items legal may a = after_quiet base h (events.Snap by name) items legal may refl (λ t. refl) a
-kept_after base h (events.SnapDrop by name) items legal may a = after_quiet base h (events.SnapDrop by name) items legal may refl (λ t. refl) a
+kept_after base h (events.Snap name by) items legal may a = after_quiet base h (events.Snap name by) items legal may refl (λ t. refl) a
+kept_after base h (events.SnapDrop name by) items legal may a = after_quiet base h (events.SnapDrop name by) items legal may refl (λ t. refl) a
 kept_after base h (events.Oldest by oldest) items legal may a = after_quiet base h (events.Oldest by oldest) items legal may refl (λ t. refl) a
 kept_after base h (events.Ask by id) items legal may a = after_quiet base h (events.Ask by id) items legal may refl (λ t. refl) a
 

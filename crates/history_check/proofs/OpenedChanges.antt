@@ -85,8 +85,8 @@ its_opened base h (events.Sub by parent id) closed xs legal may c a = one_opened
 its_opened base h (events.Undo by id) closed xs legal may c a = undo_opened base h by id closed xs legal may c a
 its_opened base h (events.Commit by t) closed xs legal may c a = end_opened base h (events.Commit by t) by.session t legal may (closing_commit h by t)
 its_opened base h (events.Abort by t) closed xs legal may c a = end_opened base h (events.Abort by t) by.session t legal may (closing_abort h by t)
-its_opened base h (events.Snap by name) closed xs legal may c a = same_ids base h (events.Snap by name) by.session xs legal may (quiet_open_ids by.session h (events.Snap by name) tt) a
-its_opened base h (events.SnapDrop by name) closed xs legal may c a = same_ids base h (events.SnapDrop by name) by.session xs legal may (quiet_open_ids by.session h (events.SnapDrop by name) tt) a
+its_opened base h (events.Snap name by) closed xs legal may c a = same_ids base h (events.Snap name by) by.session xs legal may (quiet_open_ids by.session h (events.Snap name by) tt) a
+its_opened base h (events.SnapDrop name by) closed xs legal may c a = same_ids base h (events.SnapDrop name by) by.session xs legal may (quiet_open_ids by.session h (events.SnapDrop name by) tt) a
 its_opened base h (events.Oldest by oldest) closed xs legal may c a = same_ids base h (events.Oldest by oldest) by.session xs legal may (quiet_open_ids by.session h (events.Oldest by oldest) tt) a
 its_opened base h (events.Ask by id) closed xs legal may c a = same_ids base h (events.Ask by id) by.session xs legal may (quiet_open_ids by.session h (events.Ask by id) tt) a
 

@@ -61,15 +61,16 @@ pub fn may_come(table: &ProcTable, opened: &[OpenId], event: &Event) -> bool
     ensures { IsTrue result ↔ MayCome table.now.base table.now.events event.now }
 {
     match event {
-        Event::Id { by, id } => may_give(table, *id) && has_none_open(table, by.session, opened),
+        Event::Id { by, id } => may_give(table, *id)
+            && has_none_open(table, by.get().session, opened),
         Event::Sub { by, parent, id } => {
-            may_give(table, *id) && has_open(table, by.session, opened, *parent)
+            may_give(table, *id) && has_open(table, by.get().session, opened, *parent)
         }
-        Event::Undo { by, id } => is_open_sub(table, by.session, opened, *id),
-        Event::Commit { by, top } => is_open_top(table, by.session, opened, *top),
-        Event::Abort { by, top } => is_open_top(table, by.session, opened, *top),
-        Event::Snap { by, name } => !table.is_live(by.session, name),
-        Event::SnapDrop { by, name } => table.is_live(by.session, name),
+        Event::Undo { by, id } => is_open_sub(table, by.get().session, opened, *id),
+        Event::Commit { by, top } => is_open_top(table, by.get().session, opened, *top),
+        Event::Abort { by, top } => is_open_top(table, by.get().session, opened, *top),
+        Event::Snap { by, name } => !table.is_live(by.get().session, name),
+        Event::SnapDrop { by, name } => table.is_live(by.get().session, name),
         Event::Oldest { oldest, .. } => {
             table.oldest() <= *oldest && *oldest <= table.oldest_xmin()
         }

@@ -28,7 +28,7 @@ pub fn add_multi(multis: &mut MultiGen, event: &MultiEvent) -> Result<bool, Memo
             if !may_give(multis, *multi, *offset, members) {
                 return Ok(false);
             }
-            match multis.next(*by, members) {
+            match multis.next(by.get(), members) {
                 Ok(_given) => Ok(true),
                 Err(_refusal) => Err(Memory),
             }
@@ -39,23 +39,23 @@ pub fn add_multi(multis: &mut MultiGen, event: &MultiEvent) -> Result<bool, Memo
             }
             let counters = multis.counters();
             means_itself(counters.multi, *multi);
-            match multis.hold(*by, multi.low()) {
+            match multis.hold(by.get(), multi.low()) {
                 Ok(_held) => Ok(true),
                 Err(_refusal) => Err(Memory),
             }
         }
         MultiEvent::Unhold { by, multi } => {
-            if !multis.holds(by.session, *multi) {
+            if !multis.holds(by.get().session, *multi) {
                 return Ok(false);
             }
-            multis.unhold(*by, *multi);
+            multis.unhold(by.get(), *multi);
             Ok(true)
         }
         MultiEvent::Raise { by, multi, offset } => {
             if !multis.begins_at(*multi, *offset) {
                 return Ok(false);
             }
-            match multis.raise_oldest(*by, *multi, *offset) {
+            match multis.raise_oldest(by.get(), *multi, *offset) {
                 Ok(()) => Ok(true),
                 Err(Refusal::Memory) => Err(Memory),
                 Err(_refusal) => Ok(false),

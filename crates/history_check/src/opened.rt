@@ -114,7 +114,7 @@ pub fn closed_by(
 {
     let _legal = table.events();
     match event {
-        Event::Undo { by, id } => ids_inside(alloc, table, by.session, opened, *id),
+        Event::Undo { by, id } => ids_inside(alloc, table, by.get().session, opened, *id),
         _ => Ok(Vec::new(alloc)),
     }
 }

@@ -54,15 +54,15 @@ fn by_of(event: &Event) -> By
     ensures { result ≡ by_of event.now }
 {
     match event {
-        Event::Id { by, .. } => *by,
-        Event::Sub { by, .. } => *by,
-        Event::Undo { by, .. } => *by,
-        Event::Commit { by, .. } => *by,
-        Event::Abort { by, .. } => *by,
-        Event::Snap { by, .. } => *by,
-        Event::SnapDrop { by, .. } => *by,
-        Event::Oldest { by, .. } => *by,
-        Event::Ask { by, .. } => *by,
+        Event::Id { by, .. } => by.get(),
+        Event::Sub { by, .. } => by.get(),
+        Event::Undo { by, .. } => by.get(),
+        Event::Commit { by, .. } => by.get(),
+        Event::Abort { by, .. } => by.get(),
+        Event::Snap { by, .. } => by.get(),
+        Event::SnapDrop { by, .. } => by.get(),
+        Event::Oldest { by, .. } => by.get(),
+        Event::Ask { by, .. } => by.get(),
     }
 }
 
@@ -78,43 +78,43 @@ fn go_on(table: &mut ProcTable, event: &Event, closed: &[FullXid]) -> Result<(),
     match event {
         Event::Id { by, id } => {
             table.made(*id);
-            match table.assign(*by) {
+            match table.assign(by.get()) {
                 Ok(Given::Id { .. }) => Ok(()),
                 _ => Err(Memory),
             }
         }
         Event::Sub { by, parent, id } => {
             table.made(*id);
-            match table.add_sub(*by, *parent) {
+            match table.add_sub(by.get(), *parent) {
                 Ok(Given::Id { .. }) => Ok(()),
                 _ => Err(Memory),
             }
         }
         Event::Undo { by, id } => {
-            table.undo(*by, *id, closed);
+            table.undo(by.get(), *id, closed);
             Ok(())
         }
         Event::Commit { by, top } => {
-            table.end(*by, *top, XactEnd::Commit);
+            table.end(by.get(), *top, XactEnd::Commit);
             Ok(())
         }
         Event::Abort { by, top } => {
-            table.end(*by, *top, XactEnd::Abort);
+            table.end(by.get(), *top, XactEnd::Abort);
             Ok(())
         }
-        Event::Snap { by, name } => match table.snapshot(*by, name) {
+        Event::Snap { by, name } => match table.snapshot(by.get(), name) {
             Ok(_snapshot) => Ok(()),
             Err(Memory) => Err(Memory),
         },
         Event::SnapDrop { by, name } => {
-            table.drop_snapshot(*by, name);
+            table.drop_snapshot(by.get(), name);
             Ok(())
         }
-        Event::Oldest { by, oldest } => match table.raise_oldest(*by, *oldest) {
+        Event::Oldest { by, oldest } => match table.raise_oldest(by.get(), *oldest) {
             Ok(()) => Ok(()),
             Err(_refusal) => Err(Memory),
         },
-        Event::Ask { by, id } => match table.ask(*by, *id) {
+        Event::Ask { by, id } => match table.ask(by.get(), *id) {
             Ok(_asked) => Ok(()),
             Err(Memory) => Err(Memory),
         },

@@ -24,8 +24,8 @@ new_ids p (events.Sub by under x) = refl
 new_ids p (events.Undo by x) = refl
 new_ids p (events.Commit by x) = refl
 new_ids p (events.Abort by x) = refl
-new_ids p (events.Snap by name) = refl
-new_ids p (events.SnapDrop by name) = refl
+new_ids p (events.Snap name by) = refl
+new_ids p (events.SnapDrop name by) = refl
 new_ids p (events.Oldest by oldest) = refl
 new_ids p (events.Ask by x) = refl
 
@@ -35,8 +35,8 @@ new_marks base h (events.Sub by under x) legal = (noted_sub base h by under x le
 new_marks base h (events.Undo by x) legal = tt
 new_marks base h (events.Commit by x) legal = tt
 new_marks base h (events.Abort by x) legal = tt
-new_marks base h (events.Snap by name) legal = tt
-new_marks base h (events.SnapDrop by name) legal = tt
+new_marks base h (events.Snap name by) legal = tt
+new_marks base h (events.SnapDrop name by) legal = tt
 new_marks base h (events.Oldest by oldest) legal = tt
 new_marks base h (events.Ask by x) legal = tt
 

@@ -28,8 +28,8 @@ step base h (events.Id by y) x legal may k c = committed_still base h (events.Id
 step base h (events.Sub by under y) x legal may k c = committed_still base h (events.Sub by under y) x legal may k (λ t. refl) ∙ c
 step base h (events.Undo by y) x legal may k c = committed_still base h (events.Undo by y) x legal may k (λ t. refl) ∙ c
 step base h (events.Abort by t) x legal may k c = committed_still base h (events.Abort by t) x legal may k (λ t. refl) ∙ c
-step base h (events.Snap by name) x legal may k c = committed_still base h (events.Snap by name) x legal may k (λ t. refl) ∙ c
-step base h (events.SnapDrop by name) x legal may k c = committed_still base h (events.SnapDrop by name) x legal may k (λ t. refl) ∙ c
+step base h (events.Snap name by) x legal may k c = committed_still base h (events.Snap name by) x legal may k (λ t. refl) ∙ c
+step base h (events.SnapDrop name by) x legal may k c = committed_still base h (events.SnapDrop name by) x legal may k (λ t. refl) ∙ c
 step base h (events.Oldest by oldest) x legal may k c = committed_still base h (events.Oldest by oldest) x legal may k (λ t. refl) ∙ c
 step base h (events.Ask by y) x legal may k c = committed_still base h (events.Ask by y) x legal may k (λ t. refl) ∙ c
 

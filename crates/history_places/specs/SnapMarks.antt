@@ -15,8 +15,8 @@ pub record IsMarkOf (held : SnapData) (told : Option SnapData) (m : SnapMark) : 
 
 -- where the event takes a snapshot, its mark; else none
 abbrev pub IsSnapMark : ℕ → List Event → Option SnapData → Event → Option SnapMark → Type 0
-IsSnapMark first before told (events.Snap by name) (Some m) = IsMarkOf (snapshot_data first before) told m
-IsSnapMark first before told (events.Snap by name) None = ⊥
+IsSnapMark first before told (events.Snap name by) (Some m) = IsMarkOf (snapshot_data first before) told m
+IsSnapMark first before told (events.Snap name by) None = ⊥
 IsSnapMark first before told e (Some m) = ⊥
 IsSnapMark first before told e None = Unit {0}
 

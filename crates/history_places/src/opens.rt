@@ -11,15 +11,15 @@ fn session_of(event: &Event) -> u32
     ensures { result ≡ (by_of event.now).session }
 {
     match event {
-        Event::Id { by, .. } => by.session,
-        Event::Sub { by, .. } => by.session,
-        Event::Undo { by, .. } => by.session,
-        Event::Commit { by, .. } => by.session,
-        Event::Abort { by, .. } => by.session,
-        Event::Snap { by, .. } => by.session,
-        Event::SnapDrop { by, .. } => by.session,
-        Event::Oldest { by, .. } => by.session,
-        Event::Ask { by, .. } => by.session,
+        Event::Id { by, .. } => by.get().session,
+        Event::Sub { by, .. } => by.get().session,
+        Event::Undo { by, .. } => by.get().session,
+        Event::Commit { by, .. } => by.get().session,
+        Event::Abort { by, .. } => by.get().session,
+        Event::Snap { by, .. } => by.get().session,
+        Event::SnapDrop { by, .. } => by.get().session,
+        Event::Oldest { by, .. } => by.get().session,
+        Event::Ask { by, .. } => by.get().session,
     }
 }
 

@@ -323,7 +323,7 @@ worked_lives = record {
   untold = λ w. false≢true (second_line no_memory replies.Done (log_down 2) (records.Commit 4 [] ∷ []) w 2 (line_of 0 5 commands.Commit (log_down 2)) refl).reply.2;
   refailed = λ w. not_twice w.life.log_fails_once;
   idless = λ w. false≢true (short_line [] idless_lines w 1 (line_of 0 2 commands.Abort bank_fault) refl).reply.0;
-  special = λ w. false≢true (short_line (events.Snap (by_at 0 1) its_name ∷ []) special_lines w 1 (line_of 0 2 (commands.See its_name (record { number = 1 })) bank_fault) refl).reply.0;
+  special = λ w. false≢true (short_line (events.Snap its_name (by_at 0 1) ∷ []) special_lines w 1 (line_of 0 2 (commands.See its_name (record { number = 1 })) bank_fault) refl).reply.0;
   giving = λ w. ⊎_elim
       (λ (e : events.Sub (by_at 0 6) 3 4 ∷ [] ≡ []). cc)
       (λ g. none_given (by_at 0 6) (by_at 0 6) g.0 g.2 g.1)

@@ -53,7 +53,7 @@ pub record MayReadIn (h : List Event) (round : RoundSpan) (by : By) (p : ℕ) : 
 
 -- where the command takes its snapshot, whichever name the event says
 abbrev pub IsSnapAt : List Event → By → ℕ → Type 0
-IsSnapAt h by place = (name : List ℕ) × (slice_get h place ≡ Some (events.Snap by name))
+IsSnapAt h by place = (name : List ℕ) × (slice_get h place ≡ Some (events.Snap name by))
 
 -- where it pins a multixact, whichever
 abbrev pub IsPinAt : List MultiEvent → By → ℕ → Type 0

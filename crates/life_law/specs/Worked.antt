@@ -150,7 +150,7 @@ special_lines =
     ∷ line_of 0 2 (commands.See its_name (record { number = 1 })) bank_fault ∷ []
 
 abbrev pub special_life : LifeReport
-special_life = short_life (events.Snap (by_at 0 1) its_name ∷ []) special_lines
+special_life = short_life (events.Snap its_name (by_at 0 1) ∷ []) special_lines
 
 -- a write that was refused for a pending abort gave an id to one of two savepoints
 abbrev pub giving_lines : List Line

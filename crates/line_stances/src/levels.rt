@@ -7,15 +7,22 @@ ghost use Rattle.tx_model.specs.Stance.{filled, lacking, top_level, without_last
 
 use std::alloc::Global;
 use std::marker::Model;
-use tx_events::{By, Event, FullXid, Memory};
+use tx_events::{By, ByWords, Event, FullXid, Memory};
 
 /// An id given below this parent.
 fn giving(by: By, parent: Option<FullXid>, id: FullXid) -> Event
     ensures { result ≡ giving by parent id }
 {
     match parent {
-        None => Event::Id { by, id },
-        Some(parent) => Event::Sub { by, parent, id },
+        None => Event::Id {
+            by: ByWords::of(by),
+            id,
+        },
+        Some(parent) => Event::Sub {
+            by: ByWords::of(by),
+            parent,
+            id,
+        },
     }
 }
 

@@ -58,30 +58,30 @@ taken_mark snaps p mark at = ap (taken_here p) at
 
 record Marks (first : ℕ) (before : List Event) (told : Option SnapData) (e : Event) (m : SnapMark) : Type 0 where
   name : List ℕ
-  is : e ≡ events.Snap (by_of e) name
+  is : e ≡ events.Snap name (by_of e)
   mark : IsMarkOf (snapshot_data first before) told m
 
 marks : (first : ℕ) (before : List Event) (told : Option SnapData) (e : Event) (m : SnapMark) → IsSnapMark first before told e (Some m) → Marks first before told e m
-marks first before told (events.Snap by name) m i = record { name = name; is = refl; mark = i }
+marks first before told (events.Snap name by) m i = record { name = name; is = refl; mark = i }
 marks first before told (events.Id by x) m i = absurd i
 marks first before told (events.Sub by under x) m i = absurd i
 marks first before told (events.Undo by x) m i = absurd i
 marks first before told (events.Commit by x) m i = absurd i
 marks first before told (events.Abort by x) m i = absurd i
-marks first before told (events.SnapDrop by name) m i = absurd i
+marks first before told (events.SnapDrop name by) m i = absurd i
 marks first before told (events.Oldest by oldest) m i = absurd i
 marks first before told (events.Ask by x) m i = absurd i
 
 -- a mark's event is a snapshot of the command that it is of
 snap_here : (first : ℕ) (h : List Event) (told : Option SnapData) (by : By) (p : ℕ) (e : Event) (m : SnapMark) → slice_get h p ≡ Some e → by_of e ≡ by → Marks first (take p h) told e m → IsSnapAt h by p
-snap_here first h told by p e m at its s = (s.name, at ∙ ap (λ (x : Event). Some x) (s.is ∙ ap (λ (b : By). events.Snap b s.name) its))
+snap_here first h told by p e m at its s = (s.name, at ∙ ap (λ (x : Event). Some x) (s.is ∙ ap (λ (b : By). events.Snap s.name b) its))
 
 record Marked (first : ℕ) (before : List Event) (told : Option SnapData) (o : Option SnapMark) : Type 0 where
   mark : SnapMark
   is : o ≡ Some mark
   so : IsMarkOf (snapshot_data first before) told mark
 
-of_snap : (first : ℕ) (before : List Event) (told : Option SnapData) (by : By) (name : List ℕ) (o : Option SnapMark) → IsSnapMark first before told (events.Snap by name) o → Marked first before told o
+of_snap : (first : ℕ) (before : List Event) (told : Option SnapData) (by : By) (name : List ℕ) (o : Option SnapMark) → IsSnapMark first before told (events.Snap name by) o → Marked first before told o
 of_snap first before told by name (Some m) i = record { mark = m; is = refl; so = i }
 of_snap first before told by name None i = absurd i
 
@@ -182,13 +182,13 @@ taken_are first h all told snaps by places front are up own = record {
       let r = each_place first h all told snaps by front are m.0 t ((own m.0).1 (has_contains places m.0 m.1)) m.2 in
       (subst (IsSnapAt h by) (sym r.1) r.0, r.2 ∙ ap (λ n. snapshot_xmax first (take n h)) (sym r.1));
   all = λ p s.
-      let low : p < length h = slice_get_within h p (events.Snap by s.0) s.1 in
+      let low : p < length h = slice_get_within h p (events.Snap s.0 by) s.1 in
       let size = are.size in
       let o = some_at snaps p (omega arith) in
-      let m = of_snap first (take p h) (told by) by s.0 o.0 (are.each p (events.Snap by s.0) o.0 s.1 o.1) in
+      let m = of_snap first (take p h) (told by) by s.0 o.0 (are.each p (events.Snap s.0 by) o.0 s.1 o.1) in
       let at : slice_get snaps p ≡ Some (Some m.mark) = o.1 ∙ ap Some m.is in
-      let there : slice_get all p ≡ Some (events.Snap by s.0) = in_front (length h) all p (events.Snap by s.0) (subst (λ (f : List Event). slice_get f p ≡ Some (events.Snap by s.0)) front s.1) in
-      let mine = (own p).0 (by_at all (events.Snap by s.0) p there) in
+      let there : slice_get all p ≡ Some (events.Snap s.0 by) = in_front (length h) all p (events.Snap s.0 by) (subst (λ (f : List Event). slice_get f p ≡ Some (events.Snap s.0 by)) front s.1) in
+      let mine = (own p).0 (by_at all (events.Snap s.0 by) p there) in
       let t : Taken = record { place = p; xmax = m.mark.xmax } in
       let held = filter_map_has (taken_at snaps) places p t (contains_has places p mine) (taken_mark snaps p m.mark at) in
       let q = has_place (filter_map (taken_at snaps) places) t held in

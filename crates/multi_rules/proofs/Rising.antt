@@ -62,7 +62,7 @@ pub in_history : (first : ℕ) (h : List Event) (by : By) (taken : List Taken) �
 in_history first h by taken a = record {
   within = λ i t e.
       let s = (a.each i t e).0 in
-      let l = slice_get_within h t.place (events.Snap by s.0) s.1 in
+      let l = slice_get_within h t.place (events.Snap s.0 by) s.1 in
       omega arith;
   rising = a.rising;
 }

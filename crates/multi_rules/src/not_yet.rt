@@ -119,10 +119,10 @@ fn session_at(places: &MultiPlaces, place: u64) -> u32
     ensures { (e : MultiEvent) → slice_get places.now.events place ≡ Some e → result ≡ (multi_by e).session }
 {
     match &places.events()[place as usize] {
-        MultiEvent::Gen { by, .. } => by.session,
-        MultiEvent::Hold { by, .. } => by.session,
-        MultiEvent::Unhold { by, .. } => by.session,
-        MultiEvent::Raise { by, .. } => by.session,
+        MultiEvent::Gen { by, .. } => by.get().session,
+        MultiEvent::Hold { by, .. } => by.get().session,
+        MultiEvent::Unhold { by, .. } => by.get().session,
+        MultiEvent::Raise { by, .. } => by.get().session,
     }
 }
 

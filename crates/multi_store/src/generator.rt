@@ -12,8 +12,8 @@ use crate::places::{first_member, place_of};
 use std::alloc::Global;
 use std::marker::Model;
 use tx_events::{
-    By, Copied, Counters, FullMulti, MemberList, MultiEvent, MultiId, Refusal, check_multi,
-    make_one_room, make_room, member_stop, near_multi,
+    By, ByWords, Copied, Counters, FullMulti, MemberList, MultiEvent, MultiId, Refusal,
+    check_multi, make_one_room, make_room, member_stop, near_multi,
 };
 
 /// The generator of multixacts, and their history so far. A contract sees the base of the life and the events.
@@ -81,7 +81,7 @@ impl MultiGen {
         make_room(&mut self.events, self.promised, 1)?;
         self.offsets.push_reserved(offset);
         self.events.push_reserved(MultiEvent::Gen {
-            by,
+            by: ByWords::of(by),
             multi,
             offset,
             members,
@@ -117,7 +117,10 @@ impl MultiGen {
             session: by.session,
         };
         add_pin(&mut self.pins, pin)?;
-        self.events.push_reserved(MultiEvent::Hold { by, multi });
+        self.events.push_reserved(MultiEvent::Hold {
+            by: ByWords::of(by),
+            multi,
+        });
         self.promised += 1;
         Ok(held)
     }
@@ -132,7 +135,10 @@ impl MultiGen {
             session: by.session,
         };
         drop_pin(&mut self.pins, pin);
-        self.events.push_reserved(MultiEvent::Unhold { by, multi });
+        self.events.push_reserved(MultiEvent::Unhold {
+            by: ByWords::of(by),
+            multi,
+        });
         self.promised -= 1;
     }
 
@@ -154,8 +160,11 @@ impl MultiGen {
             return Err(Refusal::Held { limit });
         }
         make_room(&mut self.events, self.promised, 1)?;
-        self.events
-            .push_reserved(MultiEvent::Raise { by, multi, offset });
+        self.events.push_reserved(MultiEvent::Raise {
+            by: ByWords::of(by),
+            multi,
+            offset,
+        });
         self.counters.oldest_multi = multi;
         self.counters.oldest_offset = offset;
         Ok(())

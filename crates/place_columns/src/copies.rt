@@ -24,15 +24,15 @@ impl Owned for Event {
 
     fn by(&self) -> By {
         match self {
-            Event::Id { by, .. } => *by,
-            Event::Sub { by, .. } => *by,
-            Event::Undo { by, .. } => *by,
-            Event::Commit { by, .. } => *by,
-            Event::Abort { by, .. } => *by,
-            Event::Snap { by, .. } => *by,
-            Event::SnapDrop { by, .. } => *by,
-            Event::Oldest { by, .. } => *by,
-            Event::Ask { by, .. } => *by,
+            Event::Id { by, .. } => by.get(),
+            Event::Sub { by, .. } => by.get(),
+            Event::Undo { by, .. } => by.get(),
+            Event::Commit { by, .. } => by.get(),
+            Event::Abort { by, .. } => by.get(),
+            Event::Snap { by, .. } => by.get(),
+            Event::SnapDrop { by, .. } => by.get(),
+            Event::Oldest { by, .. } => by.get(),
+            Event::Ask { by, .. } => by.get(),
         }
     }
 }
@@ -42,10 +42,10 @@ impl Owned for MultiEvent {
 
     fn by(&self) -> By {
         match self {
-            MultiEvent::Gen { by, .. } => *by,
-            MultiEvent::Hold { by, .. } => *by,
-            MultiEvent::Unhold { by, .. } => *by,
-            MultiEvent::Raise { by, .. } => *by,
+            MultiEvent::Gen { by, .. } => by.get(),
+            MultiEvent::Hold { by, .. } => by.get(),
+            MultiEvent::Unhold { by, .. } => by.get(),
+            MultiEvent::Raise { by, .. } => by.get(),
         }
     }
 }

@@ -29,8 +29,8 @@ step first h (events.Sub by parent id) before = kept first h (events.Sub by pare
 step first h (events.Undo by id) before = kept first h (events.Undo by id) (oldest_id first h) refl before
 step first h (events.Commit by top) before = kept first h (events.Commit by top) (oldest_id first h) refl before
 step first h (events.Abort by top) before = kept first h (events.Abort by top) (oldest_id first h) refl before
-step first h (events.Snap by name) before = kept first h (events.Snap by name) (oldest_id first h) refl before
-step first h (events.SnapDrop by name) before = kept first h (events.SnapDrop by name) (oldest_id first h) refl before
+step first h (events.Snap name by) before = kept first h (events.Snap name by) (oldest_id first h) refl before
+step first h (events.SnapDrop name by) before = kept first h (events.SnapDrop name by) (oldest_id first h) refl before
 step first h (events.Ask by id) before = kept first h (events.Ask by id) (oldest_id first h) refl before
 
 pub announced : (first : ℕ) (h : List Event) → (oldest_id first h ≡ first) ⊎ IsAnnounced h (oldest_id first h)

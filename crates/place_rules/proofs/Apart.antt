@@ -100,8 +100,8 @@ closes_its base h (events.Commit by id) t may c = ⊎_elim (λ u. subst (λ x. H
 closes_its base h (events.Abort by id) t may c = ⊎_elim (λ u. subst (λ x. Has (given_to by.session h) x) (eqb-true id t u) (opened by.session h id (contains_has (open_ids by.session h) id may.0))) (λ u. absurd cc) c
 closes_its base h (events.Id by id) t may c = ⊎_elim (λ u. absurd cc) (λ u. absurd cc) c
 closes_its base h (events.Sub by parent id) t may c = ⊎_elim (λ u. absurd cc) (λ u. absurd cc) c
-closes_its base h (events.Snap by name) t may c = ⊎_elim (λ u. absurd cc) (λ u. absurd cc) c
-closes_its base h (events.SnapDrop by name) t may c = ⊎_elim (λ u. absurd cc) (λ u. absurd cc) c
+closes_its base h (events.Snap name by) t may c = ⊎_elim (λ u. absurd cc) (λ u. absurd cc) c
+closes_its base h (events.SnapDrop name by) t may c = ⊎_elim (λ u. absurd cc) (λ u. absurd cc) c
 closes_its base h (events.Oldest by oldest) t may c = ⊎_elim (λ u. absurd cc) (λ u. absurd cc) c
 closes_its base h (events.Ask by id) t may c = ⊎_elim (λ u. absurd cc) (λ u. absurd cc) c
 

@@ -15,21 +15,21 @@ use Rattle.place_rules.proofs.Looking.{by_at, event_at, some_at, within}
 
 -- a snapshot's event is the command's
 pub snap_by : (h : List Event) (by : By) (p : ℕ) → IsSnapAt h by p → slice_get (map by_of h) p ≡ Some by
-snap_by h by p s = by_at h (events.Snap by s.0) p s.1
+snap_by h by p s = by_at h (events.Snap s.0 by) p s.1
 
 record Marks (first : ℕ) (before : List Event) (told : Option SnapData) (e : Event) (m : SnapMark) : Type 0 where
   name : List ℕ
-  is : e ≡ events.Snap (by_of e) name
+  is : e ≡ events.Snap name (by_of e)
   mark : IsMarkOf (snapshot_data first before) told m
 
 marks : (first : ℕ) (before : List Event) (told : Option SnapData) (e : Event) (m : SnapMark) → IsSnapMark first before told e (Some m) → Marks first before told e m
-marks first before told (events.Snap by name) m i = record { name = name; is = refl; mark = i }
+marks first before told (events.Snap name by) m i = record { name = name; is = refl; mark = i }
 marks first before told (events.Id by x) m i = absurd i
 marks first before told (events.Sub by under x) m i = absurd i
 marks first before told (events.Undo by x) m i = absurd i
 marks first before told (events.Commit by x) m i = absurd i
 marks first before told (events.Abort by x) m i = absurd i
-marks first before told (events.SnapDrop by name) m i = absurd i
+marks first before told (events.SnapDrop name by) m i = absurd i
 marks first before told (events.Oldest by oldest) m i = absurd i
 marks first before told (events.Ask by x) m i = absurd i
 
@@ -38,7 +38,7 @@ record Marked (first : ℕ) (before : List Event) (told : Option SnapData) (o : 
   is : o ≡ Some mark
   so : IsMarkOf (snapshot_data first before) told mark
 
-marked : (first : ℕ) (before : List Event) (told : Option SnapData) (by : By) (name : List ℕ) (o : Option SnapMark) → IsSnapMark first before told (events.Snap by name) o → Marked first before told o
+marked : (first : ℕ) (before : List Event) (told : Option SnapData) (by : By) (name : List ℕ) (o : Option SnapMark) → IsSnapMark first before told (events.Snap name by) o → Marked first before told o
 marked first before told by name (Some m) i = record { mark = m; is = refl; so = i }
 marked first before told by name None i = absurd i
 
@@ -52,12 +52,12 @@ right_iff s snaps p are told its = (
       let says : s.told (by_of e.event) ≡ Some (snapshot_data s.first (take p s.events)) = m.mark.right.0 r.right in
       let both : Some s.lists ≡ Some (snapshot_data s.first (take p s.events)) = sym told ∙ ap s.told (sym e.its) ∙ says in
       let same : s.lists ≡ snapshot_data s.first (take p s.events) = cc in
-      ((m.name, e.stands ∙ ap Some (m.is ∙ ap (λ (b : By). events.Snap b m.name) e.its)), same),
+      ((m.name, e.stands ∙ ap Some (m.is ∙ ap (λ (b : By). events.Snap m.name b) e.its)), same),
   λ q.
-      let low : p < length s.events = within s.events p (events.Snap s.by q.0.0) q.0.1 in
+      let low : p < length s.events = within s.events p (events.Snap q.0.0 s.by) q.0.1 in
       let n = are.size in
       let o = some_at snaps p (omega arith) in
-      let m = marked s.first (take p s.events) (s.told s.by) s.by q.0.0 o.0 (are.each p (events.Snap s.by q.0.0) o.0 q.0.1 o.1) in
+      let m = marked s.first (take p s.events) (s.told s.by) s.by q.0.0 o.0 (are.each p (events.Snap q.0.0 s.by) o.0 q.0.1 o.1) in
       record { mark = m.mark; stands = o.1 ∙ ap Some m.is; right = m.so.right.1 (told ∙ ap Some q.1) },
 )
 

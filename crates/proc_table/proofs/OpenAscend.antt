@@ -32,8 +32,8 @@ given_step base h (events.Sub by parent id) s legal may a = more_given base h (e
 given_step base h (events.Undo by id) s legal may a = none_given h (events.Undo by id) s refl a
 given_step base h (events.Commit by t) s legal may a = none_given h (events.Commit by t) s refl a
 given_step base h (events.Abort by t) s legal may a = none_given h (events.Abort by t) s refl a
-given_step base h (events.Snap by name) s legal may a = none_given h (events.Snap by name) s refl a
-given_step base h (events.SnapDrop by name) s legal may a = none_given h (events.SnapDrop by name) s refl a
+given_step base h (events.Snap name by) s legal may a = none_given h (events.Snap name by) s refl a
+given_step base h (events.SnapDrop name by) s legal may a = none_given h (events.SnapDrop name by) s refl a
 given_step base h (events.Oldest by oldest) s legal may a = none_given h (events.Oldest by oldest) s refl a
 given_step base h (events.Ask by id) s legal may a = none_given h (events.Ask by id) s refl a
 

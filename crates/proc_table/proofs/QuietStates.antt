@@ -50,13 +50,13 @@ state_raised base h n oldest late promised entries lives by new s turn from to =
 pub state_snapped : (base : Counters) (h : List Event) (n oldest late promised : ℕ) (entries : List Entry) (lives lives' : LiveSnapshots) (by : By) (name : List ℕ) (xmin : ℕ) →
     IsState base h n oldest late promised entries lives → InTurn by h → is_live base.next by.session name h ≡ false → xmin ≡ snapshot_xmin base.next h →
     ((ss : List LiveSnap) → HoldsLive ss lives → list_any (is_snap_of by.session name) ss ≡ false → HoldsLive (ss ++ record { session = by.session; name = name; xmin = xmin } ∷ []) lives') →
-    IsState base (h ++ events.Snap by name ∷ []) n oldest late (promised + 1) entries lives'
+    IsState base (h ++ events.Snap name by ∷ []) n oldest late (promised + 1) entries lives'
 state_snapped base h n oldest late promised entries lives lives' by name xmin s turn free e more =
     let same : xmin ≡ snapshot_xmin base.next (reverse (reverse h)) = e ∙ ap (snapshot_xmin base.next) (sym (reverse-reverse h)) in
     let snap : LiveSnap = record { session = by.session; name = name; xmin = snapshot_xmin base.next (reverse (reverse h)) } in
     let count : length (live_snaps base.next h ++ snap ∷ []) ≡ suc (length (live_snaps base.next h)) = length_push (live_snaps base.next h) snap in
     let room : length (running h) + length (live_snaps base.next h) ≤ promised = s.room in
-    state_quiet base h (events.Snap by name) n oldest oldest late promised (promised + 1) entries lives lives' s tt free turn refl s.oldest_to
+    state_quiet base h (events.Snap name by) n oldest oldest late promised (promised + 1) entries lives lives' s tt free turn refl s.oldest_to
     (subst (λ x. HoldsLive (live_snaps base.next h ++ record { session = by.session; name = name; xmin = x } ∷ []) lives') same (more (live_snaps base.next h) s.live free))
     (omega arith)
 
@@ -67,7 +67,7 @@ sum_ones (x ∷ xs) = let e : sum_by (λ _. 1) (x ∷ xs) ≡ 1 + sum_by (λ _. 
 
 pub state_dropped : (base : Counters) (h : List Event) (n oldest late promised : ℕ) (entries : List Entry) (lives lives' : LiveSnapshots) (by : By) (name : List ℕ) →
     IsState base h n oldest late promised entries lives → InTurn by h → is_live base.next by.session name h ≡ true → ((ss : List LiveSnap) → HoldsLive ss lives → HoldsLive (others by.session name ss) lives') →
-    (1 ≤ promised) × IsState base (h ++ events.SnapDrop by name ∷ []) n oldest late (promised - 1) entries lives'
+    (1 ≤ promised) × IsState base (h ++ events.SnapDrop name by ∷ []) n oldest late (promised - 1) entries lives'
 state_dropped base h n oldest late promised entries lives lives' by name s turn live less =
     let ss : List LiveSnap = live_snaps base.next h in
     let found = live_found ss by.session name live in
@@ -78,5 +78,5 @@ state_dropped base h n oldest late promised entries lives lives' by name s turn 
     let after : sum_by (λ _. 1) (others by.session name ss) ≡ length (others by.session name ss) = sum_ones (others by.session name ss) in
     let room : length (running h) + length ss ≤ promised = s.room in (
       omega arith,
-      state_quiet base h (events.SnapDrop by name) n oldest oldest late promised (promised - 1) entries lives lives' s tt live turn refl s.oldest_to (less ss s.live) (omega arith),
+      state_quiet base h (events.SnapDrop name by) n oldest oldest late promised (promised - 1) entries lives lives' s tt live turn refl s.oldest_to (less ss s.live) (omega arith),
     )

@@ -25,8 +25,8 @@ use crate::live::LiveSnapshots;
 use std::alloc::{AllocError, Global};
 use std::marker::Model;
 use tx_events::{
-    By, Copied, Counters, Event, EventList, FullXid, Memory, Name, Refusal, SnapData, XactEnd,
-    check_id, make_one_room, make_room, subtrans_page_in_full,
+    By, ByWords, Copied, Counters, Event, EventList, FullXid, Memory, Name, Refusal, SnapData,
+    XactEnd, check_id, make_one_room, make_room, subtrans_page_in_full,
 };
 
 /// The running transactions and the live snapshots of all sessions, and the history so far: what PostgreSQL keeps under
@@ -120,7 +120,10 @@ impl ProcTable {
         let alloc = *self.events.allocator();
         self.entries
             .push_reserved(Entry::of_top(alloc, by.session, id));
-        self.events.push_reserved(Event::Id { by, id });
+        self.events.push_reserved(Event::Id {
+            by: ByWords::of(by),
+            id,
+        });
         self.next = id.advance();
         self.owed_events += 1;
         Ok(Given::Id { id, warn })
@@ -143,7 +146,11 @@ impl ProcTable {
         make_sub_room(&mut self.entries, by.session)?;
         self.contents = None;
         add_id(&mut self.entries, by.session, id);
-        self.events.push_reserved(Event::Sub { by, parent, id });
+        self.events.push_reserved(Event::Sub {
+            by: ByWords::of(by),
+            parent,
+            id,
+        });
         self.next = id.advance();
         self.owed_events += 1;
         Ok(Given::Id { id, warn })
@@ -170,7 +177,10 @@ impl ProcTable {
         self.latest_completed = greatest(self.latest_completed, ids);
         self.contents = None;
         take_ids(&mut self.entries, by.session, ids);
-        self.events.push_reserved(Event::Undo { by, id });
+        self.events.push_reserved(Event::Undo {
+            by: ByWords::of(by),
+            id,
+        });
         self.owed_events -= 1;
     }
 
@@ -200,7 +210,7 @@ impl ProcTable {
         requires session { by.session < self.old.sessions }
         requires turn { InTurn by self.old.events }
         requires free { is_live self.old.base.next by.session name.now self.old.events ≡ false }
-        ensures { Takes self.old self.new (events.Snap by name.now) result }
+        ensures { Takes self.old self.new (events.Snap name.now by) result }
     {
         let taken = self.snapshot_data()?;
         self.register(by, name, taken.xmin)?;
@@ -213,11 +223,11 @@ impl ProcTable {
         requires turn { InTurn by self.old.events }
         requires free { is_live self.old.base.next by.session name.now self.old.events ≡ false }
         requires xmin { xmin ≡ (data_at self.old).xmin }
-        ensures ok { OnOk result (Adds self.old self.new (events.Snap by name.now)) }
+        ensures ok { OnOk result (Adds self.old self.new (events.Snap name.now by)) }
         ensures err { OnErr result (self.new ≡ self.old) }
     {
         let event = Event::Snap {
-            by,
+            by: ByWords::of(by),
             name: name.copy()?,
         };
         make_room(&mut self.events, self.owed_events, 2)?;
@@ -269,13 +279,16 @@ impl ProcTable {
         requires session { by.session < self.old.sessions }
         requires turn { InTurn by self.old.events }
         requires registered { is_live self.old.base.next by.session name.now self.old.events ≡ true }
-        ensures { Adds self.old self.new (events.SnapDrop by name.now) }
+        ensures { Adds self.old self.new (events.SnapDrop name.now by) }
     {
         let name = match self.live.take_out(by.session, name) {
             Some(name) => name,
             None => unreachable!(),
         };
-        self.events.push_reserved(Event::SnapDrop { by, name });
+        self.events.push_reserved(Event::SnapDrop {
+            by: ByWords::of(by),
+            name,
+        });
         self.owed_events -= 1;
     }
 
@@ -296,7 +309,10 @@ impl ProcTable {
             return Err(Refusal::TooNew { limit });
         }
         make_room(&mut self.events, self.owed_events, 1)?;
-        self.events.push_reserved(Event::Oldest { by, oldest });
+        self.events.push_reserved(Event::Oldest {
+            by: ByWords::of(by),
+            oldest,
+        });
         self.oldest = oldest;
         Ok(())
     }
@@ -315,7 +331,10 @@ impl ProcTable {
             next: self.next,
             oldest: self.oldest,
         };
-        self.events.push_reserved(Event::Ask { by, id: x });
+        self.events.push_reserved(Event::Ask {
+            by: ByWords::of(by),
+            id: x,
+        });
         Ok(asked)
     }
 

@@ -99,12 +99,12 @@ pub fn note_end(ends: &mut Ends, replay: &HistoryReplay, event: &Event) -> Resul
     }
     match event {
         Event::Commit { by, top } => {
-            let opened = replay.open_ids(by.session);
-            keep_end(ends, XactEnd::Commit, *by, *top, opened)
+            let opened = replay.open_ids(by.get().session);
+            keep_end(ends, XactEnd::Commit, by.get(), *top, opened)
         }
         Event::Abort { by, top } => {
-            let opened = replay.open_ids(by.session);
-            keep_end(ends, XactEnd::Abort, *by, *top, opened)
+            let opened = replay.open_ids(by.get().session);
+            keep_end(ends, XactEnd::Abort, by.get(), *top, opened)
         }
         _ => Ok(()),
     }

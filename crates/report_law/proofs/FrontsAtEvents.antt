@@ -26,12 +26,12 @@ AreWithin h n by = (p : ℕ) (e : Event) → slice_get h p ≡ Some e → by_of 
 
 pub snap_whole : (h : List Event) (n : ℕ) (by : By) (p : ℕ) → AreWithin h n by → IsSnapAt (take n h) by p ↔ IsSnapAt h by p
 snap_whole h n by p within = (
-  λ s. (s.0, sym (got p n h (got_within p n h (events.Snap by s.0) s.1)) ∙ s.1),
-  λ s. (s.0, got p n h (within p (events.Snap by s.0) s.1 refl) ∙ s.1),
+  λ s. (s.0, sym (got p n h (got_within p n h (events.Snap s.0 by) s.1)) ∙ s.1),
+  λ s. (s.0, got p n h (within p (events.Snap s.0 by) s.1 refl) ∙ s.1),
 )
 
 pub snap_place : (h : List Event) (n : ℕ) (by : By) (p : ℕ) → IsSnapAt (take n h) by p → p < n
-snap_place h n by p s = got_within p n h (events.Snap by s.0) s.1
+snap_place h n by p s = got_within p n h (events.Snap s.0 by) s.1
 
 pub ask_whole : (h : List Event) (n : ℕ) (by : By) (p : ℕ) → AreWithin h n by → IsAskAt (take n h) by p ↔ IsAskAt h by p
 ask_whole h n by p within = (

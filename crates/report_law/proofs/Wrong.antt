@@ -21,7 +21,7 @@ use Rattle.report_law.specs.WorkedMultis.{WorkedMultis, as_written, committed_me
 use Rattle.report_law.proofs.Told.{it_is_lawful}
 
 -- the id that was lost isn't visible to the snapshot that was taken first
-misjudged : (round : RoundSpan) (taken pinned multi place offset : ℕ) (snapped by : By) (name : List ℕ) (members : List Member) → slice_get its_events taken ≡ Some (events.Snap snapped name) → slice_get (its_multis 2) pinned ≡ Some (multis.Hold (by_at 0 3) multi)
+misjudged : (round : RoundSpan) (taken pinned multi place offset : ℕ) (snapped by : By) (name : List ℕ) (members : List Member) → slice_get its_events taken ≡ Some (events.Snap name snapped) → slice_get (its_multis 2) pinned ≡ Some (multis.Hold (by_at 0 3) multi)
     → place < pinned → slice_get (its_multis 2) place ≡ Some (multis.Gen by multi offset members)
     → AllZip (IsTold its_base (3 ∷ []) its_events round taken) members (record { id = 3; mode = committed_member.mode; verdict = verdicts.Visible } ∷ record { id = 4; mode = lost_member.mode; verdict = verdicts.Visible } ∷ []) → ⊥
 misjudged round (suc taken) pinned multi place offset snapped by name members s p l g a = absurd cc

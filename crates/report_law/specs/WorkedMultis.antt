@@ -32,7 +32,7 @@ abbrev pub its_base : Counters
 its_base = record { next = 5; oldest = 3; multi = 1; offset = 1; oldest_multi = 1; oldest_offset = 1 }
 
 abbrev pub its_events : List Event
-its_events = events.Snap (by_at 0 1) its_name ∷ []
+its_events = events.Snap its_name (by_at 0 1) ∷ []
 
 -- the members of the first multixact, and the one of the second
 abbrev pub committed_member : Member

@@ -27,8 +27,8 @@ event_again names (events.Sub by parent id) n f = rw (by_again names by _ n f.0,
 event_again names (events.Undo by id) n f = rw (by_again names by _ n f.0, number_at_again id [] f.1.0, id_again id f.1) refl
 event_again names (events.Commit by id) n f = rw (by_again names by _ n f.0, number_at_again id [] f.1.0, id_again id f.1) refl
 event_again names (events.Abort by id) n f = rw (by_again names by _ n f.0, number_at_again id [] f.1.0, id_again id f.1) refl
-event_again names (events.Snap by name) n f = rw (by_again names by _ n f.0, f.1) refl
-event_again names (events.SnapDrop by name) n f = rw (by_again names by _ n f.0, f.1) refl
+event_again names (events.Snap name by) n f = rw (by_again names by _ n f.0, f.1) refl
+event_again names (events.SnapDrop name by) n f = rw (by_again names by _ n f.0, f.1) refl
 event_again names (events.Oldest by id) n f = rw (by_again names by _ n f.0, number_at_again id [] f.1.0, id_again id f.1) refl
 event_again names (events.Ask by id) n f = rw (by_again names by _ n f.0, number_at_again id [] f.1.0, id_again id f.1) refl
 
@@ -39,8 +39,8 @@ event_are_words names (events.Sub by parent id) n f = (search rules, by_are_word
 event_are_words names (events.Undo by id) n f = (search rules, by_are_words names by (decimal id ∷ []) n f.0 (number_word id f.1.0, tt))
 event_are_words names (events.Commit by id) n f = (search rules, by_are_words names by (decimal id ∷ []) n f.0 (number_word id f.1.0, tt))
 event_are_words names (events.Abort by id) n f = (search rules, by_are_words names by (decimal id ∷ []) n f.0 (number_word id f.1.0, tt))
-event_are_words names (events.Snap by name) n f = (search rules, by_are_words names by (name ∷ []) n f.0 (name_word name f.1, tt))
-event_are_words names (events.SnapDrop by name) n f = (search rules, by_are_words names by (name ∷ []) n f.0 (name_word name f.1, tt))
+event_are_words names (events.Snap name by) n f = (search rules, by_are_words names by (name ∷ []) n f.0 (name_word name f.1, tt))
+event_are_words names (events.SnapDrop name by) n f = (search rules, by_are_words names by (name ∷ []) n f.0 (name_word name f.1, tt))
 event_are_words names (events.Oldest by id) n f = (search rules, by_are_words names by (decimal id ∷ []) n f.0 (number_word id f.1.0, tt))
 event_are_words names (events.Ask by id) n f = (search rules, by_are_words names by (decimal id ∷ []) n f.0 (number_word id f.1.0, tt))
 

@@ -22,8 +22,8 @@ id_event word by id ws =
 
 unfoldable pub event_rest_at : List ℕ → By → List (List ℕ) → Option Event
 event_rest_at word by ws =
-    cond (bytes_eq word (codes "snap")) (word_at ws >>= λ w. name_of w.0 >>= λ name. Some (events.Snap by name))
-    (cond (bytes_eq word (codes "drop")) (word_at ws >>= λ w. name_of w.0 >>= λ name. Some (events.SnapDrop by name))
+    cond (bytes_eq word (codes "snap")) (word_at ws >>= λ w. name_of w.0 >>= λ name. Some (events.Snap name by))
+    (cond (bytes_eq word (codes "drop")) (word_at ws >>= λ w. name_of w.0 >>= λ name. Some (events.SnapDrop name by))
     (number_at ws >>= λ n. full_id n.0 >>= λ id. id_event word by id n.1))
 
 unfoldable pub event_at : List (List ℕ) → List (List ℕ) → Option Event

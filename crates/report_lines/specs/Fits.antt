@@ -27,8 +27,8 @@ FitsEvent names (events.Sub by parent id) = FitsBy names by × FitsId parent × 
 FitsEvent names (events.Undo by id) = FitsBy names by × FitsId id
 FitsEvent names (events.Commit by top) = FitsBy names by × FitsId top
 FitsEvent names (events.Abort by top) = FitsBy names by × FitsId top
-FitsEvent names (events.Snap by name) = FitsBy names by × IsName name
-FitsEvent names (events.SnapDrop by name) = FitsBy names by × IsName name
+FitsEvent names (events.Snap name by) = FitsBy names by × IsName name
+FitsEvent names (events.SnapDrop name by) = FitsBy names by × IsName name
 FitsEvent names (events.Oldest by oldest) = FitsBy names by × FitsId oldest
 FitsEvent names (events.Ask by id) = FitsBy names by × FitsId id
 

@@ -13,7 +13,7 @@ use report_text::{Text, put_event};
 use report_words::{
     Unread, by_at, fits_by, full_id, id_fits, is_word, name_of, number_at, word_at,
 };
-use tx_events::FullXid;
+use tx_events::{ByWords, FullXid};
 use tx_model::{By, Event, Memory, NameList, is_name};
 
 /// An event that names one id that was given before.
@@ -22,19 +22,34 @@ fn plain_event(word: &[u8], by: By, id: FullXid) -> Option<Event>
     ensures { result ≡ plain_event word.now by id }
 {
     if is_word(word, b"undo") {
-        return Some(Event::Undo { by, id });
+        return Some(Event::Undo {
+            by: ByWords::of(by),
+            id,
+        });
     }
     if is_word(word, b"commit") {
-        return Some(Event::Commit { by, top: id });
+        return Some(Event::Commit {
+            by: ByWords::of(by),
+            top: id,
+        });
     }
     if is_word(word, b"abort") {
-        return Some(Event::Abort { by, top: id });
+        return Some(Event::Abort {
+            by: ByWords::of(by),
+            top: id,
+        });
     }
     if is_word(word, b"oldest") {
-        return Some(Event::Oldest { by, oldest: id });
+        return Some(Event::Oldest {
+            by: ByWords::of(by),
+            oldest: id,
+        });
     }
     if is_word(word, b"ask") {
-        return Some(Event::Ask { by, id });
+        return Some(Event::Ask {
+            by: ByWords::of(by),
+            id,
+        });
     }
     None
 }
@@ -45,13 +60,16 @@ fn id_event(word: &[u8], by: By, id: FullXid, rest: &[u8]) -> Result<Event, Unre
     ensures { Gives (λ x. x) result (id_event word.now by id (behind rest.now)) }
 {
     if is_word(word, b"id") {
-        return Ok(Event::Id { by, id });
+        return Ok(Event::Id {
+            by: ByWords::of(by),
+            id,
+        });
     }
     if is_word(word, b"sub") {
         let (below, _rest) = number_at(rest)?;
         let below = full_id(below)?;
         return Ok(Event::Sub {
-            by,
+            by: ByWords::of(by),
             parent: id,
             id: below,
         });
@@ -69,12 +87,18 @@ fn event_rest_at(word: &[u8], by: By, rest: &[u8]) -> Result<Event, Unread>
     if is_word(word, b"snap") {
         let (name, _rest) = word_at(rest)?;
         let name = name_of(name)?;
-        return Ok(Event::Snap { by, name });
+        return Ok(Event::Snap {
+            by: ByWords::of(by),
+            name,
+        });
     }
     if is_word(word, b"drop") {
         let (name, _rest) = word_at(rest)?;
         let name = name_of(name)?;
-        return Ok(Event::SnapDrop { by, name });
+        return Ok(Event::SnapDrop {
+            by: ByWords::of(by),
+            name,
+        });
     }
     let (id, rest) = number_at(rest)?;
     let id = full_id(id)?;
@@ -99,34 +123,34 @@ fn fits_event(names: &NameList, event: &Event) -> bool
     match event {
         Event::Id { by, id } => {
             id_fits(*id);
-            fits_by(names, *by)
+            fits_by(names, by.get())
         }
         Event::Sub { by, parent, id } => {
             id_fits(*parent);
             id_fits(*id);
-            fits_by(names, *by)
+            fits_by(names, by.get())
         }
         Event::Undo { by, id } => {
             id_fits(*id);
-            fits_by(names, *by)
+            fits_by(names, by.get())
         }
         Event::Commit { by, top } => {
             id_fits(*top);
-            fits_by(names, *by)
+            fits_by(names, by.get())
         }
         Event::Abort { by, top } => {
             id_fits(*top);
-            fits_by(names, *by)
+            fits_by(names, by.get())
         }
-        Event::Snap { by, name } => fits_by(names, *by) && is_name(name.items()),
-        Event::SnapDrop { by, name } => fits_by(names, *by) && is_name(name.items()),
+        Event::Snap { by, name } => fits_by(names, by.get()) && is_name(name.items()),
+        Event::SnapDrop { by, name } => fits_by(names, by.get()) && is_name(name.items()),
         Event::Oldest { by, oldest } => {
             id_fits(*oldest);
-            fits_by(names, *by)
+            fits_by(names, by.get())
         }
         Event::Ask { by, id } => {
             id_fits(*id);
-            fits_by(names, *by)
+            fits_by(names, by.get())
         }
     }
 }

@@ -14,7 +14,7 @@ use report_words::{
     word_at,
 };
 use std::alloc::Global;
-use tx_events::FullMulti;
+use tx_events::{ByWords, FullMulti};
 use tx_model::{By, MemberList, Memory, MultiEvent, NameList, Sequence};
 
 #[tactic(auto, unfolding(crate::specs::Events::gen_at))]
@@ -25,7 +25,7 @@ fn gen_at(alloc: Global, by: By, multi: FullMulti, rest: &[u8]) -> Result<MultiE
     let mut members = Sequence::new(alloc);
     let _rest = read_members(&mut members, rest)?;
     Ok(MultiEvent::Gen {
-        by,
+        by: ByWords::of(by),
         multi,
         offset,
         members: MemberList::of(alloc, members)?,
@@ -46,14 +46,24 @@ fn multi_rest_at(
         return gen_at(alloc, by, multi, rest);
     }
     if is_word(word, b"hold") {
-        return Ok(MultiEvent::Hold { by, multi });
+        return Ok(MultiEvent::Hold {
+            by: ByWords::of(by),
+            multi,
+        });
     }
     if is_word(word, b"unhold") {
-        return Ok(MultiEvent::Unhold { by, multi });
+        return Ok(MultiEvent::Unhold {
+            by: ByWords::of(by),
+            multi,
+        });
     }
     if is_word(word, b"raise") {
         let (offset, _rest) = number_at(rest)?;
-        return Ok(MultiEvent::Raise { by, multi, offset });
+        return Ok(MultiEvent::Raise {
+            by: ByWords::of(by),
+            multi,
+            offset,
+        });
     }
     Err(Unread::Form)
 }
@@ -85,20 +95,20 @@ fn fits_multi_event(names: &NameList, event: &MultiEvent) -> bool
             multi_fits(*multi);
             members_fit(members);
             let _offset = *offset;
-            fits_by(names, *by)
+            fits_by(names, by.get())
         }
         MultiEvent::Hold { by, multi } => {
             multi_fits(*multi);
-            fits_by(names, *by)
+            fits_by(names, by.get())
         }
         MultiEvent::Unhold { by, multi } => {
             multi_fits(*multi);
-            fits_by(names, *by)
+            fits_by(names, by.get())
         }
         MultiEvent::Raise { by, multi, offset } => {
             multi_fits(*multi);
             let _offset = *offset;
-            fits_by(names, *by)
+            fits_by(names, by.get())
         }
     }
 }

@@ -1,3 +1,2 @@
 pub mod MoreWords
-pub mod Laid
 pub mod Differing

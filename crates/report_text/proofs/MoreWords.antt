@@ -24,6 +24,11 @@ pub no_more : (o : List ℕ) → o ++ more [] ≡ o
 unfolding more
 no_more o = append-nil o
 
+-- a word behind a space
+pub one_word : (o w : List ℕ) → o ++ 32 ∷ w ≡ o ++ more (w ∷ [])
+unfolding more
+one_word o w = ap (λ t. o ++ 32 ∷ t) (sym (append-nil w))
+
 -- a piece joined to a word by a colon
 then_joined : (o w p : List ℕ) → (o ++ more (w ∷ [])) ++ 58 ∷ p ≡ o ++ more ((w ++ 58 ∷ p) ∷ [])
 unfolding more
@@ -40,8 +45,8 @@ then_one_at f o xs i x h =
 then_one_word : {X : Type 0} (f : X → List ℕ) (o : List ℕ) (xs : List X) (i : ℕ) (x : X) → i < length xs → x ≡ get_or xs i x → (o ++ more (map f (take i xs))) ++ more (f x ∷ []) ≡ o ++ more (map f (take (i + 1) xs))
 then_one_word f o xs i x h e = ap (λ y. (o ++ more (map f (take i xs))) ++ more (f y ∷ [])) e ∙ then_one_at f o xs i x h
 
-pub then_one_number : (o : List ℕ) (ns : List ℕ) (i x : ℕ) → i < length ns → x ≡ get_or ns i x → (o ++ more (numbers (take i ns))) ++ more (decimal x ∷ []) ≡ o ++ more (numbers (take (i + 1) ns))
-then_one_number o ns i x h e = then_one_word decimal o ns i x h e
+pub then_one_number : (o : List ℕ) (ns : List ℕ) (i x : ℕ) → i < length ns → x ≡ get_or ns i x → (o ++ more (numbers (take i ns))) ++ 32 ∷ decimal x ≡ o ++ more (numbers (take (i + 1) ns))
+then_one_number o ns i x h e = one_word (o ++ more (numbers (take i ns))) (decimal x) ∙ then_one_word decimal o ns i x h e
 
 pub then_one_pair : (o : List ℕ) (xs : List Pair) (i : ℕ) (x : Pair) → i < length xs → (o ++ more (pair_words (take i xs))) ++ more (pair_word (get_or xs i x) ∷ []) ≡ o ++ more (pair_words (take (i + 1) xs))
 then_one_pair o xs i x h = then_one_at pair_word o xs i x h

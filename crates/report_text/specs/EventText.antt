@@ -21,8 +21,8 @@ event_word (events.Sub by parent id) = codes "sub"
 event_word (events.Undo by id) = codes "undo"
 event_word (events.Commit by top) = codes "commit"
 event_word (events.Abort by top) = codes "abort"
-event_word (events.Snap by name) = codes "snap"
-event_word (events.SnapDrop by name) = codes "drop"
+event_word (events.Snap name by) = codes "snap"
+event_word (events.SnapDrop name by) = codes "drop"
 event_word (events.Oldest by oldest) = codes "oldest"
 event_word (events.Ask by id) = codes "ask"
 
@@ -33,8 +33,8 @@ event_rest (events.Sub by parent id) = decimal parent ∷ decimal id ∷ []
 event_rest (events.Undo by id) = decimal id ∷ []
 event_rest (events.Commit by top) = decimal top ∷ []
 event_rest (events.Abort by top) = decimal top ∷ []
-event_rest (events.Snap by name) = name ∷ []
-event_rest (events.SnapDrop by name) = name ∷ []
+event_rest (events.Snap name by) = name ∷ []
+event_rest (events.SnapDrop name by) = name ∷ []
 event_rest (events.Oldest by oldest) = decimal oldest ∷ []
 event_rest (events.Ask by id) = decimal id ∷ []
 

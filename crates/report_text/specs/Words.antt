@@ -1,5 +1,5 @@
 -- Words, and lines of them.
-use Rattle.std.specs.Prelude.{ℕ, ◌+◌, ◌/◌, ◌%◌, List, [], ◌∷◌, ◌++◌, slice_get, unwrap_or, map, Bool, cond, codes}
+use Rattle.std.specs.Prelude.{ℕ, List, [], ◌∷◌, ◌++◌, slice_get, unwrap_or, map, Bool, cond, codes}
 use Rattle.std.specs.List.{flat_map}
 use Rattle.std.specs.Fmt.{decimal}
 
@@ -9,10 +9,6 @@ colon = 58
 -- words behind the first one, each after a space
 unfoldable pub more : List (List ℕ) → List ℕ
 more words = flat_map (λ w. 32 ∷ w) words
-
--- the two digits of a number below 100
-abbrev pub pair : ℕ → List ℕ
-pair n = (48 + n / 10) ∷ (48 + n % 10) ∷ []
 
 -- a line: its words with one space between them, and the line's end
 unfoldable pub line_text : List (List ℕ) → List ℕ

@@ -1,7 +1,6 @@
 //! The report that the tool writes, as text (docs/SCRIPT-AND-REPORT.md).
 #![tactic(auto)]
 
-mod bytes;
 mod command;
 mod event;
 mod member;
@@ -11,7 +10,6 @@ mod record;
 mod refusal;
 mod reply;
 mod report;
-mod room;
 mod step;
 mod text;
 

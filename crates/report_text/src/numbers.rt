@@ -2,7 +2,7 @@
 ghost use Rattle.std.specs.Prelude.{◌≡◌, ◌++◌, OnOk};
 ghost use Rattle.report_text.specs.Words.{more, numbers};
 
-use crate::bytes::Bytes;
+use text_bytes::Bytes;
 use tx_events::{FullXid, Memory};
 
 /// The numbers, each behind a space.

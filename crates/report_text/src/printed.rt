@@ -2,10 +2,10 @@
 ghost use Rattle.std.specs.Prelude.{◌≡◌, ◌++◌, [], IsTrue, OnOk, length};
 ghost use Rattle.report_text.specs.Words.{more, numbers};
 
-use crate::bytes::Bytes;
 use crate::numbers::push_numbers;
 use std::alloc::Global;
 use std::marker::Model;
+use text_bytes::Bytes;
 use tx_events::{FullXid, Memory};
 
 // Shorter lists are printed anew.

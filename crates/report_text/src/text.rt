@@ -3,12 +3,12 @@ ghost use Rattle.std.specs.Prelude.{◌≡◌, ◌≤◌, ℕ, List, [], ◌∷�
 ghost use Rattle.std.specs.Fmt.{decimal};
 ghost use Rattle.report_text.specs.Words.{more, line_text, numbers, numbers_or_dash, yes_or_no, name_at};
 
-use crate::bytes::Bytes;
 use crate::numbers::push_numbers;
 use crate::printed::Printed;
 use itoa::Buffer;
 use std::alloc::Global;
 use std::marker::Model;
+use text_bytes::Bytes;
 use tx_model::{IdList, Memory, NameList, SharedIds};
 
 /// A text. After want of memory it may have grown by a part of what was to be added.
@@ -65,6 +65,7 @@ impl Text {
     }
 
     /// A name behind a space.
+    #[tactic(auto, using(crate::proofs::MoreWords::one_word))]
     pub fn name(&mut self, name: &[u8]) -> Result<(), Memory>
         ensures ok { OnOk result (self.new ≡ self.old ++ more (name.now ∷ [])) }
     {
@@ -85,6 +86,7 @@ impl Text {
     }
 
     /// A number behind a space.
+    #[tactic(auto, using(crate::proofs::MoreWords::one_word))]
     pub fn number(&mut self, n: u64) -> Result<(), Memory>
         ensures ok { OnOk result (self.new ≡ self.old ++ more (decimal n ∷ [])) }
     {

@@ -100,7 +100,7 @@ given_count (e ∷ h) = let c = count_cons gives_id e h in let i = given_count h
     one (events.Undo by id) c i = omega arith
     one (events.Commit by top) c i = omega arith
     one (events.Abort by top) c i = omega arith
-    one (events.Snap by name) c i = omega arith
-    one (events.SnapDrop by name) c i = omega arith
+    one (events.Snap name by) c i = omega arith
+    one (events.SnapDrop name by) c i = omega arith
     one (events.Oldest by oldest) c i = omega arith
     one (events.Ask by id) c i = omega arith

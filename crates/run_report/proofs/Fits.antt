@@ -212,8 +212,8 @@ reply_fits f before round span by s o c r t k e m h = plain_reply_fits f round b
 
 -- the names of snapshots, and the ids that are asked for or announced
 abbrev pub NamesFit : Event → Type 0
-NamesFit (events.Snap by name) = IsName name
-NamesFit (events.SnapDrop by name) = IsName name
+NamesFit (events.Snap name by) = IsName name
+NamesFit (events.SnapDrop name by) = IsName name
 NamesFit (events.Oldest by oldest) = FitsId oldest
 NamesFit (events.Ask by id) = FitsId id
 NamesFit _ = Unit {0}
@@ -299,8 +299,8 @@ event_fits names (events.Sub by parent id) f n i = (f, i.0, i.1)
 event_fits names (events.Undo by id) f n i = (f, i)
 event_fits names (events.Commit by top) f n i = (f, i)
 event_fits names (events.Abort by top) f n i = (f, i)
-event_fits names (events.Snap by name) f n i = (f, n)
-event_fits names (events.SnapDrop by name) f n i = (f, n)
+event_fits names (events.Snap name by) f n i = (f, n)
+event_fits names (events.SnapDrop name by) f n i = (f, n)
 event_fits names (events.Oldest by oldest) f n i = (f, n)
 event_fits names (events.Ask by id) f n i = (f, n)
 
@@ -314,8 +314,8 @@ fits_by names (events.Sub by parent id) f = f.0
 fits_by names (events.Undo by id) f = f.0
 fits_by names (events.Commit by top) f = f.0
 fits_by names (events.Abort by top) f = f.0
-fits_by names (events.Snap by name) f = f.0
-fits_by names (events.SnapDrop by name) f = f.0
+fits_by names (events.Snap name by) f = f.0
+fits_by names (events.SnapDrop name by) f = f.0
 fits_by names (events.Oldest by oldest) f = f.0
 fits_by names (events.Ask by id) f = f.0
 

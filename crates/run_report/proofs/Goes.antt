@@ -36,8 +36,8 @@ AreOf commands.Write es = (by : By) × (parent : Option ℕ) × (id : ℕ) × (e
 AreOf commands.Undo es = (by : By) × (id : ℕ) × (es ≡ events.Undo by id ∷ [])
 AreOf commands.Commit es = (by : By) × (top : ℕ) × (es ≡ events.Commit by top ∷ [])
 AreOf commands.Abort es = (by : By) × (top : ℕ) × (es ≡ events.Abort by top ∷ [])
-AreOf (commands.Snap name) es = (by : By) × (es ≡ events.Snap by name ∷ [])
-AreOf (commands.DropSnap name) es = (by : By) × (es ≡ events.SnapDrop by name ∷ [])
+AreOf (commands.Snap name) es = (by : By) × (es ≡ events.Snap name by ∷ [])
+AreOf (commands.DropSnap name) es = (by : By) × (es ≡ events.SnapDrop name by ∷ [])
 AreOf command es = es ≡ []
 
 -- ---- where in a transaction a session is

@@ -77,8 +77,8 @@ ids_fit base h (events.Sub by parent id) b legal = (
 ids_fit base h (events.Undo by id) b legal = given_fits base h b (legal_front base h (events.Undo by id) legal) id (open_given by.session h id (contains_has (open_ids by.session h) id (legal_last base h (events.Undo by id) legal).0))
 ids_fit base h (events.Commit by t) b legal = given_fits base h b (legal_front base h (events.Commit by t) legal) t (open_given by.session h t (contains_has (open_ids by.session h) t (legal_last base h (events.Commit by t) legal).0))
 ids_fit base h (events.Abort by t) b legal = given_fits base h b (legal_front base h (events.Abort by t) legal) t (open_given by.session h t (contains_has (open_ids by.session h) t (legal_last base h (events.Abort by t) legal).0))
-ids_fit base h (events.Snap by name) b legal = tt
-ids_fit base h (events.SnapDrop by name) b legal = tt
+ids_fit base h (events.Snap name by) b legal = tt
+ids_fit base h (events.SnapDrop name by) b legal = tt
 ids_fit base h (events.Oldest by oldest) b legal = tt
 ids_fit base h (events.Ask by id) b legal = tt
 
@@ -139,13 +139,13 @@ abbrev XminsFit : List LiveSnap → Type 0
 XminsFit snaps = (s : LiveSnap) → Has snaps s → FitsId s.xmin
 
 live_step : (base : Counters) (h : List Event) (e : Event) → IsBase base → IsLegal base h → XminsFit (live_snaps base.next h) → XminsFit (live_up base.next (e ∷ reverse h))
-live_step base h (events.Snap by taken) b legal before s k =
+live_step base h (events.Snap taken by) b legal before s k =
     let first = base.next in
     let fits : FitsId (snapshot_xmin first (reverse (reverse h))) = subst (λ (t : List Event). FitsId (snapshot_xmin first t)) (sym (reverse-reverse h)) (snap_fits base h b legal).xmin in
     ⊎_elim (before s)
     (λ c. ⊎_elim (λ (q : record { session = by.session; name = taken; xmin = snapshot_xmin first (reverse (reverse h)) } ≡ s). subst (λ (z : LiveSnap). FitsId z.xmin) q fits) (λ z. absurd z) c)
     (has_cases (live_snaps first h) (record { session = by.session; name = taken; xmin = snapshot_xmin first (reverse (reverse h)) } ∷ []) s k)
-live_step base h (events.SnapDrop by dropped) b legal before s k = before s (has_filter (λ s. not (is_snap_of by.session dropped s)) (live_snaps base.next h) s k).0
+live_step base h (events.SnapDrop dropped by) b legal before s k = before s (has_filter (λ s. not (is_snap_of by.session dropped s)) (live_snaps base.next h) s k).0
 live_step base h _ b legal before s k = before s k
 
 live_fit : (base : Counters) (h : List Event) → IsBase base → IsLegal base h → XminsFit (live_snaps base.next h)

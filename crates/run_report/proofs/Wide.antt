@@ -53,8 +53,8 @@ given_taken (suc n) (events.Sub by parent id ∷ h) = let i = given_taken n h in
 given_taken (suc n) (events.Undo by id ∷ h) = given_taken n h
 given_taken (suc n) (events.Commit by top ∷ h) = given_taken n h
 given_taken (suc n) (events.Abort by top ∷ h) = given_taken n h
-given_taken (suc n) (events.Snap by name ∷ h) = given_taken n h
-given_taken (suc n) (events.SnapDrop by name ∷ h) = given_taken n h
+given_taken (suc n) (events.Snap name by ∷ h) = given_taken n h
+given_taken (suc n) (events.SnapDrop name by ∷ h) = given_taken n h
 given_taken (suc n) (events.Oldest by oldest ∷ h) = given_taken n h
 given_taken (suc n) (events.Ask by id ∷ h) = given_taken n h
 

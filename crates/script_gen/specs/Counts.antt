@@ -32,7 +32,7 @@ is_abort (events.Abort by top) = true
 is_abort event = false
 
 abbrev pub is_snap : Event → Bool
-is_snap (events.Snap by name) = true
+is_snap (events.Snap name by) = true
 is_snap event = false
 
 -- how many events of each kind there are

@@ -94,9 +94,9 @@ told_dropped name (k ∷ registered) = either (same_name k.name name) (told_drop
 
 -- a snapshot that is taken
 pub acts_snapped : (base : Counters) (by : By) (h : List Event) (levels : List (Option ℕ)) (registered : List RegisteredSnapshot) (k : RegisteredSnapshot) (lists : SnapData) → lists ≡ snapshot_data base.next h → find (λ x. same_name x.name k.name) registered ≡ None → length registered < 64 → k.command ≡ by.command →
-    Acts base by (record { levels = levels; snaps = map told_of registered }) (record { levels = levels; snaps = map told_of (registered ++ k ∷ []) }) (commands.Snap k.name) (replies.Snapped lists) h (h ++ events.Snap by k.name ∷ [])
+    Acts base by (record { levels = levels; snaps = map told_of registered }) (record { levels = levels; snaps = map told_of (registered ++ k ∷ []) }) (commands.Snap k.name) (replies.Snapped lists) h (h ++ events.Snap k.name by ∷ [])
 acts_snapped base by h levels registered k lists l free room c = record {
-  added = events.Snap by k.name ∷ [];
+  added = events.Snap k.name by ∷ [];
   grown = refl;
   own = (refl, tt);
   fitting = refl;
@@ -104,17 +104,17 @@ acts_snapped base by h levels registered k lists l free room c = record {
     snap_missing k.name levels registered free,
     omega (arith, length-map registered told_of),
     length h,
-    last_at h (events.Snap by k.name),
-    l ∙ ap (snapshot_data base.next) (sym (take-append_seam h ((events.Snap by k.name) ∷ []))),
+    last_at h (events.Snap k.name by),
+    l ∙ ap (snapshot_data base.next) (sym (take-append_seam h ((events.Snap k.name by) ∷ []))),
   );
   left = ap (λ n. record { levels = levels; snaps = map told_of registered ++ (k.name, n) ∷ [] }) (sym c) ∙ ap (λ s. record { levels = levels; snaps = s }) (sym (map_push told_of registered k));
 }
 
 -- and one that is dropped
 pub acts_dropped : (base : Counters) (by : By) (h : List Event) (levels : List (Option ℕ)) (registered : List RegisteredSnapshot) (name : List ℕ) → list_any (λ x. same_name x.name name) registered ≡ true →
-    Acts base by (record { levels = levels; snaps = map told_of registered }) (record { levels = levels; snaps = map told_of (filter (λ k. not (same_name k.name name)) registered) }) (commands.DropSnap name) replies.Done h (h ++ events.SnapDrop by name ∷ [])
+    Acts base by (record { levels = levels; snaps = map told_of registered }) (record { levels = levels; snaps = map told_of (filter (λ k. not (same_name k.name name)) registered) }) (commands.DropSnap name) replies.Done h (h ++ events.SnapDrop name by ∷ [])
 acts_dropped base by h levels registered name some = record {
-  added = events.SnapDrop by name ∷ [];
+  added = events.SnapDrop name by ∷ [];
   grown = refl;
   own = (refl, tt);
   fitting = refl;

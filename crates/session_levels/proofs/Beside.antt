@@ -65,11 +65,11 @@ not_dropped session other name dropped s n e =
     ap (λ b. not (b && same_name s.name dropped)) (ne_eqb s.session other (λ q. n (sym q ∙ mine)))
 
 live_up_beside : (first session : ℕ) (name : List ℕ) (e : Event) (older : List Event) → (by_of e).session ≢ session → list_any (is_snap_of session name) (live_up first (e ∷ older)) ≡ list_any (is_snap_of session name) (live_up first older)
-live_up_beside first session name (events.Snap by taken) older n =
+live_up_beside first session name (events.Snap taken by) older n =
     list_any-push (is_snap_of session name) (live_up first older) _
     ∙ ap (λ b. list_any (is_snap_of session name) (live_up first older) || (b && same_name taken name)) (ne_eqb by.session session n)
     ∙ or-false (list_any (is_snap_of session name) (live_up first older))
-live_up_beside first session name (events.SnapDrop by dropped) older n =
+live_up_beside first session name (events.SnapDrop dropped by) older n =
     any_kept (is_snap_of session name) (λ s. not (is_snap_of by.session dropped s)) (λ s. not_dropped session by.session name dropped s n) (live_up first older)
 live_up_beside first session name (events.Id by id) older n = refl
 live_up_beside first session name (events.Sub by parent id) older n = refl

@@ -54,9 +54,9 @@ stood_quiet base h by e opened named unnamed registered registered' q own live s
 
 -- a session that takes a snapshot
 pub stood_snapped : (base : Counters) (h : List Event) (by : By) (opened named : List ℕ) (unnamed : ℕ) (registered : List RegisteredSnapshot) (k : RegisteredSnapshot) → k.command ≡ by.command → k.place ≡ length h → k.snapshot ≡ snapshot_data base.next h →
-    Stood base h by.session by.command opened named unnamed registered → Stood base (h ++ events.Snap by k.name ∷ []) by.session by.command opened named unnamed (registered ++ k ∷ [])
+    Stood base h by.session by.command opened named unnamed registered → Stood base (h ++ events.Snap k.name by ∷ []) by.session by.command opened named unnamed (registered ++ k ∷ [])
 stood_snapped base h by opened named unnamed registered k c p d s =
-    let e : Event = events.Snap by k.name in
+    let e : Event = events.Snap k.name by in
     stood_quiet base h by e opened named unnamed registered (registered ++ k ∷ []) tt refl
     (λ name. ap (list_any (is_snap_of by.session name)) (live_push base.next h e)
     ∙ list_any-push (is_snap_of by.session name) (live_up base.next (reverse h)) _
@@ -106,8 +106,8 @@ other_snap session name other l f t = one (l.session == session) t
     one false e = refl
 
 live_dropped : (first : ℕ) (h : List Event) (by : By) (name other : List ℕ) (registered : List RegisteredSnapshot) → ((n : List ℕ) → is_live first by.session n h ≡ list_any (λ k. same_name k.name n) registered) →
-    is_live first by.session other (h ++ events.SnapDrop by name ∷ []) ≡ list_any (λ k. same_name k.name other) (filter (λ k. not (same_name k.name name)) registered)
-live_dropped first h by name other registered live = ap (list_any (is_snap_of by.session other)) (live_push first h (events.SnapDrop by name)) ∙ one (same_name name other) refl
+    is_live first by.session other (h ++ events.SnapDrop name by ∷ []) ≡ list_any (λ k. same_name k.name other) (filter (λ k. not (same_name k.name name)) registered)
+live_dropped first h by name other registered live = ap (list_any (is_snap_of by.session other)) (live_push first h (events.SnapDrop name by)) ∙ one (same_name name other) refl
   where
     one : (b : Bool) → same_name name other ≡ b →
         list_any (is_snap_of by.session other) (filter (λ l. not (is_snap_of by.session name l)) (live_snaps first h)) ≡ list_any (λ k. same_name k.name other) (filter (λ k. not (same_name k.name name)) registered)
@@ -119,9 +119,9 @@ live_dropped first h by name other registered live = ap (list_any (is_snap_of by
 
 -- a session that drops one
 pub stood_dropped : (base : Counters) (h : List Event) (by : By) (name : List ℕ) (opened named : List ℕ) (unnamed : ℕ) (registered : List RegisteredSnapshot) →
-    Stood base h by.session by.command opened named unnamed registered → Stood base (h ++ events.SnapDrop by name ∷ []) by.session by.command opened named unnamed (filter (λ k. not (same_name k.name name)) registered)
+    Stood base h by.session by.command opened named unnamed registered → Stood base (h ++ events.SnapDrop name by ∷ []) by.session by.command opened named unnamed (filter (λ k. not (same_name k.name name)) registered)
 stood_dropped base h by name opened named unnamed registered s =
-    let e : Event = events.SnapDrop by name in
+    let e : Event = events.SnapDrop name by in
     stood_quiet base h by e opened named unnamed registered (filter (λ k. not (same_name k.name name)) registered) tt refl
     (λ other. live_dropped base.next h by name other registered s.live)
     (all_filter (IsRegistered base (h ++ e ∷ []) by.session) (λ k. not (same_name k.name name)) registered (kept_grows base h (e ∷ []) by.session registered s.snaps))

@@ -34,7 +34,7 @@ stance_of s = record { levels = levels_of s.level_ids.items s.unnamed; snaps = m
 
 -- the snapshot was taken at its place
 pub record IsRegistered (base : Counters) (h : List Event) (session : ℕ) (k : RegisteredSnapshot) : Type 0 where
-  pub taken : slice_get h k.place ≡ Some (events.Snap (record { session = session; command = k.command }) k.name)
+  pub taken : slice_get h k.place ≡ Some (events.Snap k.name (record { session = session; command = k.command }))
   pub holds : k.snapshot ≡ snapshot_data base.next (take k.place h)
 
 -- a savepoint's id: the ids given in it are the open ones from it on

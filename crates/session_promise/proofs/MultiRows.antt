@@ -175,9 +175,9 @@ module _ (base : Counters) (by : By) (h rest : List Event) (span wider : RoundSp
         carried = carries oldest s.carried;
       }
 
-  module _ (committed : List ℕ) (taken : ℕ) (name : List ℕ) (number : ℕ) (snap : slice_get h taken ≡ Some (events.Snap (taken_by by number) name)) where
+  module _ (committed : List ℕ) (taken : ℕ) (name : List ℕ) (number : ℕ) (snap : slice_get h taken ≡ Some (events.Snap name (taken_by by number))) where
     same : take taken h ≡ take taken (h ++ rest)
-    same = sym (take-grows h rest (events.Snap (taken_by by number) name) taken snap)
+    same = sym (take-grows h rest (events.Snap name (taken_by by number)) taken snap)
 
     verdict_on : (near : Option ℕ) (v : Verdict) → IsMemberVerdict base committed h span taken near v → IsMemberVerdict base committed (h ++ rest) wider taken near v
     verdict_on None verdicts.TooOld m = m
@@ -213,7 +213,7 @@ verdicts_stay : (base : Counters) (committed : List ℕ) (recorded : List Record
     → AreVerdicts base committed recorded h all span by number vs → AreVerdicts base committed recorded (h ++ rest) (all ++ more) wider by number vs
 verdicts_stay base committed recorded h rest all more span wider by number vs w v = record {
   taken = v.taken;
-  snapshot = (v.snapshot.0, slice_get-grows h rest (events.Snap (taken_by by number) v.snapshot.0) v.taken v.snapshot.1);
+  snapshot = (v.snapshot.0, slice_get-grows h rest (events.Snap v.snapshot.0 (taken_by by number)) v.taken v.snapshot.1);
   multi = v.multi;
   pinned = v.pinned;
   pin = slice_get-grows all more (multi_events.Hold by v.multi) v.pinned v.pin;

@@ -7,6 +7,7 @@ use script_gen::{Summary, generate};
 use session_lang::{Item, Items, Script};
 use std::alloc::AllocGlobal;
 use std::process::Abort;
+use tx_events::ByWords;
 use tx_model::{By, Command, Event, Name};
 
 fn script_of(rt: &(impl Abort + AllocGlobal), seed: u32, size: u32) -> Script {
@@ -148,23 +149,35 @@ fn summary_counts_what_a_history_has_of_each(rt: HostRuntime) {
     };
     let (three, four) = (id(&rt, 3), id(&rt, 4));
     let history = [
-        Event::Id { by, id: three },
+        Event::Id {
+            by: ByWords::of(by),
+            id: three,
+        },
         Event::Sub {
-            by,
+            by: ByWords::of(by),
             parent: three,
             id: four,
         },
-        Event::Undo { by, id: four },
+        Event::Undo {
+            by: ByWords::of(by),
+            id: four,
+        },
         Event::Snap {
-            by,
+            by: ByWords::of(by),
             name: Name::of(b"s"),
         },
         Event::SnapDrop {
-            by,
+            by: ByWords::of(by),
             name: Name::of(b"s"),
         },
-        Event::Commit { by, top: three },
-        Event::Ask { by, id: three },
+        Event::Commit {
+            by: ByWords::of(by),
+            top: three,
+        },
+        Event::Ask {
+            by: ByWords::of(by),
+            id: three,
+        },
     ];
     let wanted = Summary {
         commands: 9,

@@ -5,7 +5,7 @@ use std::alloc::AllocGlobal;
 use std::process::Abort;
 use std::thread::Threads;
 use text_pieces::Pieces;
-use tx_events::{By, Event, MultiEvent, Rec};
+use tx_events::{By, ByWords, Event, MultiEvent, Rec};
 
 /// A list's length: a shorter one is printed on one thread.
 const LONG: u64 = 5_000;
@@ -22,7 +22,7 @@ fn events(rt: &(impl Abort + AllocGlobal)) -> Vec<Event> {
     let mut events = Vec::new(rt.alloc());
     for number in 1..LONG + 1 {
         let event = Event::Id {
-            by: by(number),
+            by: ByWords::of(by(number)),
             id: id(rt, number + 2),
         };
         events.push(event).expect(rt, "memory");
@@ -34,7 +34,7 @@ fn multis(rt: &(impl Abort + AllocGlobal)) -> Vec<MultiEvent> {
     let mut multis = Vec::new(rt.alloc());
     for number in 1..LONG + 1 {
         let event = MultiEvent::Hold {
-            by: by(number),
+            by: ByWords::of(by(number)),
             multi: multi(rt, number),
         };
         multis.push(event).expect(rt, "memory");

@@ -3,8 +3,8 @@ use crate::help::{id, list, multi};
 use std::alloc::AllocGlobal;
 use std::process::Abort;
 use tx_events::{
-    By, Counters, Event, EventList, Member, MemberList, Mode, MultiEvent, MultiEventList, Name,
-    Rec, RecList, Refusal, Sequence, Xid,
+    By, ByWords, Counters, Event, EventList, Member, MemberList, Mode, MultiEvent, MultiEventList,
+    Name, Rec, RecList, Refusal, Sequence, Xid,
 };
 use tx_model::{
     Command, DumpOf, How, Life, LifeReport, Line, NameList, Pair, Reply, Report, Step, StepList,
@@ -115,12 +115,12 @@ const FOURTH: By = By {
 
 fn events(rt: &(impl Abort + AllocGlobal)) -> EventList {
     let sub = Event::Sub {
-        by: FOURTH,
+        by: ByWords::of(FOURTH),
         parent: id(rt, 3),
         id: id(rt, 4),
     };
     let drop = Event::SnapDrop {
-        by: FOURTH,
+        by: ByWords::of(FOURTH),
         name: Name::of(b"s"),
     };
     list(rt, [sub, drop])
@@ -128,17 +128,17 @@ fn events(rt: &(impl Abort + AllocGlobal)) -> EventList {
 
 fn multi_events(rt: &(impl Abort + AllocGlobal)) -> MultiEventList {
     let generated = MultiEvent::Gen {
-        by: FOURTH,
+        by: ByWords::of(FOURTH),
         multi: multi(rt, 1),
         offset: 1,
         members: members(rt),
     };
     let unhold = MultiEvent::Unhold {
-        by: FOURTH,
+        by: ByWords::of(FOURTH),
         multi: multi(rt, 1),
     };
     let raise = MultiEvent::Raise {
-        by: FOURTH,
+        by: ByWords::of(FOURTH),
         multi: multi(rt, 2),
         offset: 3,
     };

@@ -97,7 +97,7 @@ decides start lists more shown p by name x topmost parents k m grows is taken fu
     ⊎_elim
     (λ (over : is_overflowed first g ≡ true).
     let exact = k.records.exact r.session r.top r.subs r.appended in
-    let long = slice_get_within h p (events.Snap by name) taken in
+    let long = slice_get_within h p (events.Snap name by) taken in
     let front = front_of h p r.session r.top r.subs (omega arith) exact in
     let q = front.0 in let f = take q h in
     let legal_f = legal_take base h q legal in

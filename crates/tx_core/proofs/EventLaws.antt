@@ -65,10 +65,10 @@ pub abort_event_law : AbortEventKeeps
 abort_event_law start seen by top shown rule none aborted = event_keeps start seen by (events.Abort by top) refl shown rule tt none tt tt aborted
 
 pub snap_event_law : SnapEventKeeps
-snap_event_law start seen by name shown rule = event_keeps start seen by (events.Snap by name) refl shown rule tt tt tt tt tt
+snap_event_law start seen by name shown rule = event_keeps start seen by (events.Snap name by) refl shown rule tt tt tt tt tt
 
 pub snap_drop_law : SnapDropKeeps
-snap_drop_law start seen by name shown rule = event_keeps start seen by (events.SnapDrop by name) refl shown rule tt tt tt tt tt
+snap_drop_law start seen by name shown rule = event_keeps start seen by (events.SnapDrop name by) refl shown rule tt tt tt tt tt
 
 pub oldest_law : OldestKeeps
 oldest_law start seen by oldest shown rule = event_keeps start seen by (events.Oldest by oldest) refl shown rule tt tt tt tt tt

@@ -65,8 +65,8 @@ Leaves how h (events.Id by id) top = Unit {0}
 Leaves how h (events.Sub by parent id) top = ⊥
 Leaves how h (events.Undo by id) top = ⊥
 Leaves how h (events.Abort by t) top = events.Abort by t ≡ end_event how by top
-Leaves how h (events.Snap by name) top = Unit {0}
-Leaves how h (events.SnapDrop by name) top = Unit {0}
+Leaves how h (events.Snap name by) top = Unit {0}
+Leaves how h (events.SnapDrop name by) top = Unit {0}
 Leaves how h (events.Oldest by oldest) top = Unit {0}
 Leaves how h (events.Ask by id) top = Unit {0}
 
@@ -81,8 +81,8 @@ whole_own how base h (events.Id by id) session top subs may root s q l = absurd 
 whole_own how base h (events.Sub by parent id) session top subs may root s q l = absurd l
 whole_own how base h (events.Undo by id) session top subs may root s q l = absurd l
 whole_own how base h (events.Abort by t) session top subs may root s q l = ended_so how h (events.Abort by t) by session top subs root s q l
-whole_own how base h (events.Snap by name) session top subs may root s q l = record { root = root; ids = inl (quiet_open_ids session h (events.Snap by name) tt ∙ q) }
-whole_own how base h (events.SnapDrop by name) session top subs may root s q l = record { root = root; ids = inl (quiet_open_ids session h (events.SnapDrop by name) tt ∙ q) }
+whole_own how base h (events.Snap name by) session top subs may root s q l = record { root = root; ids = inl (quiet_open_ids session h (events.Snap name by) tt ∙ q) }
+whole_own how base h (events.SnapDrop name by) session top subs may root s q l = record { root = root; ids = inl (quiet_open_ids session h (events.SnapDrop name by) tt ∙ q) }
 whole_own how base h (events.Oldest by oldest) session top subs may root s q l = record { root = root; ids = inl (quiet_open_ids session h (events.Oldest by oldest) tt ∙ q) }
 whole_own how base h (events.Ask by id) session top subs may root s q l = record { root = root; ids = inl (quiet_open_ids session h (events.Ask by id) tt ∙ q) }
 

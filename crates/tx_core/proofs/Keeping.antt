@@ -194,8 +194,8 @@ leaves start seen lists lock e (events.Sub by parent id) session top subs s g mi
 leaves start seen lists lock e (events.Undo by id) session top subs s g mine same rule may a q = no_record start seen lists lock e ends.Commit by session top subs s mine same may a q
 leaves start seen lists lock e (events.Abort by t) session top subs s g mine same rule may a q = absurd (no_record start seen lists lock e ends.Commit by session top subs s mine same may a q)
 leaves start seen lists lock e (events.Id by id) session top subs s g mine same rule may a q = tt
-leaves start seen lists lock e (events.Snap by name) session top subs s g mine same rule may a q = tt
-leaves start seen lists lock e (events.SnapDrop by name) session top subs s g mine same rule may a q = tt
+leaves start seen lists lock e (events.Snap name by) session top subs s g mine same rule may a q = tt
+leaves start seen lists lock e (events.SnapDrop name by) session top subs s g mine same rule may a q = tt
 leaves start seen lists lock e (events.Oldest by oldest) session top subs s g mine same rule may a q = tt
 leaves start seen lists lock e (events.Ask by id) session top subs s g mine same rule may a q = tt
 
@@ -211,8 +211,8 @@ leaves_abort start seen lists lock e (events.Commit by t) session top subs s g m
 leaves_abort start seen lists lock e (events.Sub by parent id) session top subs s g mine same rule may states a q = no_record start seen lists lock e ends.Abort by session top subs s mine same may a q
 leaves_abort start seen lists lock e (events.Undo by id) session top subs s g mine same rule may states a q = no_record start seen lists lock e ends.Abort by session top subs s mine same may a q
 leaves_abort start seen lists lock e (events.Id by id) session top subs s g mine same rule may states a q = tt
-leaves_abort start seen lists lock e (events.Snap by name) session top subs s g mine same rule may states a q = tt
-leaves_abort start seen lists lock e (events.SnapDrop by name) session top subs s g mine same rule may states a q = tt
+leaves_abort start seen lists lock e (events.Snap name by) session top subs s g mine same rule may states a q = tt
+leaves_abort start seen lists lock e (events.SnapDrop name by) session top subs s g mine same rule may states a q = tt
 leaves_abort start seen lists lock e (events.Oldest by oldest) session top subs s g mine same rule may states a q = tt
 leaves_abort start seen lists lock e (events.Ask by id) session top subs s g mine same rule may states a q = tt
 

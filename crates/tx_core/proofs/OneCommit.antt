@@ -69,7 +69,7 @@ abbrev committed : Entry
 committed = entry (by 0 3) (kinds.Event (events.Commit (by 0 3) 3))
 
 abbrev snapped : Entry
-snapped = entry (by 1 2) (kinds.Event (events.Snap (by 1 2) (115 ∷ [])))
+snapped = entry (by 1 2) (kinds.Event (events.Snap (115 ∷ []) (by 1 2)))
 
 -- a session that has seen everything
 pub sees_all : (n : ℕ) (lists : List (List Entry)) → Knows session_of n lists lists

@@ -1,5 +1,5 @@
 -- What the published oldest id shows is at most one event behind.
-use Rattle.std.proofs.Common.{Contains, List, None, Option, Some, [], ap, append-nil, arith, inl, inr, length, refl, slice_get, subst, suc, sym, take, zero, ℕ, ⊎_elim, ◌++◌, ◌+◌, ◌-◌, ◌<◌, ◌∙◌, ◌∷◌, ◌≡◌, ◌≤◌, ◌⊎◌}
+use Rattle.std.proofs.Common.{List, None, Option, Some, [], append-nil, arith, inl, inr, length, refl, slice_get, subst, suc, sym, take, zero, ℕ, ⊎_elim, ◌++◌, ◌+◌, ◌-◌, ◌<◌, ◌∙◌, ◌∷◌, ◌≡◌, ◌≤◌, ◌⊎◌}
 use Rattle.std.proofs.Math.Seq.{take-append_seam}
 use Rattle.std.proofs.lemmas.List.Elements.{filter_map-append}
 use Rattle.std.specs.List.{AllByRecursion, cons_option, filter_map}
@@ -9,15 +9,15 @@ use Rattle.tx_events.proofs.Membership.{Has, all_at, by_end, contains_has, has_c
 use Rattle.tx_events.proofs.PlaceLemmas.{last_at, slice_get-grows, take-grows}
 use Rattle.tx_events.specs.Horizon.{oldest_id}
 use Rattle.notes.proofs.Growing.{begins_length}
-use Rattle.notes.specs.Lists.{Grows, at}
+use Rattle.notes.specs.Lists.{at}
 use Rattle.tx_core.proofs.Asking.{event_kind}
 use Rattle.tx_core.proofs.Closed.{come_from}
 use Rattle.tx_core.proofs.LastNumbers.{number_push, number_same}
 use Rattle.tx_core.proofs.Lasting.{history_grows}
 use Rattle.tx_core.proofs.Posting.{oldest_between, post_kind}
-use Rattle.tx_core.specs.Consequences.{IsShownBehind, OldestShown}
+use Rattle.tx_core.specs.Consequences.{OldestShown}
 use Rattle.tx_core.specs.EngineInvariant.{EngineInvariant}
-use Rattle.tx_core.specs.Entries.{event_of, events_in, history, last_from}
+use Rattle.tx_core.specs.Entries.{event_of, history, last_from}
 use Rattle.tx_core.specs.Locks.{oldest_word, proc_lock}
 use Rattle.tx_core.specs.PostsFollow.{IsFound, PostIn, WasShown, posted_in, posts}
 use Rattle.tx_core.specs.declared.entry.Entry.{Entry}

@@ -183,11 +183,11 @@ AbortEventKeeps = (start : Start) (seen : List (List Entry)) (by : By) (top : �
 
 abbrev pub SnapEventKeeps : Type 0
 SnapEventKeeps = (start : Start) (seen : List (List Entry)) (by : By) (name : List ℕ) →
-    IsShown start seen → MayCome start.base (history seen) (events.Snap by name) → KindKeeps start seen proc_lock by (kinds.Event (events.Snap by name))
+    IsShown start seen → MayCome start.base (history seen) (events.Snap name by) → KindKeeps start seen proc_lock by (kinds.Event (events.Snap name by))
 
 abbrev pub SnapDropKeeps : Type 0
 SnapDropKeeps = (start : Start) (seen : List (List Entry)) (by : By) (name : List ℕ) →
-    IsShown start seen → MayCome start.base (history seen) (events.SnapDrop by name) → KindKeeps start seen proc_lock by (kinds.Event (events.SnapDrop by name))
+    IsShown start seen → MayCome start.base (history seen) (events.SnapDrop name by) → KindKeeps start seen proc_lock by (kinds.Event (events.SnapDrop name by))
 
 abbrev pub OldestKeeps : Type 0
 OldestKeeps = (start : Start) (seen : List (List Entry)) (by : By) (oldest : ℕ) →

@@ -52,7 +52,7 @@ IsClimb start lists more xmin x (parent ∷ parents) topmost = IsLinked start mo
 -- The same of any snapshot, where the state was read at one look and the parents at later ones.
 abbrev pub Decides : Type 0
 Decides = (start : Start) (lists more : List (List Entry)) (shown : ℕ → Option State) (p : ℕ) (by : By) (name : List ℕ) (x topmost : ℕ) (parents : List ℕ) →
-    EngineInvariant start lists → EngineInvariant start more → Grows lists more → CleanStart start shown → slice_get (history lists) p ≡ Some (events.Snap by name)
+    EngineInvariant start lists → EngineInvariant start more → Grows lists more → CleanStart start shown → slice_get (history lists) p ≡ Some (events.Snap name by)
     → IsFullId x → start.base.oldest ≤ x → AreFewIds lists
     → (is_overflowed start.base.next (take p (history lists)) ≡ true → IsClimb start lists more (snapshot_xmin start.base.next (take p (history lists))) x parents topmost)
     → verdict (snapshot_data start.base.next (take p (history lists))) (state_read shown (marks (at lists (xact_lock_of start x))) x) topmost x ≡ is_visible start.committed (take p (history lists)) x
@@ -61,7 +61,7 @@ Decides = (start : Start) (lists more : List (List Entry)) (shown : ℕ → Opti
 -- snapshot.
 abbrev pub IsRight : SnapData → Option State → ℕ → ℕ → Bool → Type 0
 IsRight snap state topmost x answer = (start : Start) (lists more : List (List Entry)) (shown : ℕ → Option State) (p : ℕ) (by : By) (name : List ℕ) (parents : List ℕ) →
-    EngineInvariant start lists → EngineInvariant start more → Grows lists more → CleanStart start shown → slice_get (history lists) p ≡ Some (events.Snap by name)
+    EngineInvariant start lists → EngineInvariant start more → Grows lists more → CleanStart start shown → slice_get (history lists) p ≡ Some (events.Snap name by)
     → snap ≡ snapshot_data start.base.next (take p (history lists))
     → state ≡ state_read shown (marks (at lists (xact_lock_of start x))) x
     → IsFullId x → start.base.oldest ≤ x → AreFewIds lists

@@ -23,11 +23,11 @@ use Rattle.tx_events.proofs.ListSteps.{not_both}
 use Rattle.tx_events.specs.declared.event.Event.TheVariants as events
 
 live_step : (first : ℕ) (older : List Event) (e : Event) (s : LiveSnap) → Has (live_up first (e ∷ older)) s → Has (live_up first older) s ⊎ (s.xmin ≡ snapshot_xmin first (reverse older))
-live_step first older (events.Snap by taken) s k =
+live_step first older (events.Snap taken by) s k =
     ⊎_elim inl
     (λ h. ⊎_elim (λ (q : record { session = by.session; name = taken; xmin = snapshot_xmin first (reverse older) } ≡ s). inr (ap (λ (z : LiveSnap). z.xmin) (sym q))) (λ z. absurd z) h)
     (has_cases (live_up first older) (record { session = by.session; name = taken; xmin = snapshot_xmin first (reverse older) } ∷ []) s k)
-live_step first older (events.SnapDrop by dropped) s k = inl (has_filter (λ s. not (is_snap_of by.session dropped s)) (live_up first older) s k).0
+live_step first older (events.SnapDrop dropped by) s k = inl (has_filter (λ s. not (is_snap_of by.session dropped s)) (live_up first older) s k).0
 live_step first older _ s k = inl k
 
 -- a snapshot that is live after one event more was live before, or is the new one

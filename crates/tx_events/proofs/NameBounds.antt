@@ -20,8 +20,8 @@ NamesBelow n (events.Sub by parent id) = (parent < id) × (id < n)
 NamesBelow n (events.Undo by id) = id < n
 NamesBelow n (events.Commit by top) = top < n
 NamesBelow n (events.Abort by top) = top < n
-NamesBelow n (events.Snap by name) = Unit {0}
-NamesBelow n (events.SnapDrop by name) = Unit {0}
+NamesBelow n (events.Snap name by) = Unit {0}
+NamesBelow n (events.SnapDrop name by) = Unit {0}
 NamesBelow n (events.Oldest by oldest) = Unit {0}
 NamesBelow n (events.Ask by id) = Unit {0}
 

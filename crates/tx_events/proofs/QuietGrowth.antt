@@ -23,8 +23,8 @@ IsQuiet (events.Sub by parent id) = ⊥
 IsQuiet (events.Undo by id) = ⊥
 IsQuiet (events.Commit by top) = ⊥
 IsQuiet (events.Abort by top) = ⊥
-IsQuiet (events.Snap by name) = Unit {0}
-IsQuiet (events.SnapDrop by name) = Unit {0}
+IsQuiet (events.Snap name by) = Unit {0}
+IsQuiet (events.SnapDrop name by) = Unit {0}
 IsQuiet (events.Oldest by oldest) = Unit {0}
 IsQuiet (events.Ask by id) = Unit {0}
 

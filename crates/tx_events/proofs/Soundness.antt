@@ -61,8 +61,8 @@ names_below base h e n legal upto = names e legal upto
     names (events.Undo by id) legal upto = old (events.Undo by id) by.session id legal upto (legal_last base h (events.Undo by id) legal).0
     names (events.Commit by t) legal upto = old (events.Commit by t) by.session t legal upto (legal_last base h (events.Commit by t) legal).0
     names (events.Abort by t) legal upto = old (events.Abort by t) by.session t legal upto (legal_last base h (events.Abort by t) legal).0
-    names (events.Snap by name) legal upto = tt
-    names (events.SnapDrop by name) legal upto = tt
+    names (events.Snap name by) legal upto = tt
+    names (events.SnapDrop name by) legal upto = tt
     names (events.Oldest by oldest) legal upto = tt
     names (events.Ask by id) legal upto = tt
 

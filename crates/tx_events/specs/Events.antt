@@ -12,8 +12,8 @@ by_of (events.Sub by parent id) = by
 by_of (events.Undo by id) = by
 by_of (events.Commit by top) = by
 by_of (events.Abort by top) = by
-by_of (events.Snap by name) = by
-by_of (events.SnapDrop by name) = by
+by_of (events.Snap name by) = by
+by_of (events.SnapDrop name by) = by
 by_of (events.Oldest by oldest) = by
 by_of (events.Ask by id) = by
 

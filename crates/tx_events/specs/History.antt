@@ -33,8 +33,8 @@ MayCome base before (events.Sub by parent id) = IsNextGiven base before id × Co
 MayCome base before (events.Undo by id) = Contains (open_ids by.session before) id × (is_top before id ≡ false)
 MayCome base before (events.Commit by top) = Contains (open_ids by.session before) top × (is_top before top ≡ true)
 MayCome base before (events.Abort by top) = Contains (open_ids by.session before) top × (is_top before top ≡ true)
-MayCome base before (events.Snap by name) = is_live base.next by.session name before ≡ false
-MayCome base before (events.SnapDrop by name) = is_live base.next by.session name before ≡ true
+MayCome base before (events.Snap name by) = is_live base.next by.session name before ≡ false
+MayCome base before (events.SnapDrop name by) = is_live base.next by.session name before ≡ true
 MayCome base before (events.Oldest by oldest) = (oldest_id base.oldest before ≤ oldest) × (oldest ≤ oldest_xmin base.next before)
 MayCome base before (events.Ask by id) = IsFullId id
 

@@ -27,9 +27,9 @@ is_snap_of session name s = (s.session == session) && same_name s.name name
 -- the live snapshots, in the order in which they were taken. The events go from the newest to the oldest
 abbrev pub live_up : ℕ → List Event → List LiveSnap
 live_up first [] = []
-live_up first (events.Snap by taken ∷ older) =
+live_up first (events.Snap taken by ∷ older) =
     live_up first older ++ record { session = by.session; name = taken; xmin = snapshot_xmin first (reverse older) } ∷ []
-live_up first (events.SnapDrop by dropped ∷ older) = filter (λ s. not (is_snap_of by.session dropped s)) (live_up first older)
+live_up first (events.SnapDrop dropped by ∷ older) = filter (λ s. not (is_snap_of by.session dropped s)) (live_up first older)
 live_up first (e ∷ older) = live_up first older
 
 abbrev pub live_snaps : ℕ → List Event → List LiveSnap

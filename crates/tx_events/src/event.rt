@@ -1,5 +1,6 @@
 //! What happens under the ProcArray's lock.
 use crate::FullXid;
+use crate::by_words::ByWords;
 use crate::name::Name;
 use crate::sequence::{Copied, Memory, Sequence};
 
@@ -16,51 +17,53 @@ pub struct By {
 pub enum Event {
     /// A top-level id was given.
     Id {
-        by: By,
+        by: ByWords,
         id: FullXid,
     },
     /// A subtransaction's id was given below `parent`.
     Sub {
-        by: By,
+        by: ByWords,
         parent: FullXid,
         id: FullXid,
     },
     /// The savepoint of `id` was rolled back.
     Undo {
-        by: By,
+        by: ByWords,
         id: FullXid,
     },
     /// The transaction of `top` committed.
     Commit {
-        by: By,
+        by: ByWords,
         top: FullXid,
     },
     /// The transaction of `top` aborted.
     Abort {
-        by: By,
+        by: ByWords,
         top: FullXid,
     },
     /// A snapshot was taken under this name.
     Snap {
-        by: By,
         name: Name,
+        by: ByWords,
     },
     /// It was dropped.
     SnapDrop {
-        by: By,
         name: Name,
+        by: ByWords,
     },
     /// The oldest id was announced.
     Oldest {
-        by: By,
+        by: ByWords,
         oldest: FullXid,
     },
     /// It was asked how the transaction of `id` stands.
     Ask {
-        by: By,
+        by: ByWords,
         id: FullXid,
     },
 }
+
+const _: () = prove!(size_of::<Event>() == 32);
 
 impl Copied for Event {
     fn copy(&self) -> Result<Self, Memory> {

@@ -7,6 +7,7 @@
 #![tactic(auto)]
 
 mod base;
+mod by_words;
 mod event;
 mod full_multi;
 mod full_xid;
@@ -33,6 +34,7 @@ mod snapshot;
 mod xact_end;
 
 pub use base::is_base;
+pub use by_words::ByWords;
 pub use event::{By, Event, EventList};
 pub use full_multi::{FullMulti, MultiId, near_multi};
 pub use full_xid::{FullXid, near};

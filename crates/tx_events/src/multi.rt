@@ -3,7 +3,7 @@ ghost use Rattle.std.specs.Prelude.{◌≡◌, ◌≤◌, ◌↔◌, Some};
 ghost use Rattle.tx_events.specs.declared.multi.Mode.{Mode};
 ghost use Rattle.tx_events.specs.Modes.{mode_number, mode_of};
 
-use crate::event::By;
+use crate::by_words::ByWords;
 use crate::sequence::{Copied, Memory, Sequence};
 use crate::shared::Shared;
 use crate::{FullMulti, FullXid};
@@ -68,28 +68,30 @@ pub type MemberList = Shared<Member>;
 pub enum MultiEvent {
     /// A multixact was given, its members starting at `offset`, counted in full.
     Gen {
-        by: By,
+        by: ByWords,
         multi: FullMulti,
         offset: u64,
         members: MemberList,
     },
     /// A reader pinned it.
     Hold {
-        by: By,
+        by: ByWords,
         multi: FullMulti,
     },
     /// The reader let it go.
     Unhold {
-        by: By,
+        by: ByWords,
         multi: FullMulti,
     },
     /// The oldest multixact was announced, with the offset at which it starts.
     Raise {
-        by: By,
+        by: ByWords,
         multi: FullMulti,
         offset: u64,
     },
 }
+
+const _: () = prove!(size_of::<MultiEvent>() == 48);
 
 impl Copied for MultiEvent {
     fn copy(&self) -> Result<Self, Memory> {

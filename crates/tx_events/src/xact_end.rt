@@ -3,6 +3,7 @@ ghost use Rattle.std.specs.Prelude.{◌≡◌};
 ghost use Rattle.tx_events.specs.XactEnds.{end_event, end_record};
 
 use crate::FullXid;
+use crate::by_words::ByWords;
 use crate::event::{By, Event};
 use crate::record::Rec;
 use crate::sequence::IdList;
@@ -19,6 +20,7 @@ impl XactEnd {
     pub fn event(self, by: By, top: FullXid) -> Event
         ensures { result ≡ end_event self by top }
     {
+        let by = ByWords::of(by);
         match self {
             XactEnd::Commit => Event::Commit { by, top },
             XactEnd::Abort => Event::Abort { by, top },

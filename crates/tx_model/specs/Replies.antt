@@ -25,7 +25,7 @@ use Rattle.tx_events.specs.Visible.{is_visible}
 
 -- the command's snapshot is taken at place p
 abbrev pub IsTakenAt : List Event → By → List ℕ → ℕ → Type 0
-IsTakenAt h by name p = slice_get h p ≡ Some (events.Snap by name)
+IsTakenAt h by name p = slice_get h p ≡ Some (events.Snap name by)
 
 -- the full id that a stored id means to a snapshot: the special ids themselves, each other the nearest to xmax
 abbrev pub seen_id : ℕ → ℕ → Option ℕ

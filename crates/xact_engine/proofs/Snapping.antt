@@ -51,10 +51,10 @@ use Rattle.engine_parts.specs.Makings.{Makes}
 use Rattle.xact_engine.proofs.Levelling.{call_levels}
 
 abbrev pub snap_entry : By → List ℕ → Entry
-snap_entry by name = record { by = by; kind = kinds.Event (events.Snap by name) }
+snap_entry by name = record { by = by; kind = kinds.Event (events.Snap name by) }
 
 abbrev pub drop_entry : By → List ℕ → Entry
-drop_entry by name = record { by = by; kind = kinds.Event (events.SnapDrop by name) }
+drop_entry by name = record { by = by; kind = kinds.Event (events.SnapDrop name by) }
 
 pub may_snap : (start : Start) (seen : List (List Entry)) (by : By) (name : List ℕ) (e : Entry) → e ≡ snap_entry by name → IsShown start seen → is_live start.base.next by.session name (history seen) ≡ false → IsInTurn start (at seen proc_lock) by → MayKeep start seen proc_lock e
 may_snap start seen by name e is shown free turn = subst (MayKeep start seen proc_lock) (sym is) (λ lists k knows inside whole. snap_event_law start seen by name shown free lists k knows inside whole turn)
@@ -85,7 +85,7 @@ pub ready_snapped : (start : Start) (v w : Knowledge) (n n' : ℕ) (s s' : Sessi
     → s'.stage ≡ s.stage → s'.unlinked ≡ s.unlinked → s'.making ≡ s.making → n' ≡ n → Leaves start proc_lock e v w → IsReady start w n' s'
 ready_snapped start v w n n' s s' k e a is command place holds count named unnamed opened registered stage unlinked making number l =
     let by = by_at n s.levels.commands in
-    ready_event start v w n n' s s' e (events.Snap by k.name) a is count named unnamed opened stage unlinked making number
+    ready_event start v w n n' s s' e (events.Snap k.name by) a is count named unnamed opened stage unlinked making number
     (rw registered (stood_snapped start.base (history v.seen) by s.levels.open_ids.items s.levels.level_ids.items s.levels.unnamed s.levels.registered.items k command place holds (stood start.base (history v.seen) n s.levels.commands s.levels a.stands))) l
 
 -- without one that it dropped
@@ -94,7 +94,7 @@ pub ready_dropped : (start : Start) (v w : Knowledge) (n n' : ℕ) (s s' : Sessi
     → s'.levels.registered.items ≡ filter (λ k. not (same_name k.name name)) s.levels.registered.items → s'.stage ≡ s.stage → s'.unlinked ≡ s.unlinked → s'.making ≡ s.making → n' ≡ n → Leaves start proc_lock e v w → IsReady start w n' s'
 ready_dropped start v w n n' s s' name e a is count named unnamed opened registered stage unlinked making number l =
     let by = by_at n s.levels.commands in
-    ready_event start v w n n' s s' e (events.SnapDrop by name) a is count named unnamed opened stage unlinked making number
+    ready_event start v w n n' s s' e (events.SnapDrop name by) a is count named unnamed opened stage unlinked making number
     (rw registered (stood_dropped start.base (history v.seen) by name s.levels.open_ids.items s.levels.level_ids.items s.levels.unnamed s.levels.registered.items (stood start.base (history v.seen) n s.levels.commands s.levels a.stands))) l
 
 -- a name that isn't taken isn't refused, below the limit
@@ -110,7 +110,7 @@ pub acted_snapped : {tells : Bool} (start : Start) (v u w : Knowledge) (n : ℕ)
     → s' ≡ record (stance_of s) { snaps = (stance_of s).snaps ++ (name, s.levels.commands) ∷ [] }
     → Acted tells start (by_at n s.levels.commands) (stance_of s) s' s.stage (commands.Snap name) (replies.Snapped lists) v.seen w.seen
 acted_snapped start v u w n s s' name lists e a entered is l free room held stance =
-    let event : Event = events.Snap (by_at n s.levels.commands) name in
+    let event : Event = events.Snap name (by_at n s.levels.commands) in
     let wide = a.wide in let long = entered.long in
     let grown : history w.seen ≡ history u.seen ++ event ∷ [] = history_event start u w e event (ap event_of is) (omega arith) l in
     acted_event start v u w n s s' (commands.Snap name) (replies.Snapped lists) e event a entered (ap event_of is) refl (ap asks_in is) (ap (λ (z : Entry). z.by) is) l refl refl (
@@ -132,7 +132,7 @@ pub acted_dropped : {tells : Bool} (start : Start) (v u w : Knowledge) (n : ℕ)
     → Acted tells start (by_at n s.levels.commands) (stance_of s) s' s.stage (commands.DropSnap name) replies.Done v.seen w.seen
 acted_dropped start v u w n s s' name e a entered is l registered stance =
     let some = some_found name (stance_of s).levels s.levels.registered.items registered in
-    acted_event start v u w n s s' (commands.DropSnap name) replies.Done e (events.SnapDrop (by_at n s.levels.commands) name) a entered (ap event_of is) refl (ap asks_in is) (ap (λ (z : Entry). z.by) is) l refl refl
+    acted_event start v u w n s s' (commands.DropSnap name) replies.Done e (events.SnapDrop name (by_at n s.levels.commands)) a entered (ap event_of is) refl (ap asks_in is) (ap (λ (z : Entry). z.by) is) l refl refl
     some (sym (ap (λ (b : Bool). then_some b refusals.NoSnapshot) (some_is (snap_of name (stance_of s)) some))) (sym stance)
 
 -- a name is live in the history where the session has it

@@ -14,4 +14,4 @@ pub record IsTaken (old new : Table) (by : By) (name : List ℕ) (lists : SnapDa
   pub command : k.command ≡ by.command
   pub place : k.place ≡ length old.events
   pub holds : k.snapshot ≡ data_at old
-  pub adds : Adds old new (events.Snap by name)
+  pub adds : Adds old new (events.Snap name by)

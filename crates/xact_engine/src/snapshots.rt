@@ -79,7 +79,7 @@ fn register<L: LogDisk, P: PageDisk>(
         (at (view caller.old.pass).seen proc_lock ++ record {
           by = by;
           kind = kinds.Event
-              (events.Snap by taken.name);
+              (events.Snap taken.name by);
         } ∷ []) }
     requires command { taken.command ≡ caller.old.session.levels.commands }
     requires place { taken.place ≡ length (history (view caller.old.pass).seen) }
@@ -89,7 +89,7 @@ fn register<L: LogDisk, P: PageDisk>(
     ensures own { IsOf hall.now caller.new.pass }
     ensures ready { IsReady (start_of hall.now) (view caller.new.pass) caller.new.number caller.new.session }
     ensures left { Leaves (start_of hall.now) proc_lock
-        (record { by = by; kind = kinds.Event (events.Snap by taken.name) })
+        (record { by = by; kind = kinds.Event (events.Snap taken.name by) })
         (view caller.old.pass) (view caller.new.pass) }
     ensures stance { stance_of caller.new.session ≡ record (stance_of caller.old.session)
         { snaps = (stance_of caller.old.session).snaps ++ (taken.name, taken.command) ∷ [] } }
@@ -185,12 +185,12 @@ fn unregister<L: LogDisk, P: PageDisk>(
         (at (view caller.old.pass).seen proc_lock ++ record {
           by = by;
           kind = kinds.Event
-              (events.SnapDrop by name.now);
+              (events.SnapDrop name.now by);
         } ∷ []) }
     ensures own { IsOf hall.now caller.new.pass }
     ensures ready { IsReady (start_of hall.now) (view caller.new.pass) caller.new.number caller.new.session }
     ensures left { Leaves (start_of hall.now) proc_lock
-        (record { by = by; kind = kinds.Event (events.SnapDrop by name.now) })
+        (record { by = by; kind = kinds.Event (events.SnapDrop name.now by) })
         (view caller.old.pass) (view caller.new.pass) }
     ensures stance { stance_of caller.new.session ≡ record (stance_of caller.old.session)
         { snaps = without_snap name.now (stance_of caller.old.session).snaps } }

@@ -55,8 +55,8 @@ oldest_step base h (events.Sub by parent id) before = same_oldest base h (events
 oldest_step base h (events.Undo by id) before = same_oldest base h (events.Undo by id) refl before
 oldest_step base h (events.Commit by top) before = same_oldest base h (events.Commit by top) refl before
 oldest_step base h (events.Abort by top) before = same_oldest base h (events.Abort by top) refl before
-oldest_step base h (events.Snap by name) before = same_oldest base h (events.Snap by name) refl before
-oldest_step base h (events.SnapDrop by name) before = same_oldest base h (events.SnapDrop by name) refl before
+oldest_step base h (events.Snap name by) before = same_oldest base h (events.Snap name by) refl before
+oldest_step base h (events.SnapDrop name by) before = same_oldest base h (events.SnapDrop name by) refl before
 oldest_step base h (events.Ask by id) before = same_oldest base h (events.Ask by id) refl before
 
 -- so at a place

@@ -37,8 +37,8 @@ step_small base h (events.Sub by parent id) may small = given_small base h (even
 step_small base h (events.Undo by id) may small = same_small base h (events.Undo by id) refl small
 step_small base h (events.Commit by top) may small = same_small base h (events.Commit by top) refl small
 step_small base h (events.Abort by top) may small = same_small base h (events.Abort by top) refl small
-step_small base h (events.Snap by name) may small = same_small base h (events.Snap by name) refl small
-step_small base h (events.SnapDrop by name) may small = same_small base h (events.SnapDrop by name) refl small
+step_small base h (events.Snap name by) may small = same_small base h (events.Snap name by) refl small
+step_small base h (events.SnapDrop name by) may small = same_small base h (events.SnapDrop name by) refl small
 step_small base h (events.Oldest by oldest) may small = same_small base h (events.Oldest by oldest) refl small
 step_small base h (events.Ask by id) may small = same_small base h (events.Ask by id) refl small
 

@@ -110,7 +110,7 @@ module _ (start : Start) (v w : Knowledge) (n : ℕ) (s : Session) (name : List 
         snap_found name (stance_of s).levels s.levels.registered.items k named,
         record {
           place = k.place;
-          taken = r.0.taken ∙ ap (λ m. Some (events.Snap (record { session = n; command = k.command }) m)) (same_name_equal k.name name r.1);
+          taken = r.0.taken ∙ ap (λ m. Some (events.Snap m (record { session = n; command = k.command }))) (same_name_equal k.name name r.1);
           id = x.number;
           near = ap (λ c. cond c (Some x.number) (near_id (snapshot_xmax start.base.next (take k.place h)) x.number)) (below_special x.number small);
           young = λ normal. absurd (omega arith);
@@ -127,7 +127,7 @@ module _ (start : Start) (v w : Knowledge) (n : ℕ) (s : Session) (name : List 
         snap_found name (stance_of s).levels s.levels.registered.items k named,
         record {
           place = k.place;
-          taken = r.0.taken ∙ ap (λ m. Some (events.Snap (record { session = n; command = k.command }) m)) (same_name_equal k.name name r.1);
+          taken = r.0.taken ∙ ap (λ m. Some (events.Snap m (record { session = n; command = k.command }))) (same_name_equal k.name name r.1);
           normal = normal;
           older = subst (λ p. IfSome p (λ id. id < oldest)) (sym near ∙ ap (λ (d : SnapData). near_id d.xmax x.number) r.0.holds) older;
           found = subst (MayFindOldest start.base h (alone (history v.seen) h) by) (sym is) (finds_oldest start.base by (history v.seen) h (went_longer n v.seen w.seen went) a.stands.turn);
@@ -166,7 +166,7 @@ seen_answer tells start v u w n s name x k g oldest shown a first second named n
       snap_found name (stance_of s).levels s.levels.registered.items k named,
       record {
         place = k.place;
-        taken = r.0.taken ∙ ap (λ m. Some (events.Snap (record { session = n; command = k.command }) m)) (same_name_equal k.name name r.1);
+        taken = r.0.taken ∙ ap (λ m. Some (events.Snap m (record { session = n; command = k.command }))) (same_name_equal k.name name r.1);
         id = g.id;
         near = ap (λ c. cond c (Some x.number) (near_id (snapshot_xmax start.base.next (take k.place h)) x.number)) (above_special x.number normal) ∙ (ap (λ (d : SnapData). near_id d.xmax x.number) (sym r.0.holds) ∙ shows.near);
         young = λ _. record { oldest = oldest; found = finds_word start v u n s oldest a first is; young = young };

@@ -5,11 +5,10 @@ use Rattle.tx_core.specs.Entries.{history}
 use Rattle.tx_core.specs.Locks.{oldest_word, proc_lock}
 use Rattle.tx_core.specs.PostsFollow.{posted_in}
 use Rattle.tx_core.proofs.LastNumbers.{number_push}
-use Rattle.tx_events.specs.declared.event.By.{By}
 use Rattle.tx_events.specs.Horizon.{oldest_id}
-use Rattle.engine_parts.specs.Holds.{Publishes, post_of}
+use Rattle.engine_parts.specs.Holds.{post_of}
 use Rattle.engine_parts.specs.Law.{MayKeep}
-use Rattle.engine_parts.specs.Sessions.{IsAt, by_at}
+use Rattle.engine_parts.specs.Sessions.{by_at}
 use Rattle.engine_parts.specs.Stand.{ProcStands}
 use Rattle.tx_core.specs.declared.entry.Entry.{Entry}
 use Rattle.engine_parts.proofs.Publishing.{found_at, found_stands, may_publish, published_at, published_of, published_proc, stood_there, table_oldest, was_published, word_shows}

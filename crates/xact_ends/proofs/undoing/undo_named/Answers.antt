@@ -1,4 +1,4 @@
-use Rattle.std.proofs.Common.{◌≡◌, ℕ, ◌≤◌, nat_le, List, [], ◌∷◌, ap, ◌∙◌, subst, sym, refl, length, drop, Some, arith}
+use Rattle.std.proofs.Common.{◌≡◌, ℕ, ◌≤◌, nat_le, List, [], ◌∷◌, ap, ◌∙◌, subst, sym, refl, length, drop, Some}
 use Rattle.std.specs.List.{filter}
 use Rattle.hall.specs.Calls.{view, start_of}
 use Rattle.tx_events.specs.declared.event.By.{By}
@@ -14,7 +14,6 @@ use Rattle.proc_sections.specs.Undos.{AreRolledBack}
 use Rattle.xact_ends.proofs.RolledBack.{call_undoing, inside_place, rolled_back, undone_from}
 use Rattle.engine_parts.specs.Adding.{IsPlain}
 use Rattle.tx_core.specs.declared.entry.Kind.TheVariants as kinds
-use Rattle.tx_core.specs.Locks.{proc_lock}
 use Rattle.engine_parts.proofs.Sectioning.{proc_section_adds}
 use Rattle.xact_ends.proofs.Added.{both_add}
 use Rattle.xact_ends.proofs.undoing.undo_named.Goals as goal

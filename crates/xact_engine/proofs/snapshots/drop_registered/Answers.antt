@@ -1,5 +1,5 @@
 use Rattle.engine_parts.specs.Stand.{ProcStands}
-use Rattle.std.proofs.Common.{◌≡◌, arith, ap, ◌∙◌, subst, sym, refl, List, true, None}
+use Rattle.std.proofs.Common.{◌≡◌, ap, ◌∙◌, subst, sym, refl, List, true, None}
 use Rattle.hall.specs.Calls.{view, start_of}
 use Rattle.notes.specs.Lists.{at}
 use Rattle.tx_events.specs.declared.event.Event.{Event}
@@ -34,7 +34,7 @@ unregister-requires-clause-live g c =
 pub unregister-requires-clause-table : goal.unregister-requires-clause-table
 unregister-requires-clause-table g c =
     let by = by_at c.args.caller.now.number c.args.caller.now.session.levels.commands in
-    proc_adds (start_of c.args.hall.now) c.deref_mut.result.now c.drop_snapshot.new.self (at (view c.enter_proc-held.new.caller.pass).seen proc_lock) by (events.SnapDrop by c.args.name.now) (subst (λ l. ProcStands (start_of c.args.hall.now) l (at (view c.enter_proc-held.new.caller.pass).seen proc_lock)) (sym c.deref_mut.ensures.value) c.enter_proc-held.ensures.stands) c.drop_snapshot.ensures
+    proc_adds (start_of c.args.hall.now) c.deref_mut.result.now c.drop_snapshot.new.self (at (view c.enter_proc-held.new.caller.pass).seen proc_lock) by (events.SnapDrop c.args.name.now by) (subst (λ l. ProcStands (start_of c.args.hall.now) l (at (view c.enter_proc-held.new.caller.pass).seen proc_lock)) (sym c.deref_mut.ensures.value) c.enter_proc-held.ensures.stands) c.drop_snapshot.ensures
 
 pub returns : goal.returns
 returns g c =

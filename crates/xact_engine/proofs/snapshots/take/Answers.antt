@@ -1,4 +1,4 @@
-use Rattle.std.proofs.Common.{◌≡◌, ℕ, arith, ap, ◌∙◌, subst, sym, refl, List, [], ◌∷◌, ◌++◌, false, map, None}
+use Rattle.std.proofs.Common.{◌≡◌, ℕ, ap, ◌∙◌, subst, sym, refl, List, [], ◌∷◌, ◌++◌, false, map, None}
 use Rattle.hall.specs.Calls.{view, start_of}
 use Rattle.notes.specs.Lists.{at}
 use Rattle.tx_events.specs.declared.event.Event.{Event}
@@ -43,8 +43,8 @@ pub register-requires-clause-table : goal.register-requires-clause-table
 register-requires-clause-table g c =
     let by = by_at c.args.caller.now.number c.args.caller.now.session.levels.commands in
     let es = at (view c.enter_proc-held.new.caller.pass).seen proc_lock in
-    subst (λ (z : List ℕ). ProcStands (start_of c.args.hall.now) c.take_of.new.table (es ++ record { by = by; kind = kinds.Event (events.Snap by z) } ∷ [])) (sym c.in-Ok-take_of.ensures.name_is)
-    (proc_adds (start_of c.args.hall.now) c.deref_mut.result.now c.take_of.new.table es by (events.Snap by c.args.name.now) (subst (λ l. ProcStands (start_of c.args.hall.now) l (at (view c.enter_proc-held.new.caller.pass).seen proc_lock)) (sym c.deref_mut.ensures.value) c.enter_proc-held.ensures.stands) c.in-Ok-take_of.ensures.adds)
+    subst (λ (z : List ℕ). ProcStands (start_of c.args.hall.now) c.take_of.new.table (es ++ record { by = by; kind = kinds.Event (events.Snap z by) } ∷ [])) (sym c.in-Ok-take_of.ensures.name_is)
+    (proc_adds (start_of c.args.hall.now) c.deref_mut.result.now c.take_of.new.table es by (events.Snap c.args.name.now by) (subst (λ l. ProcStands (start_of c.args.hall.now) l (at (view c.enter_proc-held.new.caller.pass).seen proc_lock)) (sym c.deref_mut.ensures.value) c.enter_proc-held.ensures.stands) c.in-Ok-take_of.ensures.adds)
 
 pub returns-in_default : goal.returns-in_default
 returns-in_default g c =

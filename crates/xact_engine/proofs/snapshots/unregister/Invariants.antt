@@ -3,4 +3,4 @@ use Rattle.tx_core.specs.declared.entry.Kind.TheVariants as kinds
 use Rattle.xact_engine.proofs.snapshots.unregister.Given as goal
 
 abbrev pub ghost-by : goal.ghost-by
-ghost-by g a = record { by = a._about.now.0; kind = kinds.Event (events.SnapDrop a._about.now.0 a._about.now.1.now) }
+ghost-by g a = record { by = a._about.now.0; kind = kinds.Event (events.SnapDrop a._about.now.1.now a._about.now.0) }

@@ -1,4 +1,4 @@
-use Rattle.std.proofs.Common.{[], None, Some, ◌<◌, ℕ, arith, subst, ◌∙◌}
+use Rattle.std.proofs.Common.{[], None, Some, arith, subst, ◌∙◌}
 use Rattle.hall.specs.Calls.{view, start_of}
 use Rattle.tx_events.specs.declared.event.By.{By}
 use Rattle.tx_events.specs.declared.refusal.Refusal.TheVariants as refusals

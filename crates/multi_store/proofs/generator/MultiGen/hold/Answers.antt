@@ -19,7 +19,7 @@ invariant_of-self-2 c =
     let inv = c.self.invariant.0 in
     let from : c.self.inside.counters.oldest_multi ≤ c.in_ok-multi.multi = subst (λ m. m ≤ c.in_ok-multi.multi) (sym (ap (λ (k : Counters). k.oldest_multi) inv.counters_are ∙ ap oldest_of c.self.view_is)) c.in_ok-multi.ensures.not_older in
     let to : c.in_ok-multi.multi < c.self.inside.counters.multi = subst (λ m. c.in_ok-multi.multi < m) (sym (ap (λ (k : Counters). k.multi) inv.counters_are ∙ ap next_of c.self.view_is)) c.in_ok-multi.ensures.given in (
-      rw (c.push_reserved.ensures.items, c.in_ok-make_room.ensures.items)
+      rw (c.push_reserved.ensures.items, c.in_ok-make_room.ensures.items, c.of.ensures)
           (state_held _ _ c.args.by c.in_ok-multi.multi _ _ _ _ _ inv from to (c.in_ok-add_pin.ensures.more (pins c.self.inside.events.items) inv.tally)),
       omega (arith, c.push_reserved.ensures.len, c.push_reserved.ensures.capacity, c.in_ok-make_room.ensures.room),
     )

@@ -19,6 +19,6 @@ invariant_of-self-2 c =
     let low : c.args.multi ≤ limit_of c.args.self.now = subst (λ m. c.args.multi ≤ m) (ap limit_of c.self.view_is) to in
     let begins : BeginsAt c.self.inside.base (InBase c.self.inside.base) c.self.inside.events.items c.args.multi c.args.offset =
     subst (λ (g : Generator). Begins g c.args.multi c.args.offset) (sym c.self.view_is) (c.requires old low) in (
-      rw (c.push_reserved.ensures.items, c.in_ok-make_room.ensures.items) (state_raised _ _ c.args.by c.args.multi c.args.offset _ _ _ _ inv from to begins),
+      rw (c.push_reserved.ensures.items, c.in_ok-make_room.ensures.items, c.of.ensures) (state_raised _ _ c.args.by c.args.multi c.args.offset _ _ _ _ inv from to begins),
       omega (arith, c.push_reserved.ensures.len, c.push_reserved.ensures.capacity, c.in_ok-make_room.ensures.room),
     )

@@ -24,7 +24,7 @@ invariant_of-self-2 c =
     let turn : InTurn c.args.by c.self.inside.events.items = subst (InTurn c.args.by) (sym view) c.requires.turn in
     let parent : Contains (open_ids c.args.by.session c.self.inside.events.items) c.args.parent = subst (λ h. Contains (open_ids c.args.by.session h) c.args.parent) (sym view) c.requires.parent in
     let below : c.self.inside.next < stop_limit c.self.inside.oldest = c.in_ok-warn.ensures.0 in (
-      rw (c.push_reserved.ensures.items, c.in_ok-make_room.ensures.items, c.advance-self-inside.ensures.value)
+      rw (c.push_reserved.ensures.items, c.in_ok-make_room.ensures.items, c.advance-self-inside.ensures.value, c.of.ensures)
           (state_sub _ _ c.args.by c.args.parent c.self.inside.next _ _ _ _ _ _
           (state_same _ _ _ _ _ _ _ _ _ c.self.invariant.0 (zip_from_each _ _ _ c.in_ok-make_sub_room.ensures.same)) below turn parent (zip_from_each _ _ _ c.add_id.ensures)),
       omega (arith, c.push_reserved.ensures.len, c.push_reserved.ensures.capacity, c.in_ok-make_room.ensures.room),

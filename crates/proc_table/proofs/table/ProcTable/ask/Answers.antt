@@ -17,10 +17,10 @@ pub invariant_of-self-2 : goal.invariant_of-self-2
 invariant_of-self-2 c =
     let view : c.self.inside.events.items ≡ c.args.self.now.events = ap (λ t. t.events) c.self.view_is in
     let turn : InTurn c.args.by c.self.inside.events.items = subst (InTurn c.args.by) (sym view) c.requires.turn in (
-      rw (c.push_reserved.ensures.items, c.in_ok-make_room.ensures.items) (state_asked _ _ _ _ _ _ _ _ c.args.by c.args.x c.self.invariant.0 turn c.requires.full),
+      rw (c.push_reserved.ensures.items, c.in_ok-make_room.ensures.items, c.of.ensures) (state_asked _ _ _ _ _ _ _ _ c.args.by c.args.x c.self.invariant.0 turn c.requires.full),
       omega (arith, c.push_reserved.ensures.len, c.push_reserved.ensures.capacity, c.in_ok-make_room.ensures.room),
       c.self.invariant.2,
-      rw (c.push_reserved.ensures.items, c.in_ok-make_room.ensures.items) (of_now_quiet c.self.inside.base.next c.self.inside.events.items (events.Ask c.args.by c.args.x) c.self.inside.contents tt c.self.invariant.3),
+      rw (c.push_reserved.ensures.items, c.in_ok-make_room.ensures.items, c.of.ensures) (of_now_quiet c.self.inside.base.next c.self.inside.events.items (events.Ask c.args.by c.args.x) c.self.inside.contents tt c.self.invariant.3),
     )
 
 pub returns : goal.returns

@@ -15,8 +15,8 @@ invariant_of-self-2 c =
     subst (λ o. o ≤ c.args.oldest) c.self.invariant.0.oldest_is (ge_from_not_lt c.args.oldest c.self.inside.oldest (sym c.lt.ensures ∙ c.if-lt.false)) in
     let to : c.args.oldest ≤ oldest_xmin c.self.inside.base.next c.self.inside.events.items =
     subst (λ m. c.args.oldest ≤ m) (c.oldest_xmin-limit.ensures ∙ sym (ap xmin_of c.self.view_is)) (ge_from_not_lt c.oldest_xmin-limit.result c.args.oldest (sym c.lt-2.ensures ∙ c.if-lt-2.false)) in (
-      rw (c.push_reserved.ensures.items, c.in_ok-make_room.ensures.items) (state_raised _ _ _ _ _ _ _ _ c.args.by c.args.oldest c.self.invariant.0 turn from to),
+      rw (c.push_reserved.ensures.items, c.in_ok-make_room.ensures.items, c.of.ensures) (state_raised _ _ _ _ _ _ _ _ c.args.by c.args.oldest c.self.invariant.0 turn from to),
       omega (arith, c.push_reserved.ensures.len, c.push_reserved.ensures.capacity, c.in_ok-make_room.ensures.room),
       c.self.invariant.2,
-      rw (c.push_reserved.ensures.items, c.in_ok-make_room.ensures.items) (of_now_quiet c.self.inside.base.next c.self.inside.events.items (events.Oldest c.args.by c.args.oldest) c.self.inside.contents tt c.self.invariant.3),
+      rw (c.push_reserved.ensures.items, c.in_ok-make_room.ensures.items, c.of.ensures) (of_now_quiet c.self.inside.base.next c.self.inside.events.items (events.Oldest c.args.by c.args.oldest) c.self.inside.contents tt c.self.invariant.3),
     )

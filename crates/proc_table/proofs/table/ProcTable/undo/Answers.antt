@@ -31,7 +31,7 @@ invariant_of-self c =
     let ids : c.args.ids.now ≡ filter (is_inside c.self.inside.events.items c.args.id) (open_ids c.args.by.session c.self.inside.events.items) =
     c.requires.ids ∙ sym (ap (λ h. filter (is_inside h c.args.id) (open_ids c.args.by.session h)) view) in
     let some : 1 ≤ c.self.inside.owed_events = is_promised _ _ _ _ _ _ _ _ c.args.by.session c.args.id c.self.invariant.0 id_open in (
-      rw (c.push_reserved.ensures.items, c.greatest-self-inside.ensures)
+      rw (c.push_reserved.ensures.items, c.greatest-self-inside.ensures, c.of.ensures)
           (state_undo _ _ c.args.by c.args.id c.self.inside.next _ _ _ c.args.ids.now _ _ _ c.self.invariant.0 (id_open, id_sub) turn ids (zip_from_each _ _ _ c.take_ids.ensures) some),
       omega (arith, c.push_reserved.ensures.len, c.push_reserved.ensures.capacity),
       c.self.invariant.2,

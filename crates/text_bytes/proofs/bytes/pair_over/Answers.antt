@@ -1,6 +1,6 @@
 use Rattle.std.proofs.Common.{[], ◌∷◌, ◌++◌, ◌+◌, ◌/◌, ◌%◌, ap, take, ◌∙◌}
-use Rattle.report_text.proofs.Laid.{pairs_at, then_two}
-use Rattle.report_text.proofs.bytes.pair_over.Goals as goal
+use Rattle.text_bytes.proofs.Laid.{pairs_at, then_two}
+use Rattle.text_bytes.proofs.bytes.pair_over.Goals as goal
 
 pub returns-clause-written : goal.returns-clause-written
 returns-clause-written c =

@@ -1,11 +1,11 @@
 -- Bytes behind which room is laid out.
-use Rattle.std.proofs.Common.{◌≡◌, ℕ, zero, suc, List, [], ◌∷◌, ◌++◌, ◌+◌, ◌-◌, ◌*◌, ◌/◌, ◌%◌, ◌<◌, ◌≤◌, Bool, true, ◌&&◌, T, eqb, get_or, take, length, arith, ap, sym, ◌∙◌, append_assoc, append-nil, eq-zero-or-pos, eqb→eq, inl, inr}
+use Rattle.std.proofs.Common.{◌≡◌, ℕ, zero, suc, List, ◌++◌, ◌+◌, ◌-◌, ◌*◌, ◌/◌, ◌%◌, ◌<◌, ◌≤◌, Bool, true, ◌&&◌, T, eqb, get_or, take, length, arith, ap, sym, ◌∙◌, append_assoc, eq-zero-or-pos, eqb→eq, inl, inr}
 use Rattle.std.proofs.lemmas.List.{length-take-le, take-take}
 use Rattle.std.specs.Fmt.{decimal}
 use lib.Ieee.Fits.{and_l, and_r}
 use Rattle.itoa.proofs.Decimal.{decimal_four, decimal_pair}
-use Rattle.report_text.specs.Words.{more, pair}
-use Rattle.report_text.specs.declared.bytes.TheConstants.{PAIRS}
+use Rattle.text_bytes.specs.Digits.{pair}
+use Rattle.text_bytes.specs.declared.bytes.TheConstants.{PAIRS}
 
 -- ---- what was written piece by piece
 
@@ -40,10 +40,6 @@ pub of_more : (n : ℕ) → 10000 ≤ n → n < 100000000 → decimal n ≡ deci
 of_more n lo hi = decimal_four n lo (omega arith)
 
 -- ---- the text
-
-pub one_number : (o ds : List ℕ) → o ++ 32 ∷ ds ≡ o ++ more (ds ∷ [])
-unfolding more
-one_number o ds = ap (λ t. o ++ 32 ∷ t) (sym (append-nil ds))
 
 -- a front of a front
 pub cut_again : (xs : List ℕ) (n u : ℕ) → u ≤ length xs → n ≤ length (take u xs) → take n xs ≡ take n (take u xs)

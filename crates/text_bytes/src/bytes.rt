@@ -1,7 +1,7 @@
 //! Bytes that grow at their end, into room that was laid out ahead.
 ghost use Rattle.std.specs.Prelude.{◌≡◌, ℕ, ◌+◌, ◌<◌, ◌≤◌, [], ◌∷◌, ◌++◌, OnOk, drop, length, take};
 ghost use Rattle.std.specs.Fmt.{decimal};
-ghost use Rattle.report_text.specs.Words.{more, pair};
+ghost use Rattle.text_bytes.specs.Digits.{pair};
 
 use crate::room::{lay_out, room_behind};
 use itoa::Buffer;
@@ -332,9 +332,8 @@ impl Bytes {
     }
 
     /// Adds a number behind a space.
-    #[tactic(auto, using(crate::proofs::Laid::one_number))]
     pub fn number(&mut self, n: u64) -> Result<(), Memory>
-        ensures ok { OnOk result (self.new ≡ self.old ++ more (decimal n ∷ [])) }
+        ensures ok { OnOk result (self.new ≡ self.old ++ 32 ∷ decimal n) }
     {
         if n >= 100_000_000 {
             return self.long_number(n);
@@ -357,9 +356,8 @@ impl Bytes {
     }
 
     /// Adds a name behind a space. A short one is copied without a loop.
-    #[tactic(auto, using(crate::proofs::Laid::one_number))]
     pub fn name(&mut self, name: &[u8]) -> Result<(), Memory>
-        ensures ok { OnOk result (self.new ≡ self.old ++ more (name.now ∷ [])) }
+        ensures ok { OnOk result (self.new ≡ self.old ++ 32 ∷ name.now) }
     {
         if name.is_empty() || name.len() > 3 {
             return self.long_name(name);

@@ -1,8 +1,8 @@
 use Rattle.std.proofs.Common.{◌++◌, ◌/◌, ◌%◌, ap, sym, take, ◌∙◌}
 use Rattle.std.specs.Fmt.{decimal}
-use Rattle.report_text.specs.Words.{pair}
-use Rattle.report_text.proofs.Laid.{of_few, then_two}
-use Rattle.report_text.proofs.bytes.few_over.Goals as goal
+use Rattle.text_bytes.specs.Digits.{pair}
+use Rattle.text_bytes.proofs.Laid.{of_few, then_two}
+use Rattle.text_bytes.proofs.bytes.few_over.Goals as goal
 
 pub returns-clause-written : goal.returns-clause-written
 returns-clause-written c =

@@ -1,6 +1,6 @@
 use Rattle.std.proofs.Common.{ℕ, List, ◌∷◌, ◌++◌, take, ◌∙◌, ap}
 use Rattle.std.proofs.lemmas.List.{with_items_is}
-use Rattle.report_text.proofs.bytes.lay_name.Goals as goal
+use Rattle.text_bytes.proofs.bytes.lay_name.Goals as goal
 
 pub returns-clause-written : goal.returns-clause-written
 returns-clause-written c =

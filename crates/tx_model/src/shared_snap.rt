@@ -1,10 +1,12 @@
 //! What a snapshot's reply tells.
 ghost use Rattle.std.specs.Prelude.{◌≡◌, IfOk};
+ghost use Rattle.tx_events.specs.IdLists.{Ascending};
+ghost use Rattle.tx_events.specs.Sights.{sight_by, top_sight_by};
 
 use std::alloc::{AllocError, Global};
 use std::marker::Model;
 use std::sync::Arc;
-use tx_events::{Copied, FullXid, Memory, SnapData};
+use tx_events::{Copied, FullXid, Memory, Sight, SnapData, sight_of, sight_of_top};
 
 #[derive(Drop)]
 enum Held {
@@ -94,6 +96,33 @@ impl SharedSnap {
         match &self.held {
             Held::Idle { .. } => false,
             Held::Lists { block } => block.overflowed,
+        }
+    }
+
+    /// What it shows of an id, of which was read whether it has `committed` (`sight_of`). Where nothing ran, all that was
+    /// given had ended.
+    pub fn sight_of(&self, x: FullXid, committed: bool) -> Sight
+        ensures { Ascending self.now.xip → Ascending self.now.subxip → result ≡ sight_by self.now x committed }
+    {
+        match &self.held {
+            Held::Idle { xmax, .. } => {
+                if x >= *xmax || !committed {
+                    Sight::Hidden
+                } else {
+                    Sight::Seen
+                }
+            }
+            Held::Lists { block } => sight_of(block, x, committed),
+        }
+    }
+
+    /// Whether it shows an id of this topmost parent (`sight_of_top`).
+    pub fn shows_top(&self, topmost: FullXid) -> bool
+        ensures { Ascending self.now.xip → result ≡ top_sight_by self.now topmost }
+    {
+        match &self.held {
+            Held::Idle { .. } => true,
+            Held::Lists { block } => sight_of_top(block, topmost),
         }
     }
 }

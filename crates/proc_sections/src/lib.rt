@@ -15,6 +15,8 @@ pub use announcing::announce_oldest;
 pub use asking::ask_status;
 pub use ending::end_transaction;
 pub use giving::give_id;
-pub use looking::{Horizons, publish_oldest, read_horizons, read_oldest, read_truncation};
+pub use looking::{
+    Horizons, publish_oldest, read_base, read_horizons, read_oldest, read_truncation,
+};
 pub use telling::tell_made;
 pub use undoing::{place_of, undo_savepoint};

@@ -12,7 +12,7 @@ ghost use Rattle.proc_sections.specs.Horizons.{AreHorizonsOf, HasForms, truncati
 use disk_core::{LogDisk, PageDisk};
 use engine_parts::{Caller, EngineLaw, Part, Passing, enter_proc, leave_looked};
 use hall::Hall;
-use tx_events::{FullXid, Rec};
+use tx_events::{Counters, FullXid, Rec};
 
 /// The announced oldest id (`oldestXid` of `TransamVariables` in `src/backend/access/transam/varsup.c`): one critical
 /// section of the ProcArray.
@@ -60,6 +60,30 @@ pub fn publish_oldest<R: Passing, L: LogDisk, P: PageDisk>(
 {
     let held = enter_proc(rt, hall, caller);
     leave_looked(hall, caller, 1, Part::Proc(held));
+}
+
+/// The counters with which the life began: one critical section of the ProcArray.
+pub fn read_base<R: Passing, L: LogDisk, P: PageDisk>(
+    rt: &R,
+    hall: &Hall<EngineLaw<L, P>>,
+    caller: &mut Caller<L, P>,
+) -> Counters
+    requires own { IsOf hall.now caller.old.pass }
+    requires laid { hall.now.cells ≡ 3 + 4 * (start_of hall.now).banks }
+    requires ready { IsReady (start_of hall.now) (view caller.old.pass) caller.old.number caller.old.session }
+    ensures section { ProcSection (start_of hall.now) (look_by caller.old.number caller.old.session)
+        (view caller.old.pass) (view caller.new.pass) }
+    ensures own { IsOf hall.now caller.new.pass }
+    ensures ready { IsReady (start_of hall.now) (view caller.new.pass) caller.new.number caller.new.session }
+    ensures went { WentOn caller.old.number [] (view caller.old.pass).seen (view caller.new.pass).seen }
+    ensures base { result ≡ (start_of hall.now).base }
+    ensures same { (caller.new.session ≡ caller.old.session) × (caller.new.number ≡ caller.old.number) }
+{
+    let held = enter_proc(rt, hall, caller);
+    let table = &*held;
+    let base = table.base();
+    leave_looked(hall, caller, 1, Part::Proc(held));
+    base
 }
 
 /// What a command reads of the ProcArray at once.

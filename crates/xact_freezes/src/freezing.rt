@@ -18,7 +18,6 @@ ghost use Rattle.multi_sections.specs.Pinnings.{Pins};
 ghost use Rattle.xact_freezes.specs.Freezes.{FreezesPinned, IsHeldSince, IsOffsetsFault, IsStartRead, RaisesRead};
 ghost use Rattle.xact_freezes.specs.Visits.{Visited};
 
-use crate::looking::read_base;
 use bank_sections::stall;
 use disk_core::{LogDisk, PageDisk};
 use engine_parts::{Caller, EngineLaw, Passing, count};
@@ -26,6 +25,7 @@ use hall::Hall;
 use multi_banks::read_offset;
 use multi_sections::{Freezing, Raising, raise_multi, start_freeze, unpin_multi};
 use multi_store::Held;
+use proc_sections::read_base;
 use slru_bank::BankRefusal;
 use store_pages::{bank_of, offset_page};
 use tx_events::{FullMulti, Lock, Refusal};

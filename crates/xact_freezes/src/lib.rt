@@ -9,7 +9,6 @@ mod ids;
 /// What no truncation removes, and what each does. The functions do nothing; their contracts are the laws.
 pub mod laws;
 mod logging;
-mod looking;
 mod trimming;
 
 pub use freezing::multi_freeze;

@@ -12,12 +12,11 @@ ghost use Rattle.xact_freezes.specs.Trims.{HasTrimmed};
 
 use crate::cutting::cut_all;
 use crate::logging::log_trim;
-use crate::looking::read_base;
 use disk_core::{LogDisk, PageDisk};
 use engine_parts::{Caller, EngineLaw, Passing, count};
 use hall::Hall;
 use multi_sections::read_multis;
-use proc_sections::read_horizons;
+use proc_sections::{read_base, read_horizons};
 use tx_events::{Rec, Refusal};
 
 /// Truncates the four stores (`vac_truncate_clog` of `src/backend/commands/vacuum.c`, `TruncateMultiXact` of

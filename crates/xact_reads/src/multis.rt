@@ -64,7 +64,7 @@ fn read_pinned<R: Passing, L: LogDisk, P: PageDisk>(
 /// What the session's snapshot of this name says of each member of the multixact that `m` means near the next one, in the
 /// members' order (`GetMultiXactIdMembers` of `src/backend/access/transam/multixact.c`, and for each member
 /// `XidInMVCCSnapshot` of `src/backend/utils/time/snapmgr.c`). The multixact is pinned while its members are read. A
-/// member means the full id nearest to the snapshot's xmax; it is `TooOld` where that is before the announced oldest id, or
+/// member means the full id nearest to the snapshot's xmax; it is `TooOld` where that is before the published oldest id, or
 /// there is none. `banks` is the number of banks of each store, 1 to 16; the lists are of `alloc`.
 ///
 /// Refused, in this order, with `NoSnapshot` where the session has none of this name, with `Memory`, with `MultiTooOld`

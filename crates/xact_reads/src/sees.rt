@@ -75,7 +75,7 @@ fn see_found<R: Passing, L: LogDisk, P: PageDisk>(
 /// number of banks of each store, 1 to 16.
 ///
 /// Refused, in this order, with `NoSnapshot` where the session has none of this name, with `TooOld` where the id is
-/// before the announced oldest id, or there is none, and with `DiskFault` of a bank of pg_xact or pg_subtrans. Takes no
+/// before the published oldest id, or there is none, and with `DiskFault` of a bank of pg_xact or pg_subtrans. Takes no
 /// memory. Enters the ProcArray only where the page with the id's state is cut. The session has run fewer than 2^48
 /// commands.
 pub fn see<R: Passing, L: LogDisk, P: PageDisk>(

@@ -7,7 +7,7 @@ use Rattle.engine_parts.specs.Faults.{look_of}
 use Rattle.engine_parts.specs.Sessions.{by_at, look_by}
 use Rattle.engine_parts.proofs.Sectioning.{proc_quiet, proc_section_of, same_command}
 use Rattle.engine_parts.proofs.Tabling.{proc_looks}
-use Rattle.xact_freezes.proofs.looking.read_base.Goals as goal
+use Rattle.proc_sections.proofs.looking.read_base.Goals as goal
 
 pub leave_looked-requires-clause-stands : goal.leave_looked-requires-clause-stands
 leave_looked-requires-clause-stands g c =
@@ -29,5 +29,4 @@ returns-clause-went g c =
     proc_quiet (start_of c.args.hall.now) (view c.args.caller.now.pass) (view c.enter_proc-held.new.caller.pass) (view c.leave_looked.new.caller.pass) c.args.caller.now.number c.args.caller.now.session _ c.requires.ready.at e.entered refl refl refl c.leave_looked.ensures.left
 
 pub returns-clause-base : goal.returns-clause-base
-returns-clause-base g c =
-    c.base-base.ensures ∙ (subst (λ l. ProcStands (start_of c.args.hall.now) l (at (view c.enter_proc-held.new.caller.pass).seen proc_lock)) (sym c.deref-table.ensures) c.enter_proc-held.ensures.stands).base
+returns-clause-base g c = c.base-base.ensures ∙ (subst (λ l. ProcStands (start_of c.args.hall.now) l (at (view c.enter_proc-held.new.caller.pass).seen proc_lock)) (sym c.deref-table.ensures) c.enter_proc-held.ensures.stands).base

@@ -13,6 +13,7 @@ use Rattle.notes.proofs.Growing.{at_else, at_here, begins_same}
 use Rattle.tx_events.specs.declared.event.By.{By}
 use Rattle.tx_events.specs.Events.{is_of}
 use Rattle.tx_events.specs.Horizon.{oldest_id}
+use Rattle.tx_events.specs.Ids.{IsXidNumber}
 use Rattle.tx_events.proofs.Membership.{has_contains}
 use Rattle.proc_table.specs.Table.{Table, oldest_of}
 use Rattle.tx_core.specs.declared.entry.Entry.{Entry}
@@ -31,7 +32,7 @@ use Rattle.tx_core.proofs.Stepping.{own_asks}
 use Rattle.tx_core.specs.Consequences.{IsShownBehind}
 use Rattle.engine_parts.specs.declared.session.Session.{Session}
 use Rattle.engine_parts.specs.Adding.{Adds, AddsNothing}
-use Rattle.engine_parts.specs.Holds.{Enters, EntersProc, Knowledge, Learns, Leaves, Publishes, post_of}
+use Rattle.engine_parts.specs.Holds.{Enters, EntersProc, Knowledge, Learns, Leaves, Publishes, post_of, shown_oldest}
 use Rattle.engine_parts.specs.Law.{MayKeep, number_of_word, writer_of}
 use Rattle.engine_parts.specs.Sessions.{IsAt, by_at}
 use Rattle.engine_parts.specs.Stand.{ProcStands}
@@ -91,6 +92,9 @@ module _ (start : Start) (q : ℕ) (v w : Knowledge) (x : ℕ) (l : Loaded sessi
   pub loaded_shows : number_of_word start q (at w.seen q) ≡ x
   loaded_shows = subst (λ (z : List (List Entry)). number_of_word start q (at z q) ≡ x) lists_are l.shown
 
+  pub loaded_oldest : q ≡ oldest_word start → shown_oldest start w.seen ≡ x
+  loaded_oldest word = subst (λ z. last_from start.base.oldest (posts (at w.seen z)) ≡ x) word (sym (word_shows start q (at w.seen q) word) ∙ loaded_shows)
+
   -- whoever is inside the ProcArray's lock had seen its list
   pub loaded_proc : v.stage ≡ Inside proc_lock → at w.seen proc_lock ≡ at v.seen proc_lock
   loaded_proc inside = subst (λ (z : List (List Entry)). at z proc_lock ≡ at v.seen proc_lock) lists_are (sym ((l.moment.locked proc_lock inside).whole proc_lock (proc_writer start)))
@@ -98,7 +102,7 @@ module _ (start : Start) (q : ℕ) (v w : Knowledge) (x : ℕ) (l : Loaded sessi
 -- ---- what is published
 
 -- a word that shows no older one shows the oldest id
-pub shown_from : (start : Start) (lists : List (List Entry)) → oldest_id start.base.oldest (history lists) ≤ last_from start.base.oldest (posts (at lists (oldest_word start))) → IsShown start lists
+pub shown_from : (start : Start) (lists : List (List Entry)) → oldest_id start.base.oldest (history lists) ≤ shown_oldest start lists → IsShown start lists
 shown_from start lists upto =
     let ns : List ℕ = posts (at lists (oldest_word start)) in
     ⊎_elim
@@ -106,8 +110,8 @@ shown_from start lists upto =
     (λ k. inr (last_from start.base.oldest ns, has_contains ns (last_from start.base.oldest ns) k, upto))
     (last_among start.base.oldest ns)
 
-pub may_publish : (start : Start) (seen : List (List Entry)) (by : By) (e : Entry) → EngineInvariant start seen → e ≡ post_of by (oldest_id start.base.oldest (history seen)) → IsInTurn start (at seen (oldest_word start)) by → MayKeep start seen (oldest_word start) e
-may_publish start seen by e kept is turn = subst (MayKeep start seen (oldest_word start)) (sym is) (λ lists k knows inside whole. oldest_post_law start seen by kept lists k knows inside whole turn)
+pub may_publish : (start : Start) (seen : List (List Entry)) (by : By) (e : Entry) → EngineInvariant start seen → IsXidNumber (oldest_id start.base.oldest (history seen)) → e ≡ post_of by (oldest_id start.base.oldest (history seen)) → IsInTurn start (at seen (oldest_word start)) by → MayKeep start seen (oldest_word start) e
+may_publish start seen by e kept form is turn = subst (MayKeep start seen (oldest_word start)) (sym is) (λ lists k knows inside whole. oldest_post_law start seen by kept form lists k knows inside whole turn)
 
 module _ (start : Start) (v w : Knowledge) (n : ℕ) (s : Session) (a : IsAt start v n s) (p : Publishes start (by_at n s.levels.commands) v w) where
   abbrev entry : Entry
@@ -165,11 +169,12 @@ module _ (start : Start) (v w : Knowledge) (n : ℕ) (s : Session) (a : IsAt sta
   published_adds May posts = section_added start v v behind (oldest_word start) entry (by_at n s.levels.commands) May a.name (learns_self v) inside left refl (posts (oldest_id start.base.oldest (history v.seen)))
 
 -- the word was published
-pub published_of : (start : Start) (q : ℕ) (w z : Knowledge) (by : By) (e : Entry) → q ≡ oldest_word start → e ≡ post_of by (oldest_id start.base.oldest (history w.seen)) → EngineInvariant start w.seen → IsInTurn start (at w.seen (oldest_word start)) by → oldest_word start < length w.seen → z ≡ published q e w → Publishes start by w z
-published_of start q w z by e word is kept turn inside view =
+pub published_of : (start : Start) (q : ℕ) (w z : Knowledge) (by : By) (e : Entry) → q ≡ oldest_word start → e ≡ post_of by (oldest_id start.base.oldest (history w.seen)) → shown_oldest start w.seen < oldest_id start.base.oldest (history w.seen) → IsXidNumber (oldest_id start.base.oldest (history w.seen)) → EngineInvariant start w.seen → IsInTurn start (at w.seen (oldest_word start)) by → oldest_word start < length w.seen → z ≡ published q e w → Publishes start by w z
+published_of start q w z by e word is older form kept turn inside view =
     let grown : z.seen ≡ add w.seen (oldest_word start) (post_of by (oldest_id start.base.oldest (history w.seen))) = ap (λ (k : Knowledge). k.seen) view ∙ (λ j. add w.seen (word j) (is j)) in record {
+      older = older;
       seen = grown;
-      kept = subst (EngineInvariant start) (sym grown) (oldest_post_law start w.seen by kept w.seen kept (learns_self (record w { name = by.session })).knows inside refl turn);
+      kept = subst (EngineInvariant start) (sym grown) (oldest_post_law start w.seen by kept form w.seen kept (learns_self (record w { name = by.session })).knows inside refl turn);
       stage = ap (λ (k : Knowledge). k.stage) view;
       name = ap (λ (k : Knowledge). k.name) view;
       holds = ap (λ (k : Knowledge). k.holds) view;
@@ -197,8 +202,7 @@ module _ (start : Start) (q : ℕ) (v w : Knowledge) (x n : ℕ) (s : Session) (
   pub stood_there : q ≡ oldest_word start → oldest_id start.base.oldest (history w.seen) ≤ x → (by : By) (u : Knowledge) → Enters start proc_lock u v → EntersProc start by u w
   stood_there word upto by u e =
       let f = found_entered u e in
-      let shows : last_from start.base.oldest (posts (at w.seen q)) ≡ x = sym (word_shows start q (at w.seen q) word) ∙ loaded_shows start q v w x l in
-      let same : last_from start.base.oldest (posts (at w.seen (oldest_word start))) ≡ x = subst (λ z. last_from start.base.oldest (posts (at w.seen z)) ≡ x) word shows in record {
+      let same : shown_oldest start w.seen ≡ x = loaded_oldest start q v w x l word in record {
         found = w;
         enters = f;
         publishes = inl refl;
@@ -207,6 +211,14 @@ module _ (start : Start) (q : ℕ) (v w : Knowledge) (x n : ℕ) (s : Session) (
         inside = f.inside;
         long = f.learns.long;
       }
+
+  -- where it shows an older id than the table tells, that one was published
+  pub publishes_found : (table : Table) (oldest : ℕ) (z : Knowledge) (by : By) (e : Entry) → q ≡ oldest_word start → ProcStands start table (at v.seen proc_lock) → oldest ≡ oldest_of table → IsXidNumber oldest → x < oldest → by ≡ by_at n s.levels.commands → e ≡ post_of by oldest → z ≡ published q e w → Publishes start (by_at n s.levels.commands) w z
+  publishes_found table oldest z by e word stands tells form older mine is view =
+      let number : oldest ≡ oldest_id start.base.oldest (history w.seen) = table_oldest start table (at w.seen proc_lock) oldest (found_stands table stands) tells in
+      let shows : shown_oldest start w.seen ≡ x = loaded_oldest start q v w x l word in
+      let wide = found_at.wide in
+      published_of start q w z (by_at n s.levels.commands) e word (is ∙ (λ j. post_of (mine j) (number j))) (omega arith) (subst IsXidNumber number form) found_at.kept (found_at.turns (oldest_word start)) (omega arith) view
 
   pub was_published : (z : Knowledge) → Publishes start (by_at n s.levels.commands) w z → (u : Knowledge) → Enters start proc_lock u v → EntersProc start (by_at n s.levels.commands) u z
   was_published z p u e =
@@ -225,8 +237,7 @@ module _ (start : Start) (q : ℕ) (v w : Knowledge) (x n : ℕ) (s : Session) (
 -- the word shows what is at most one event behind what was seen
 pub word_read : (start : Start) (q : ℕ) (v w : Knowledge) (x : ℕ) → Holds v v.name → q ≡ oldest_word start → Loaded session_of writer_of number_of_word EngineInvariant start q v x w → IsShownBehind start v.seen w.seen x
 word_read start q v w x named word l =
-    let shows : last_from start.base.oldest (posts (at w.seen q)) ≡ x = sym (word_shows start q (at w.seen q) word) ∙ loaded_shows start q v w x l in
-    subst (IsShownBehind start v.seen w.seen) (subst (λ z. last_from start.base.oldest (posts (at w.seen z)) ≡ x) word shows)
+    subst (IsShownBehind start v.seen w.seen) (loaded_oldest start q v w x l word)
     (oldest_shown start v.seen w.seen (loaded_kept start q v w x l) (loaded_learns start q v w x l named).knows.grows)
 
 -- whoever only learns something goes on without an event

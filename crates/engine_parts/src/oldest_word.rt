@@ -17,7 +17,7 @@ use disk_core::{LogDisk, PageDisk};
 use hall::{Hall, Note};
 use proc_table::ProcTable;
 use tx_core::Entry;
-use tx_events::By;
+use tx_events::{By, FullXid};
 
 /// The number of the published word.
 const OLDEST_WORD: u32 = 0;
@@ -62,7 +62,7 @@ pub(crate) fn publish_oldest<L: LogDisk, P: PageDisk>(
 pub fn read_oldest_word<L: LogDisk, P: PageDisk>(
     hall: &Hall<EngineLaw<L, P>>,
     caller: &mut Caller<L, P>,
-) -> u64
+) -> FullXid
     requires own { IsOf hall.now caller.old.pass }
     requires laid { hall.now.cells ≡ 3 + 4 * (start_of hall.now).banks }
     requires ready { IsReady (start_of hall.now) (view caller.old.pass) caller.old.number caller.old.session }
@@ -74,5 +74,8 @@ pub fn read_oldest_word<L: LogDisk, P: PageDisk>(
         (view caller.old.pass).seen (view caller.new.pass).seen }
     ensures same { (caller.new.session ≡ caller.old.session) × (caller.new.number ≡ caller.old.number) }
 {
-    hall.read_post(&mut caller.pass, OLDEST_WORD)
+    match FullXid::new(hall.read_post(&mut caller.pass, OLDEST_WORD)) {
+        Some(oldest) => oldest,
+        None => unreachable!(),
+    }
 }

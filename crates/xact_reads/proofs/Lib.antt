@@ -3,6 +3,7 @@ pub mod Sighting
 pub mod Climbing
 pub mod Showing
 pub mod Going
+pub mod Aparting
 pub mod Replying
 pub mod Looking
 pub mod Standing

@@ -118,10 +118,14 @@ module _ (start : Start) (v w : Knowledge) (n : ℕ) (s : Session) (name : List 
         },
       )
 
-  -- an id before the oldest one, or none
-  pub old_answer : (tells : Bool) (o : Option ℕ) (oldest : ℕ) → 3 ≤ x.number → near_id k.snapshot.xmax x.number ≡ o → IfSome o (λ id. id < oldest) → oldest ≡ oldest_id start.base.oldest h
+  -- the oldest id at the end
+  finds_last : (oldest : ℕ) → oldest ≡ oldest_id start.base.oldest h → MayFindOldest start.base h (alone (history v.seen) h) by oldest
+  finds_last oldest is = subst (MayFindOldest start.base h (alone (history v.seen) h) by) (sym is) (finds_oldest start.base by (history v.seen) h (went_longer n v.seen w.seen went) a.stands.turn)
+
+  -- an id before one that the command may find to be the oldest, or none
+  pub old_answer : (tells : Bool) (o : Option ℕ) (oldest : ℕ) → 3 ≤ x.number → near_id k.snapshot.xmax x.number ≡ o → IfSome o (λ id. id < oldest) → MayFindOldest start.base h (alone (history v.seen) h) by oldest
       → MayAnswer tells start w.seen (alone (history v.seen) h) by (stance_of s) s.stage (commands.See name x) (replies.Refused (refusals.TooOld oldest))
-  old_answer tells o oldest normal near older is =
+  old_answer tells o oldest normal near older found =
       let r = named_at start w n s name k a named in (
         k.command,
         snap_found name (stance_of s).levels s.levels.registered.items k named,
@@ -130,7 +134,7 @@ module _ (start : Start) (v w : Knowledge) (n : ℕ) (s : Session) (name : List 
           taken = r.0.taken ∙ ap (λ m. Some (events.Snap m (record { session = n; command = k.command }))) (same_name_equal k.name name r.1);
           normal = normal;
           older = subst (λ p. IfSome p (λ id. id < oldest)) (sym near ∙ ap (λ (d : SnapData). near_id d.xmax x.number) r.0.holds) older;
-          found = subst (MayFindOldest start.base h (alone (history v.seen) h) by) (sym is) (finds_oldest start.base by (history v.seen) h (went_longer n v.seen w.seen went) a.stands.turn);
+          found = found;
         },
       )
 
@@ -141,7 +145,7 @@ module _ (start : Start) (v w : Knowledge) (n : ℕ) (s : Session) (name : List 
     where
       state_unread : (r : Refusal) → IsStateUnread start w.seen by g.id r → MayAnswer tells start w.seen (alone (history v.seen) h) by (stance_of s) s.stage (commands.See name x) (replies.Refused r) × (by_standing (replies.Refused r) ≡ None)
       state_unread (refusals.DiskFault (locks.Xact bank)) u = ((le-leb 3 x.number normal, u), refl)
-      state_unread (refusals.TooOld oldest) u = (old_answer tells (Some g.id) oldest normal shows.near u.1 u.0, refl)
+      state_unread (refusals.TooOld oldest) u = (old_answer tells (Some g.id) oldest normal shows.near u.1 (finds_last oldest u.0), refl)
       state_unread r u = absurd u
 
       parent_unread : (r : Refusal) → IsSubtransFault w.seen by r → MayAnswer tells start w.seen (alone (history v.seen) h) by (stance_of s) s.stage (commands.See name x) (replies.Refused r) × (by_standing (replies.Refused r) ≡ None)

@@ -17,7 +17,7 @@ use Rattle.tx_core.specs.declared.entry.Start.{Start}
 use Rattle.tx_core.specs.Consequences.{IsShownBehind}
 use Rattle.tx_core.specs.EngineInvariant.{EngineInvariant}
 use Rattle.tx_core.specs.Entries.{history}
-use Rattle.tx_core.proofs.Posting.{oldest_between, oldest_by_places, oldest_rises}
+use Rattle.tx_core.proofs.Posting.{oldest_between}
 use Rattle.engine_parts.specs.declared.session.Session.{Session}
 use Rattle.engine_parts.specs.Holds.{Knowledge}
 use Rattle.engine_parts.specs.Sessions.{IsAt, by_at}
@@ -79,13 +79,6 @@ finds_word start v u n s oldest a went shown =
 -- it isn't before the one with which the life began
 pub word_from : (start : Start) (seen lists : List (List Entry)) (oldest : ℕ) → EngineInvariant start lists → IsShownBehind start seen lists oldest → start.base.oldest ≤ oldest
 word_from start seen lists oldest k shown = let up = oldest_between start.base (history lists) 0 shown.place k.events.legal (omega arith) in let is = shown.is in omega arith
-
--- nor past the one that is found later
-pub word_upto : (start : Start) (seen lists more : List (List Entry)) (oldest : ℕ) → EngineInvariant start lists → EngineInvariant start more → Grows lists more → IsShownBehind start seen lists oldest → oldest ≤ oldest_id start.base.oldest (history more)
-word_upto start seen lists more oldest k later grows shown =
-    let up = oldest_by_places start.base (history lists) k.events.legal shown.place in
-    let on = oldest_rises start lists more later grows in
-    let is = shown.is in omega arith
 
 -- it was announced, or the life began with it
 pub word_carried : (start : Start) (seen lists : List (List Entry)) (oldest : ℕ) → IsShownBehind start seen lists oldest → IsCarried start lists oldest

@@ -1,4 +1,5 @@
 pub mod Ancestors
+pub mod Apart
 pub mod Glances
 pub mod Readings
 pub mod Stores

@@ -6,6 +6,7 @@ ghost use Rattle.engine_parts.specs.Sessions.{IsReady, by_at};
 ghost use Rattle.engine_parts.specs.Steps.{WentOn};
 ghost use Rattle.bank_sections.specs.Reads.{IsParentRead};
 ghost use Rattle.bank_sections.specs.Faults.{IsSubtransFault};
+ghost use Rattle.xact_reads.specs.Apart.{StaysApart};
 ghost use Rattle.xact_reads.specs.Readings.{IsTopOf};
 
 use bank_sections::{read_parent, stall};
@@ -47,6 +48,7 @@ fn parent_of<R: Passing, L: LogDisk, P: PageDisk>(
     ensures own { IsOf hall.now caller.new.pass }
     ensures ready { IsReady (start_of hall.now) (view caller.new.pass) caller.new.number caller.new.session }
     ensures went { WentOn caller.old.number [] (view caller.old.pass).seen (view caller.new.pass).seen }
+    ensures apart { StaysApart caller.old.number (view caller.old.pass).seen (view caller.new.pass).seen }
     ensures adds { Adds (by_at caller.old.number caller.old.session.levels.commands) (MayFault result)
         (view caller.old.pass).seen (view caller.new.pass).seen }
     ensures below { IfOk result (λ parent. IfSome parent (λ y. y < x)) }
@@ -88,6 +90,7 @@ pub(crate) fn climb<R: Passing, L: LogDisk, P: PageDisk>(
     ensures own { IsOf hall.now caller.new.pass }
     ensures ready { IsReady (start_of hall.now) (view caller.new.pass) caller.new.number caller.new.session }
     ensures went { WentOn caller.old.number [] (view caller.old.pass).seen (view caller.new.pass).seen }
+    ensures apart { StaysApart caller.old.number (view caller.old.pass).seen (view caller.new.pass).seen }
     ensures adds { Adds (by_at caller.old.number caller.old.session.levels.commands) (MayFault result)
         (view caller.old.pass).seen (view caller.new.pass).seen }
     ensures top { IsTrue P.tells → IfOk result (λ topmost.

@@ -254,7 +254,7 @@ pub(crate) fn judge_all<R: Passing, L: LogDisk, P: PageDisk>(
     ensures ranges { AllByRecursion IsOfId into.new.items }
     ensures same { (caller.new.session ≡ caller.old.session) × (caller.new.number ≡ caller.old.number) }
 {
-    let oldest = read_oldest_word(hall, caller);
+    let oldest = read_oldest_word(hall, caller).number();
     let mut place = 0;
     while place < slots.len() {
         let slot = slots[place];

@@ -11,6 +11,7 @@ ghost use Rattle.engine_parts.specs.Calls.{MayRun, Ran, next_command};
 ghost use Rattle.engine_parts.specs.Sessions.{IsReady, by_at, stance_of};
 ghost use Rattle.life_law.specs.Refused.{by_standing};
 ghost use Rattle.engine_parts.specs.Steps.{WentOn};
+ghost use Rattle.xact_reads.specs.Apart.{IsMeantCut, KeepsApart};
 ghost use Rattle.xact_reads.specs.Glances.{HasGlanced};
 
 use crate::glances::{Glance, glance_at};
@@ -18,13 +19,11 @@ use crate::shows::show;
 use disk_core::{LogDisk, PageDisk};
 use engine_parts::{Caller, EngineLaw, Passing, count, read_oldest_word};
 use hall::Hall;
-use proc_sections::read_oldest;
 use session_levels::registered_as;
 use tx_events::{Name, Refusal, Xid};
 
 /// What the session's snapshot of this name shows of the stored id `_x`, for which it was looked there: `TooOld` where
-/// the id is before the oldest one, or there is none. Whether it is the published oldest id tells, under no lock; only
-/// for that refusal the ProcArray is looked at.
+/// the id is before the oldest one, or there is none. The published oldest id tells that, under no lock.
 fn see_found<R: Passing, L: LogDisk, P: PageDisk>(
     rt: &R,
     hall: &Hall<EngineLaw<L, P>>,
@@ -43,6 +42,9 @@ fn see_found<R: Passing, L: LogDisk, P: PageDisk>(
     ensures own { IsOf hall.now caller.new.pass }
     ensures ready { IsReady (start_of hall.now) (view caller.new.pass) caller.new.number caller.new.session }
     ensures went { WentOn caller.old.number [] (view caller.old.pass).seen (view caller.new.pass).seen }
+    ensures apart { KeepsApart (IsMeantCut (start_of hall.now) (view caller.new.pass).seen
+        caller.old.session.levels name.now _x.number)
+        caller.old.number (view caller.old.pass).seen (view caller.new.pass).seen result }
     ensures adds { Adds (by_at caller.old.number caller.old.session.levels.commands) (MayFault result)
         (view caller.old.pass).seen (view caller.new.pass).seen }
     ensures allowed { MayAnswer P.tells (start_of hall.now) (view caller.new.pass).seen
@@ -52,16 +54,12 @@ fn see_found<R: Passing, L: LogDisk, P: PageDisk>(
     ensures standing { by_standing (reply_of replies.Seen result) ≡ None }
     ensures same { (caller.new.session ≡ caller.old.session) × (caller.new.number ≡ caller.old.number) }
 {
+    let published = read_oldest_word(hall, caller);
     match found {
-        None => {
-            let oldest = read_oldest(rt, hall, caller);
-            Err(Refusal::TooOld { oldest })
-        }
+        None => Err(Refusal::TooOld { oldest: published }),
         Some(glance) => {
-            let published = read_oldest_word(hall, caller);
-            if glance.id.number() < published {
-                let oldest = read_oldest(rt, hall, caller);
-                return Err(Refusal::TooOld { oldest });
+            if glance.id < published {
+                return Err(Refusal::TooOld { oldest: published });
             }
             match show(rt, hall, caller, banks, name, *glance) {
                 Ok(shown) => Ok(shown),
@@ -78,7 +76,8 @@ fn see_found<R: Passing, L: LogDisk, P: PageDisk>(
 ///
 /// Refused, in this order, with `NoSnapshot` where the session has none of this name, with `TooOld` where the id is
 /// before the announced oldest id, or there is none, and with `DiskFault` of a bank of pg_xact or pg_subtrans. Takes no
-/// memory. The session has run fewer than 2^48 commands.
+/// memory. Enters the ProcArray only where the page with the id's state is cut. The session has run fewer than 2^48
+/// commands.
 pub fn see<R: Passing, L: LogDisk, P: PageDisk>(
     rt: &R,
     hall: &Hall<EngineLaw<L, P>>,
@@ -88,8 +87,11 @@ pub fn see<R: Passing, L: LogDisk, P: PageDisk>(
     x: Xid,
 ) -> Result<bool, Refusal>
     requires { MayRun hall.now banks caller.old }
-    ensures { Ran hall.now (next_command caller.old) (commands.See name.now x) (reply_of replies.Seen result)
+    ensures ran { Ran hall.now (next_command caller.old) (commands.See name.now x) (reply_of replies.Seen result)
         caller.old caller.new }
+    ensures apart { KeepsApart (IsMeantCut (start_of hall.now) (view caller.new.pass).seen
+        caller.old.session.levels name.now x.number)
+        caller.old.number (view caller.old.pass).seen (view caller.new.pass).seen result }
 {
     count(caller);
     let found = match registered_as(&caller.session.levels, name) {

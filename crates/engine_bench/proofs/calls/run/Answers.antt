@@ -45,4 +45,4 @@ returns-in-DropSnap g c =
 pub returns-in-See : goal.returns-in-See
 returns-in-See g c =
     let few = c.if-caller-ge-MOST_COMMANDS.false in
-    ran_one c.args.hall.now c.args.banks _ _ c.is_ok-in-See.result c.args.caller.now c.see.new.caller c.requires (omega (arith, few)) c.see.ensures
+    ran_one c.args.hall.now c.args.banks _ _ c.is_ok-in-See.result c.args.caller.now c.see.new.caller c.requires (omega (arith, few)) c.see.ensures.ran

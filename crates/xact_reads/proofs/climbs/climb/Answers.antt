@@ -6,12 +6,13 @@ use Rattle.engine_parts.specs.Adding.{IsPlain, MayMeet}
 use Rattle.engine_parts.specs.Sessions.{by_at}
 use Rattle.engine_parts.proofs.Adding.{adds_nothing, plain_meets}
 use Rattle.engine_parts.proofs.Stepping.{went_nowhere}
+use Rattle.xact_reads.proofs.Aparting.{apart_then}
 use Rattle.xact_reads.proofs.Climbing.{come_nowhere, none_before, stops_at, way_on}
 use Rattle.xact_reads.proofs.Going.{read_adds, went_both}
 use Rattle.xact_reads.proofs.climbs.climb.Goals as goal
 
 pub loop-xmin-init : goal.loop-xmin-init
-loop-xmin-init g c = (c.requires.own, c.requires.ready, went_nowhere c.args.caller.now.number (view c.args.caller.now.pass).seen, (refl, refl), omega arith, λ told. come_nowhere (start_of c.args.hall.now) (view c.args.caller.now.pass).seen c.args.x, adds_nothing (by_at c.args.caller.now.number c.args.caller.now.session.levels.commands) IsPlain (view c.args.caller.now.pass).seen)
+loop-xmin-init g c = (c.requires.own, c.requires.ready, went_nowhere c.args.caller.now.number (view c.args.caller.now.pass).seen, (refl, refl), omega arith, λ told. come_nowhere (start_of c.args.hall.now) (view c.args.caller.now.pass).seen c.args.x, adds_nothing (by_at c.args.caller.now.number c.args.caller.now.session.levels.commands) IsPlain (view c.args.caller.now.pass).seen, refl)
 
 pub loop-xmin-preserved : goal.loop-xmin-preserved
 loop-xmin-preserved g c =
@@ -28,6 +29,7 @@ loop-xmin-preserved g c =
       (let to = i.4 in omega arith),
       λ told. way_on (start_of c.args.hall.now) (view u.pass).seen (view w.pass).seen c.args.x c.loop-xmin.top c.in-Some.parent e.ready.at.base e.ready.at.kept e.went.on.grows (i.5 told) (read told),
       read_adds c.args.caller.now.number u.number c.args.caller.now.session u.session IsPlain (view c.args.caller.now.pass).seen (view u.pass).seen (view w.pass).seen i.3.1 i.3.0 (λ lock kind m. m) i.6 e.adds,
+      apart_then c.args.caller.now.number u.number (view c.args.caller.now.pass).seen (view u.pass).seen (view w.pass).seen i.3.1 i.7 e.apart,
     )
 
 pub returns-in-None-clause-went : goal.returns-in-None-clause-went
@@ -75,3 +77,18 @@ returns-in-Err-clause-adds g c =
 
 pub returns-clause-adds : goal.returns-clause-adds
 returns-clause-adds g c = c.loop-xmin.invariant.6
+
+pub returns-in-None-clause-apart : goal.returns-in-None-clause-apart
+returns-in-None-clause-apart g c =
+    let i = c.loop-xmin.invariant in
+    let u = c.loop-xmin.caller in
+    apart_then c.args.caller.now.number u.number (view c.args.caller.now.pass).seen (view u.pass).seen (view c.parent_of.new.caller.pass).seen i.3.1 i.7 c.in-Ok.ensures.apart
+
+pub returns-in-Err-clause-apart : goal.returns-in-Err-clause-apart
+returns-in-Err-clause-apart g c =
+    let i = c.loop-xmin.invariant in
+    let u = c.loop-xmin.caller in
+    apart_then c.args.caller.now.number u.number (view c.args.caller.now.pass).seen (view u.pass).seen (view c.parent_of.new.caller.pass).seen i.3.1 i.7 c.in-Err.ensures.apart
+
+pub returns-clause-apart : goal.returns-clause-apart
+returns-clause-apart g c = c.loop-xmin.invariant.7

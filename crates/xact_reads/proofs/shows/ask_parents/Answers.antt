@@ -9,6 +9,8 @@ use Rattle.engine_parts.proofs.Sectioning.{same_command}
 use Rattle.engine_parts.proofs.Unmoved.{at_same}
 use Rattle.xact_reads.specs.Glances.{IsNamed}
 use Rattle.bank_sections.specs.Faults.{IsSubtransFault}
+use Rattle.xact_reads.specs.Apart.{IsStateCut}
+use Rattle.xact_reads.proofs.Aparting.{apart_any, apart_then}
 use Rattle.xact_reads.proofs.Going.{read_adds, went_both}
 use Rattle.xact_reads.proofs.Looking.{climb_limits, parent_unread, shows_none, shows_parents}
 use Rattle.xact_reads.proofs.shows.ask_parents.Goals as goal
@@ -76,3 +78,18 @@ returns-in-Err-climb-clause-adds g c =
     let u = c.is_committed.new.caller in
     let e = c.in-Ok.ensures in
     read_adds old.number u.number old.session u.session (MayMeet c.in-Err-climb.refusal) (view old.pass).seen (view u.pass).seen (view c.climb.new.caller.pass).seen e.same.1 e.same.0 (plain_meets c.in-Err-climb.refusal) e.adds c.in-Err-climb.ensures.adds
+
+pub returns-in-Ok-climb-clause-apart : goal.returns-in-Ok-climb-clause-apart
+returns-in-Ok-climb-clause-apart g c =
+    let u = c.is_committed.new.caller in
+    let e = c.in-Ok.ensures in
+    apart_then c.args.caller.now.number u.number (view c.args.caller.now.pass).seen (view u.pass).seen (view c.climb.new.caller.pass).seen e.same.1 e.apart c.in-Ok-climb.ensures.apart
+
+pub returns-in-Err-climb-clause-apart : goal.returns-in-Err-climb-clause-apart
+returns-in-Err-climb-clause-apart g c =
+    let n = c.args.caller.now.number in
+    let v = view c.args.caller.now.pass in
+    let u = c.is_committed.new.caller in
+    let w = view c.climb.new.caller.pass in
+    let e = c.in-Ok.ensures in
+    apart_any (IsStateCut (start_of c.args.hall.now) w.seen c.args.glance.id) n v.seen w.seen c.in-Err-climb.refusal (apart_then n u.number v.seen (view u.pass).seen w.seen e.same.1 e.apart c.in-Err-climb.ensures.apart)

@@ -1,4 +1,4 @@
-use Rattle.std.proofs.Common.{◌<◌, arith, refl, subst}
+use Rattle.std.proofs.Common.{◌<◌, inr, arith, refl, subst}
 use Rattle.std.proofs.lemmas.Bool.Decides.{nat_tests}
 use Rattle.hall.specs.Calls.{view, start_of}
 use Rattle.tx_events.specs.declared.refusal.Lock.TheVariants as locks
@@ -11,6 +11,9 @@ use Rattle.engine_parts.proofs.Adding.{plain_meets}
 use Rattle.engine_parts.proofs.Unmoved.{look_adds}
 use Rattle.bank_sections.proofs.Faulting.{cut_adds, done_adds, fault_adds}
 use Rattle.bank_sections.proofs.Visiting.{is_xact_lock}
+use Rattle.bank_sections.specs.Sections.{BankRefused, IsXactCut}
+use Rattle.store_pages.specs.Layouts.{xact_page_of}
+use Rattle.xact_reads.proofs.Aparting.{cut_later, section_apart}
 use Rattle.xact_reads.proofs.Going.{read_adds, went_both}
 use Rattle.xact_reads.proofs.states.state_of.Goals as goal
 
@@ -51,3 +54,30 @@ returns-then-lt-clause-adds g c =
     let first = cut_adds start (view old.pass) (view u.pass) (xact_lock bank) by old.session c.requires.ready.at (is_xact_lock start bank inside) _ c.in-Err-Cut.field-0 _ c.in-Err-Cut.field-0-is d.section in
     read_adds old.number u.number old.session u.session told (view old.pass).seen (view u.pass).seen w.seen d.same.1 d.same.0 (plain_meets (refusals.TooOld c.read_oldest-oldest.result)) first
     (look_adds start (view u.pass) w u.number u.session told d.ready.at (λ number. tt) tt c.read_oldest-oldest.ensures.section)
+
+pub returns-in-Ok-clause-apart : goal.returns-in-Ok-clause-apart
+returns-in-Ok-clause-apart g c =
+    section_apart (start_of c.args.hall.now) (view c.args.caller.now.pass) (view c.read_state.new.caller.pass) (xact_lock c.bank_of-bank.result) _ c.args.caller.now.number c.requires.ready.at.name (omega arith) c.in-Ok.ensures.section
+
+pub returns-in-Err-DiskFault-clause-apart : goal.returns-in-Err-DiskFault-clause-apart
+returns-in-Err-DiskFault-clause-apart g c =
+    let old = c.args.caller.now in
+    let start = start_of c.args.hall.now in
+    let lock = xact_lock c.bank_of-bank.result in
+    let v = view old.pass in
+    let w = view c.read_state.new.caller.pass in
+    let by = by_at old.number old.session.levels.commands in
+    let met = subst (λ z. BankRefused start lock by (IsXactCut start w.seen c.bank_of-bank.result (xact_page_of c.args.x)) v w z) c.in-Err-DiskFault.field-0-is c.in-Err-DiskFault.ensures.section in
+    section_apart start v w lock _ old.number c.requires.ready.at.name (omega arith) met.1
+
+pub returns-then-lt-clause-apart : goal.returns-then-lt-clause-apart
+returns-then-lt-clause-apart g c =
+    let old = c.args.caller.now in
+    let start = start_of c.args.hall.now in
+    let bank = c.bank_of-bank.result in
+    let v = view old.pass in
+    let u = view c.read_state.new.caller.pass in
+    let w = view c.read_oldest-oldest.new.caller.pass in
+    let by = by_at old.number old.session.levels.commands in
+    let met = subst (λ z. BankRefused start (xact_lock bank) by (IsXactCut start u.seen bank (xact_page_of c.args.x)) v u z) c.in-Err-Cut.field-0-is c.in-Err-Cut.ensures.section in
+    inr (cut_later start u.seen w.seen c.args.x c.read_oldest-oldest.ensures.went.on.grows (record { bank = bank; lock = search rules; cutoff = _; cut = met.1 }))

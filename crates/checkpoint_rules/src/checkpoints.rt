@@ -1,8 +1,9 @@
 //! The lines of checkpoints.
-ghost use Rattle.std.specs.Prelude.{◌≡◌, ◌↔◌, ◌<◌, ◌^◌, [], IsTrue, OnOk, length, take};
+ghost use Rattle.std.specs.Prelude.{◌≡◌, ◌↔◌, ◌<◌, ◌^◌, [], IsTrue, OnOk, length, take, true};
 ghost use Rattle.std.specs.List.{flat_map};
 ghost use Rattle.tx_model.specs.declared.report.Step.TheVariants as steps;
 ghost use Rattle.tx_model.specs.Rounds.{lines_in};
+ghost use Rattle.record_rules.specs.AskedFor.{is_checkpoint};
 ghost use Rattle.reply_rules.specs.Ends.{IsLogEnd};
 ghost use Rattle.report_law.specs.Checkpoints.{MayCheckpoint, counters_behind};
 ghost use Rattle.report_law.specs.Steps.{AreJudged};
@@ -118,7 +119,7 @@ fn note_reached(
     note_checkpoint(checkpoints, &counters, reply)
 }
 
-/// Notes a step. After want of memory nothing is known of the checkpoints.
+/// Notes a step. The column is read where the step is a checkpoint. After want of memory nothing is known of the checkpoints.
 pub fn pass_step(
     places: &HistoryPlaces,
     column: &[Counters],
@@ -127,7 +128,7 @@ pub fn pass_step(
     step: &Step,
 ) -> Result<(), Memory>
     ghost at: { Noting }
-    requires fronts { AreFronts at places.now column.now }
+    requires fronts { is_checkpoint step.now ≡ true → AreFronts at places.now column.now }
     requires kept { AreNoted at places.now checkpoints.old }
     requires point { IsPointOf at point }
     requires small { length at.before < 2 ^ 63 }

@@ -31,6 +31,16 @@ fn taken_at(snaps: &[Option<SnapMark>], place: u64) -> Option<Taken>
     }
 }
 
+/// Room for the first one alone, since few commands take more.
+fn make_first_room(taken: &mut Vec<Taken>) -> Result<(), Memory>
+    ensures { taken.new.items ≡ taken.old.items }
+{
+    if taken.is_empty() {
+        taken.reserve_exact(1)?;
+    }
+    Ok(())
+}
+
 /// Those that are taken at these places.
 fn taken_of(alloc: Global, snaps: &[Option<SnapMark>], places: &[u64]) -> Result<Vec<Taken>, Memory>
     ensures { IfOk result (λ taken. taken.items ≡ filter_map (taken_at snaps.now) places.now) }
@@ -38,6 +48,7 @@ fn taken_of(alloc: Global, snaps: &[Option<SnapMark>], places: &[u64]) -> Result
     let mut taken = Vec::new(alloc);
     for place in places {
         if let Some(t) = taken_at(snaps, *place) {
+            make_first_room(&mut taken)?;
             taken.push(t)?;
         }
     }

@@ -1,7 +1,7 @@
 -- From step to step.
-use Rattle.std.proofs.Common.{◌≡◌, ◌↔◌, ℕ, suc, zero, ◌+◌, ◌<◌, ◌≤◌, Bool, false, List, [], ◌∷◌, ◌++◌, Some, length, map, take, drop, refl, sym, ap, subst, ◌∙◌, arith, append_assoc, append-nil}
+use Rattle.std.proofs.Common.{◌≡◌, ◌↔◌, ℕ, suc, zero, ◌+◌, ◌<◌, ◌≤◌, Bool, true, false, ◌||◌, List, [], ◌∷◌, ◌++◌, Some, length, map, take, drop, refl, sym, ap, subst, ◌∙◌, arith, append_assoc, append-nil}
 use Rattle.std.specs.Prelude.{IsTrue}
-use Rattle.std.specs.List.{All, AllByRecursion, flat_map, slice_get}
+use Rattle.std.specs.List.{All, AllByRecursion, flat_map, list_any, slice_get}
 use Rattle.std.proofs.lemmas.Grind.{flat_map-append}
 use Rattle.std.proofs.lemmas.List.{length-append}
 use Rattle.tx_events.specs.declared.event.By.{By}
@@ -52,6 +52,16 @@ from_all P f (x ∷ xs) a = (a 0 (f x) (omega arith), from_all P f xs (λ k d l.
 front_of : {X : Type 0} (P : X → Type 0) (xs ys : List X) → AllByRecursion P (xs ++ ys) → AllByRecursion P xs
 front_of P [] ys a = tt
 front_of P (x ∷ xs) ys a = (a.0, front_of P xs ys a.1)
+
+-- a step that stands there passes for one of them
+pub has_step : (p : Step → Bool) (all : List Step) (i : ℕ) (s : Step) → slice_get all i ≡ Some s → p s ≡ true → list_any p all ≡ true
+has_step p [] i s at t = absurd cc
+has_step p (x ∷ all) zero s at t = let same : x ≡ s = cc in let yes : p x ≡ true = ap p same ∙ t in rw yes refl
+has_step p (x ∷ all) (suc i) s at t = rest (p x) (has_step p all i s at t)
+  where
+    rest : (b : Bool) → list_any p all ≡ true → (b || list_any p all) ≡ true
+    rest true t = refl
+    rest false t = t
 
 module _ (j : Judged) (n : ℕ) (step : Step) (told : slice_get j.steps n ≡ Some step) where
   abbrev before : List Line

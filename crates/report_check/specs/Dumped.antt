@@ -1,6 +1,8 @@
 -- What a life's dumps are held against.
-use Rattle.std.specs.Prelude.{◌≡◌}
+use Rattle.std.specs.Prelude.{◌≡◌, Bool, true, false}
 use Rattle.std.specs.List.{list_any}
+use Rattle.tx_model.specs.declared.report.Step.{Step}
+use Rattle.tx_model.specs.declared.report.Step.TheVariants as steps
 use Rattle.report_law.specs.Dumps.{is_faulty_step}
 use Rattle.report_law.specs.Steps.{Judged, gave_multi, lines_of}
 use Rattle.dump_rules.specs.Cutting.{AreCuts}
@@ -8,9 +10,13 @@ use Rattle.dump_rules.specs.Gens.{AreGens}
 use Rattle.reply_lines.specs.declared.known.Known.{Known}
 use Rattle.report_check.specs.declared.dumps.Dumping.{Dumping}
 
--- the cutoffs that the life's stores may have, and the multixacts that it gave, by the legal fronts of its histories; and
--- whether a volume is told to have failed
+abbrev pub is_dump : Step → Bool
+is_dump (steps.Dump what at length reply) = true
+is_dump step = false
+
+-- the cutoffs that the life's stores may have, and the multixacts that it gave, by the legal fronts of its histories, where
+-- a dump is held against them; and whether a volume is told to have failed
 pub record IsDumping (j : Judged) (k : Known) (d : Dumping) : Type 0 where
   pub cuts : AreCuts j.begun.counters j.life.recs k.places.events d.cuts
-  pub gens : AreGens (gave_multi (lines_of j)) k.multi_places.events d.gens.items
+  pub gens : list_any is_dump j.steps ≡ true → AreGens (gave_multi (lines_of j)) k.multi_places.events d.gens.items
   pub faulty : d.faulty ≡ list_any is_faulty_step j.steps

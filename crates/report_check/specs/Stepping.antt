@@ -1,11 +1,12 @@
 -- A life's steps so far.
-use Rattle.std.specs.Prelude.{ℕ, List, [], get_or, take}
-use Rattle.std.specs.List.{flat_map}
+use Rattle.std.specs.Prelude.{◌≡◌, ℕ, List, [], get_or, take, true}
+use Rattle.std.specs.List.{flat_map, list_any}
 use Rattle.tx_events.specs.declared.multi.MultiEvent.{MultiEvent}
 use Rattle.tx_model.specs.declared.report.Step.{Step}
 use Rattle.tx_model.specs.declared.report.Step.TheVariants as steps
 use Rattle.tx_model.specs.Rounds.{lines_in}
 use Rattle.report_law.specs.Steps.{Judged}
+use Rattle.record_rules.specs.AskedFor.{is_checkpoint}
 use Rattle.checkpoint_rules.specs.Behind.{AreMultiCounters}
 use Rattle.reply_lines.specs.declared.known.Known.{Known}
 use Rattle.report_check.specs.Dumped.{IsDumping}
@@ -36,9 +37,9 @@ noting_of j before multis = record { j = j; before = before; multis = multis }
 abbrev pub noting_at : AtStep → Noting
 noting_at of = noting_of of.j (steps_before of) of.multis
 
--- what is made once of the life is so
+-- what is made once of the life is so, the column where a checkpoint is held against it
 pub record AreTables (j : Judged) (k : Known) (t : Tables) : Type 0 where
-  pub column : AreMultiCounters j.begun.counters k.multi_places.events t.column.items
+  pub column : list_any is_checkpoint j.steps ≡ true → AreMultiCounters j.begun.counters k.multi_places.events t.column.items
   pub dumping : IsDumping j k t.dumping
 
 -- what is kept of these steps is so

@@ -1,13 +1,14 @@
 //! The lines of dumps.
-ghost use Rattle.std.specs.Prelude.{◌≡◌, ◌↔◌, [], IfOk, IsTrue};
+ghost use Rattle.std.specs.Prelude.{◌≡◌, ◌↔◌, [], IfOk, IsTrue, true};
 ghost use Rattle.std.specs.List.{flat_map, list_any};
 ghost use Rattle.tx_model.specs.Rounds.{lines_in};
 ghost use Rattle.checkpoint_rules.specs.Behind.{Walked};
 ghost use Rattle.report_law.specs.Dumps.{MayDump, is_fault, is_faulty_step};
-ghost use Rattle.report_law.specs.Steps.{Judged};
+ghost use Rattle.report_law.specs.Steps.{Judged, gave_multi, lines_of};
+ghost use Rattle.dump_rules.specs.Gens.{AreGens};
 ghost use Rattle.reply_lines.specs.At.{IsReportOf, IsRoundAt};
 ghost use Rattle.reply_lines.specs.Known.{IsKnown};
-ghost use Rattle.report_check.specs.Dumped.{IsDumping};
+ghost use Rattle.report_check.specs.Dumped.{IsDumping, is_dump};
 
 use dump_rules::{Cuts, GenMark, cuts_of, gens_of, may_dump};
 use reply_lines::{Known, RoundAt};
@@ -15,13 +16,48 @@ use std::alloc::Global;
 use tx_events::{Counters, Memory, Refusal};
 use tx_model::{DumpOf, LifeReport, Line, Reply, Step};
 
-/// What a life's dumps are held against: the cutoffs that its stores may have, and the multixacts that it gave.
+/// What a life's dumps are held against: the cutoffs that its stores may have, and the multixacts that it gave, if it has a
+/// dump.
 #[derive(Drop)]
 pub struct Dumping {
     pub cuts: Cuts,
     pub gens: Vec<GenMark>,
     /// Some volume is told to have failed in the life.
     pub faulty: bool,
+}
+
+fn is_dump(step: &Step) -> bool
+    ensures { result ≡ is_dump step.now }
+{
+    match step {
+        Step::Round { .. } => false,
+        Step::Checkpoint { .. } => false,
+        Step::Dump { .. } => true,
+    }
+}
+
+/// Whether a dump is among the steps.
+fn has_dump(steps: &[Step]) -> bool
+    ensures { result ≡ list_any is_dump steps.now }
+{
+    for step in steps {
+        if is_dump(step) {
+            return true;
+        }
+    }
+    false
+}
+
+/// The multixacts that the life gave, where they are asked for; else none.
+fn gens_if(alloc: Global, known: &Known, asked: bool) -> Result<Vec<GenMark>, Memory>
+    ghost j: { Judged }
+    requires known { IsKnown j known.now }
+    ensures { IfOk result (λ gens. asked ≡ true → AreGens (gave_multi (lines_of j)) known.now.multi_places.events gens.items) }
+{
+    if !asked {
+        return Ok(Vec::new(alloc));
+    }
+    gens_of(alloc, &known.multi_places, known.oks.as_slice())
 }
 
 /// What the dumps of a life are held against, which begins with these counters. Takes the logarithm of the life an event and
@@ -39,7 +75,7 @@ pub fn dumping_of(
     ensures { IfOk result (λ d. IsDumping j known.now d) }
 {
     let cuts = cuts_of(alloc, base, report.life.recs.items(), &known.places)?;
-    let gens = gens_of(alloc, &known.multi_places, known.oks.as_slice())?;
+    let gens = gens_if(alloc, known, has_dump(report.steps.items()))?;
     Ok(Dumping {
         cuts,
         gens,
@@ -107,6 +143,7 @@ pub fn is_lawful_dump(
     requires known { IsKnown walked.j known.now }
     requires dumping { IsDumping walked.j known.now dumping.now }
     requires round { IsRoundAt walked.j (flat_map lines_in walked.before) [] known.now round }
+    requires dump { list_any is_dump walked.j.steps ≡ true }
     ensures { IsTrue result ↔ MayDump walked.j (flat_map lines_in walked.before) what at size reply.now }
 {
     may_dump(

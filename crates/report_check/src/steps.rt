@@ -1,12 +1,14 @@
 //! The lines of a life's steps.
-ghost use Rattle.std.specs.Prelude.{◌≡◌, ◌+◌, ◌∷◌, ◌<◌, ◌↔◌, [], IfOk, IsTrue, List, Some, length, slice_get, take};
-ghost use Rattle.std.specs.List.{flat_map};
+ghost use Rattle.std.specs.Prelude.{◌≡◌, ◌+◌, ◌∷◌, ◌<◌, ◌↔◌, [], IfOk, IsTrue, List, Some, length, slice_get, take, true};
+ghost use Rattle.std.specs.List.{flat_map, list_any};
 ghost use Rattle.tx_model.specs.Rounds.{lines_in};
 ghost use Rattle.report_law.specs.Checkpoints.{MayCheckpoint};
 ghost use Rattle.report_law.specs.ReportLines.{IsLawfulAt, ReportLine, plain, step_lines, steps_lines};
 ghost use Rattle.report_law.specs.Steps.{Judged};
 ghost use Rattle.reply_lines.specs.At.{IsReportOf, IsRoundAt};
 ghost use Rattle.reply_lines.specs.Known.{IsKept, IsKnown};
+ghost use Rattle.record_rules.specs.AskedFor.{is_checkpoint};
+ghost use Rattle.checkpoint_rules.specs.Behind.{AreMultiCounters};
 ghost use Rattle.checkpoint_rules.specs.Noting.{AreNoted};
 ghost use Rattle.report_check.specs.Passing.{IsPassed};
 ghost use Rattle.report_check.specs.Stepping.{AreTables, AtStep, IsSoFar, noting_at, steps_before};
@@ -24,8 +26,8 @@ use std::alloc::Global;
 use tx_events::{Counters, Memory};
 use tx_model::{LifeReport, Reply, Step};
 
-/// What is made once of a life for its checkpoints and dumps: the counters at each place of its multixact events, and what
-/// dumps are held against.
+/// What is made once of a life for its checkpoints and dumps: the counters at each place of its multixact events, if it has
+/// a checkpoint, and what dumps are held against.
 #[derive(Drop)]
 pub struct Tables {
     pub column: Vec<Counters>,
@@ -94,6 +96,7 @@ fn is_lawful_there(
     requires here { IsRoundAt of.j (flat_map lines_in (steps_before of)) [] known.now here }
     requires passed { IsPassed of.j (flat_map lines_in (steps_before of)) passed.now }
     requires noted { AreNoted (noting_at of) known.now.places checkpoints.now }
+    requires checkpoint { list_any is_checkpoint of.j.steps ≡ true }
     ensures { IsTrue result ↔ MayCheckpoint of.j (steps_before of) reply.now }
 {
     let point = Point {
@@ -244,6 +247,42 @@ fn nothing_so_far(alloc: Global, report: &LifeReport) -> Result<SoFar, Memory>
     })
 }
 
+fn is_checkpoint(step: &Step) -> bool
+    ensures { result ≡ is_checkpoint step.now }
+{
+    match step {
+        Step::Round { .. } => false,
+        Step::Checkpoint { .. } => true,
+        Step::Dump { .. } => false,
+    }
+}
+
+/// Whether a checkpoint is among the steps.
+fn has_checkpoint(steps: &[Step]) -> bool
+    ensures { result ≡ list_any is_checkpoint steps.now }
+{
+    for step in steps {
+        if is_checkpoint(step) {
+            return true;
+        }
+    }
+    false
+}
+
+/// The counters of multixacts at each place, where a checkpoint is held against them; else none.
+fn column_of(alloc: Global, report: &LifeReport, known: &Known) -> Result<Vec<Counters>, Memory>
+    ghost j: { Judged }
+    requires report { IsReportOf j report.now }
+    requires known { IsKnown j known.now }
+    requires base { report.now.life.base ≡ j.begun.counters }
+    ensures { IfOk result (λ c. list_any is_checkpoint j.steps ≡ true → AreMultiCounters j.begun.counters known.now.multi_places.events c.items) }
+{
+    if !has_checkpoint(report.steps.items()) {
+        return Ok(Vec::new(alloc));
+    }
+    multi_counters_of(alloc, &report.life.base, &known.multi_places)
+}
+
 fn tables_of(alloc: Global, report: &LifeReport, known: &Known) -> Result<Tables, Memory>
     ghost j: { Judged }
     requires report { IsReportOf j report.now }
@@ -251,9 +290,8 @@ fn tables_of(alloc: Global, report: &LifeReport, known: &Known) -> Result<Tables
     requires base { report.now.life.base ≡ j.begun.counters }
     ensures { IfOk result (AreTables j known.now) }
 {
-    let base = &report.life.base;
-    let column = multi_counters_of(alloc, base, &known.multi_places)?;
-    let dumping = dumping_of(alloc, report, known, base)?;
+    let column = column_of(alloc, report, known)?;
+    let dumping = dumping_of(alloc, report, known, &report.life.base)?;
     Ok(Tables { column, dumping })
 }
 

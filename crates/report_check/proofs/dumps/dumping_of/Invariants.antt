@@ -1,5 +1,4 @@
-use Rattle.report_law.specs.Steps.{gave_multi, lines_of}
 use Rattle.report_check.proofs.dumps.dumping_of.Given as goal
 
-abbrev pub ghost-gens_of : goal.ghost-gens_of
-ghost-gens_of g a = record { ok = gave_multi (lines_of g.j); all = g.j.life.multis }
+abbrev pub ghost-gens_if : goal.ghost-gens_if
+ghost-gens_if g a = g.j

@@ -18,9 +18,9 @@ is_lawful_checkpoint-requires g c =
     let p = r.1.1.1.1.1.0 in
     let behind : AreBehind (lived_behind (walked_of (noting_at g.of))) 64 c.as_slice-2.result.now =
     subst (λ (t : List Session). AreBehind (lived_behind (walked_of (noting_at g.of))) 64 t) (sym c.as_slice-2.ensures.value) p.sessions in (
-      fronts_are g.of.j (steps_before g.of) c.args.known.now g.of.multis c.as_slice.result.now c.args.tables.now.column.items known multis c.as_slice.ensures.value tables.column,
+      fronts_are g.of.j (steps_before g.of) c.args.known.now g.of.multis c.as_slice.result.now c.args.tables.now.column.items known multis c.as_slice.ensures.value (tables.column r.1.1.1.1.1.1.1),
       (
-        r.1.1.1.1.1.1,
+        r.1.1.1.1.1.1.0,
         (
           point_is g.of.j (steps_before g.of) c.args.known.now g.of.multis c.args.here here,
           (

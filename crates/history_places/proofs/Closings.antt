@@ -1,11 +1,12 @@
 -- Where an id is closed, by what is noted of it and of its parents.
-use Rattle.std.proofs.Common.{◌≡◌, ℕ, suc, zero, ◌+◌, ◌<◌, ◌≤◌, List, [], ◌∷◌, ◌++◌, length, get_or, take, drop, min, refl, ap, sym, subst, ◌∙◌, arith, inl, inr, ⊎_elim, Bool, true, false, not, ◌&&◌, ◌==◌, nat_lt, cond, Option, Some, None, eq-eqb}
+use Rattle.std.proofs.Common.{◌≡◌, ℕ, suc, zero, ◌+◌, ◌<◌, ◌≤◌, List, [], ◌∷◌, ◌++◌, length, get_or, set, take, drop, min, refl, ap, sym, subst, ◌∙◌, arith, inl, inr, ⊎_elim, Bool, true, false, not, ◌&&◌, ◌==◌, nat_lt, cond, Option, Some, None, eq-eqb}
 use Rattle.std.specs.Prelude.{IfSome}
 use Rattle.std.specs.List.{AllByRecursion, find, list_any, slice_get}
 use Rattle.std.proofs.Math.Nat.{min-le_left}
 use Rattle.std.proofs.lemmas.Bool.{eqb-true, false_from_ne_true}
 use Rattle.std.proofs.lemmas.Bool.Decides.{nat_tests}
-use Rattle.std.proofs.lemmas.List.{map-append, take-append-drop, take_all, take_more}
+use Rattle.std.proofs.Math.Seq.{drop-cons}
+use Rattle.std.proofs.lemmas.List.{drop-set-lt, length-set, map-append, take-append-drop, take_all, take_more, take_more_set}
 use Rattle.std.proofs.lemmas.List.Elements.{filter_map-append}
 use Rattle.tx_events.specs.declared.event.Event.{Event}
 use Rattle.tx_events.specs.declared.record.Counters.{Counters}
@@ -189,6 +190,34 @@ sofar_ascends base h noted marks i legal a s = subst Ascending (sym s.ids) (fron
     front_ascends xs zero f = tt
     front_ascends [] (suc i) f = tt
     front_ascends (x ∷ xs) (suc i) f = (front_all (λ y. x.id < y) xs i f.0, front_ascends xs i f.1)
+
+-- the first i marks are closed with their parents, the others as they were noted
+pub record Closing (h : List Event) (noted marks : List IdMark) (i : ℕ) : Type 0 where
+  pub so_far : SoFar h noted (take i marks) i
+  pub rest : drop i marks ≡ drop i noted
+  pub size : length marks ≡ length noted
+
+abbrev behind_first : List IdMark → List IdMark
+behind_first [] = []
+behind_first (m ∷ marks) = marks
+
+pub closing_none : (h : List Event) (noted : List IdMark) → Closing h noted noted 0
+closing_none h noted = record { so_far = record { ids = refl; each = tt }; rest = refl; size = refl }
+
+pub closing_more : (base : Counters) (h : List Event) (noted marks : List IdMark) (i : ℕ) (m : IdMark) (above : Option ℕ) → IsLegal base h → AreNoted h noted → Closing h noted marks i → i < length marks → m ≡ get_or marks i m
+    → above ≡ closed_above (take i marks) m.parent → Closing h noted (set marks i (record m { closed = earlier m.closed above })) (i + 1)
+closing_more base h noted marks i m above legal a s l is above_is =
+    let closed : IdMark = record m { closed = earlier m.closed above } in
+    let within : i < length noted = subst (λ n. i < n) s.size l in
+    let same : get_or marks i m ∷ drop (suc i) marks ≡ get_or noted i m ∷ drop (suc i) noted = sym (drop-cons marks i m l) ∙ s.rest ∙ drop-cons noted i m within in
+    record {
+      so_far = sofar_more base h noted (take i marks) i m above (take (i + 1) (set marks i closed)) legal a s.so_far within (is ∙ ap (λ xs. get_or xs 0 m) same) above_is (take_more_set marks i closed l);
+      rest = drop-set-lt (i + 1) marks i closed (omega arith) ∙ subst (λ n. drop n marks ≡ drop n noted) (let e : suc i ≡ i + 1 = omega arith in e) (ap behind_first same);
+      size = length-set marks i closed ∙ s.size;
+    }
+
+pub closing_done : (base : Counters) (h : List Event) (noted marks : List IdMark) (i : ℕ) → IsLegal base h → AreNoted h noted → Closing h noted marks i → length marks ≤ i → AreMarks h marks
+closing_done base h noted marks i legal a s l = subst (AreMarks h) (take_all i marks l) (marks_at_end base h noted (take i marks) i legal a s.so_far (subst (λ n. n ≤ i) s.size l))
 
 -- ---- what the marks tell
 

@@ -65,14 +65,14 @@ pub fn id_marks(alloc: Global, replay: &HistoryReplay) -> Result<Vec<IdMark>, Me
     ensures { IfOk result (λ marks. AreMarks replay.now.events marks.items) }
 {
     let _legal = replay.events();
-    let noted = noted_ids(alloc, replay)?;
-    let mut marks = Vec::new(alloc);
-    for mark in &noted {
-        let above = closed_above(marks.as_slice(), mark.parent);
-        marks.push(IdMark {
+    let mut marks = noted_ids(alloc, replay)?;
+    for at in 0..marks.len() {
+        let mark = marks[at];
+        let above = closed_above(&marks.as_slice()[..at], mark.parent);
+        marks[at] = IdMark {
             closed: earlier(mark.closed, above),
-            ..*mark
-        })?;
+            ..mark
+        };
     }
     Ok(marks)
 }

@@ -34,30 +34,23 @@ use tx_model::SharedSnap;
 /// A session registers at most so many snapshots.
 const MOST_SNAPS: usize = 64;
 
-/// Takes a snapshot of the table. After want of memory nothing changed.
+/// Takes a snapshot of the table: what the reply tells, what the session keeps, and the place of its event. After want of
+/// memory nothing changed.
 fn take_of(
     table: &mut ProcTable,
     by: By,
     name: &Name,
-) -> Result<(SharedSnap, RegisteredSnapshot), Memory>
+) -> Result<(SharedSnap, SharedSnap, usize), Memory>
     requires session { by.session < table.old.sessions }
     requires turn { InTurn by table.old.events }
     requires free { is_live table.old.base.next by.session name.now table.old.events ≡ false }
-    ensures { MatchResult result (λ r. IsTaken table.old table.new by name.now r.0 r.1) (λ _. table.new ≡ table.old) }
+    ensures { MatchResult result (λ r. IsTaken table.old table.new by name.now r.0 r.1 r.2) (λ _. table.new ≡ table.old) }
 {
     let lists = table.snapshot_data()?;
-    let snapshot = lists.clone()?;
+    let kept = lists.clone()?;
     let place = table.events().len();
     table.register(by, name, lists.xmin())?;
-    Ok((
-        lists,
-        RegisteredSnapshot {
-            name: name.same(),
-            command: by.command,
-            place,
-            snapshot,
-        },
-    ))
+    Ok((lists, kept, place))
 }
 
 /// Leaves the ProcArray with a snapshot that was taken of it, and registers it.
@@ -66,7 +59,9 @@ fn register<L: LogDisk, P: PageDisk>(
     caller: &mut Caller<L, P>,
     table: Box<ProcTable>,
     by: By,
-    taken: RegisteredSnapshot,
+    name: &Name,
+    place: usize,
+    snapshot: SharedSnap,
 )
     requires own { IsOf hall.now caller.old.pass }
     requires laid { hall.now.cells ≡ 3 + 4 * (start_of hall.now).banks }
@@ -75,35 +70,42 @@ fn register<L: LogDisk, P: PageDisk>(
     requires at { IsAt (start_of hall.now) (view caller.old.pass) caller.old.number caller.old.session }
     requires by { by ≡ by_at caller.old.number caller.old.session.levels.commands }
     requires shown { IsShown (start_of hall.now) (view caller.old.pass).seen }
-    requires free { is_live (start_of hall.now).base.next by.session taken.name
+    requires free { is_live (start_of hall.now).base.next by.session name.now
         (history (view caller.old.pass).seen) ≡ false }
     requires table { ProcStands (start_of hall.now) table.value
         (at (view caller.old.pass).seen proc_lock ++ record {
           by = by;
           kind = kinds.Event
-              (events.Snap taken.name by);
+              (events.Snap name.now by);
         } ∷ []) }
-    requires command { taken.command ≡ caller.old.session.levels.commands }
-    requires place { taken.place ≡ length (history (view caller.old.pass).seen) }
-    requires holds { taken.snapshot
-        ≡ snapshot_data (start_of hall.now).base.next (history (view caller.old.pass).seen) }
+    requires place { place ≡ length (history (view caller.old.pass).seen) }
+    requires holds { snapshot ≡ snapshot_data (start_of hall.now).base.next (history (view caller.old.pass).seen) }
     requires room { vec_len caller.old.session.levels.registered < vec_capacity caller.old.session.levels.registered }
     ensures own { IsOf hall.now caller.new.pass }
     ensures ready { IsReady (start_of hall.now) (view caller.new.pass) caller.new.number caller.new.session }
     ensures left { Leaves (start_of hall.now) proc_lock
-        (record { by = by; kind = kinds.Event (events.Snap taken.name by) })
+        (record { by = by; kind = kinds.Event (events.Snap name.now by) })
         (view caller.old.pass) (view caller.new.pass) }
     ensures stance { stance_of caller.new.session ≡ record (stance_of caller.old.session)
-        { snaps = (stance_of caller.old.session).snaps ++ (taken.name, taken.command) ∷ [] } }
+        { snaps = (stance_of caller.old.session).snaps ++ (name.now, caller.old.session.levels.commands) ∷ [] } }
     ensures opened { caller.new.session.levels.open_ids.items ≡ caller.old.session.levels.open_ids.items }
     ensures stage { caller.new.session.stage ≡ caller.old.session.stage }
     ensures making { caller.new.session.making ≡ caller.old.session.making }
     ensures count { (caller.new.session.levels.commands ≡ caller.old.session.levels.commands)
         × (caller.new.number ≡ caller.old.number) }
 {
-    let entry = Note::by(&(by, &taken));
+    let entry = Note::by(&(by, name));
     leave_proc(hall, caller, table, entry);
-    caller.session.levels.registered.push_reserved(taken);
+    caller
+        .session
+        .levels
+        .registered
+        .push_reserved(RegisteredSnapshot {
+            name: name.same(),
+            command: by.command,
+            place,
+            snapshot,
+        });
 }
 
 /// Takes a snapshot under a name that isn't taken. All memory is taken before the snapshot counts as taken.
@@ -130,8 +132,8 @@ fn take<R: Passing, L: LogDisk, P: PageDisk>(
     };
     let mut held = enter_proc(rt, hall, caller);
     match take_of(&mut *held, by, name) {
-        Ok((lists, taken)) => {
-            register(hall, caller, held, by, taken);
+        Ok((lists, kept, place)) => {
+            register(hall, caller, held, by, name, place, kept);
             Ok(lists)
         }
         Err(Memory) => {

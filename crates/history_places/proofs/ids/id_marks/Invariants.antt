@@ -1,7 +1,7 @@
-use Rattle.history_places.proofs.Closings.{SoFar}
+use Rattle.history_places.proofs.Closings.{Closing}
 use Rattle.history_places.proofs.ids.id_marks.Given as goal
 
-abbrev pub invariant-loop-mark : goal.invariant-loop-mark
-invariant-loop-mark l = record {
-  sofar : SoFar l.replay.events l.mark-items l.marks.items l.mark-index;
+abbrev pub invariant-loop-at : goal.invariant-loop-at
+invariant-loop-at l = record {
+  closing : Closing l.replay.events l.initial.marks.items l.marks.items l.at;
 }

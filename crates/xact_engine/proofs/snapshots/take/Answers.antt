@@ -9,8 +9,6 @@ use Rattle.tx_events.specs.Horizon.{is_live}
 use Rattle.tx_events.specs.Snapshots.{snapshot_data}
 use Rattle.tx_model.specs.declared.command.Command.TheVariants as commands
 use Rattle.tx_model.specs.declared.reply.Reply.TheVariants as replies
-use Rattle.tx_core.specs.declared.entry.Kind.TheVariants as kinds
-use Rattle.tx_core.specs.Entries.{history}
 use Rattle.tx_core.specs.Locks.{proc_lock}
 use Rattle.tx_model.specs.CommandEvents.{innermost}
 use Rattle.tx_model.specs.Stance.{Stance}
@@ -36,14 +34,12 @@ take_of-requires-clause-free g c =
 pub register-requires-clause-free : goal.register-requires-clause-free
 register-requires-clause-free g c =
     let e = c.enter_proc-held.ensures in
-    let free = free_here (start_of c.args.hall.now) (view c.enter_proc-held.new.caller.pass) c.args.caller.now.number c.enter_proc-held.new.caller.number c.enter_proc-held.new.caller.session c.args.caller.now.session.levels.registered.items c.args.name.now e.at e.same.1 (ap (λ z. z.levels.registered.items) e.same.0 ∙ c.in-Ok.ensures.items) c.requires.free in
-    subst (λ (z : List ℕ). is_live (start_of c.args.hall.now).base.next c.args.caller.now.number z (history (view c.enter_proc-held.new.caller.pass).seen) ≡ false) (sym c.in-Ok-take_of.ensures.name_is) free
+    free_here (start_of c.args.hall.now) (view c.enter_proc-held.new.caller.pass) c.args.caller.now.number c.enter_proc-held.new.caller.number c.enter_proc-held.new.caller.session c.args.caller.now.session.levels.registered.items c.args.name.now e.at e.same.1 (ap (λ z. z.levels.registered.items) e.same.0 ∙ c.in-Ok.ensures.items) c.requires.free
 
 pub register-requires-clause-table : goal.register-requires-clause-table
 register-requires-clause-table g c =
     let by = by_at c.args.caller.now.number c.args.caller.now.session.levels.commands in
     let es = at (view c.enter_proc-held.new.caller.pass).seen proc_lock in
-    subst (λ (z : List ℕ). ProcStands (start_of c.args.hall.now) c.take_of.new.table (es ++ record { by = by; kind = kinds.Event (events.Snap z by) } ∷ [])) (sym c.in-Ok-take_of.ensures.name_is)
     (proc_adds (start_of c.args.hall.now) c.deref_mut.result.now c.take_of.new.table es by (events.Snap c.args.name.now by) (subst (λ l. ProcStands (start_of c.args.hall.now) l (at (view c.enter_proc-held.new.caller.pass).seen proc_lock)) (sym c.deref_mut.ensures.value) c.enter_proc-held.ensures.stands) c.in-Ok-take_of.ensures.adds)
 
 pub returns-in_default : goal.returns-in_default
@@ -71,10 +67,10 @@ returns-in-Ok-take_of g c =
       own = r.own;
       may = proc_call (start_of c.args.hall.now) (view c.args.caller.now.pass) (view c.enter_proc-held.new.caller.pass) (view c.register.new.caller.pass) c.args.caller.now.number c.register.new.caller.number c.args.caller.now.session c.register.new.caller.session _
           c.requires.may e.entered r.left refl (ap (λ (z : Stance). innermost z.levels) r.stance ∙ ap (λ z. inner_id z) e.same.0) (r.opened ∙ ap (λ z. z.levels.open_ids.items) e.same.0) (r.stage ∙ ap (λ z. z.stage) e.same.0) (r.count.1 ∙ e.same.1) r.ready;
-      acted = acted_snapped (start_of c.args.hall.now) (view c.args.caller.now.pass) (view c.enter_proc-held.new.caller.pass) (view c.register.new.caller.pass) c.args.caller.now.number s (stance_of c.register.new.caller.session) c.args.name.now c.in-Ok-take_of.lists (snap_entry by c.in-Ok-take_of.taken.name)
-          c.requires.may.ready.at e.entered (ap (snap_entry by) t.name_is) c.register.ensures.left c.requires.free c.requires.room
+      acted = acted_snapped (start_of c.args.hall.now) (view c.args.caller.now.pass) (view c.enter_proc-held.new.caller.pass) (view c.register.new.caller.pass) c.args.caller.now.number s (stance_of c.register.new.caller.session) c.args.name.now c.in-Ok-take_of.lists (snap_entry by c.args.name.now)
+          c.requires.may.ready.at e.entered refl c.register.ensures.left c.requires.free c.requires.room
           (t.lists_are ∙ (λ j. snapshot_data ((subst (λ l. ProcStands (start_of c.args.hall.now) l (at (view c.enter_proc-held.new.caller.pass).seen proc_lock)) (sym c.deref_mut.ensures.value) c.enter_proc-held.ensures.stands).base j).next ((subst (λ l. ProcStands (start_of c.args.hall.now) l (at (view c.enter_proc-held.new.caller.pass).seen proc_lock)) (sym c.deref_mut.ensures.value) c.enter_proc-held.ensures.stands).events j)))
-          (c.register.ensures.stance ∙ (λ j. record (stance j) { snaps = (stance j).snaps ++ (t.name_is j, t.command j) ∷ [] }));
+          (c.register.ensures.stance ∙ (λ j. record (stance j) { snaps = (stance j).snaps ++ (c.args.name.now, (e.same.0 j).levels.commands) ∷ [] }));
       stage = r.stage ∙ ap (λ z. z.stage) e.same.0;
       held = tt;
       still = λ q is. not_standing None q refl is;

@@ -1,3 +1,4 @@
+pub mod Looked
 pub mod Making
 pub mod Naming
 pub mod Closing

@@ -13,13 +13,13 @@ read g c =
     let laid = c.requires.laid in
     word_read (start_of c.args.hall.now) (c.args.hall.now.cells + 0) (view c.args.caller.now.pass) (view c.read_post.new.pass) c.read_post.result c.requires.own.named (omega arith) c.read_post.ensures.view
 
-pub prove-unreachable-requires : goal.prove-unreachable-requires
-prove-unreachable-requires g c =
-    let shown = read g (goal.at.prove-unreachable-requires g c).After-read_post in
+pub unreachable-requires : goal.unreachable-requires
+unreachable-requires g c =
+    let shown = read g (goal.at.unreachable-requires g c).After-read_post in
     c.in-None.ensures (shown.form (inr c.requires.ready.at.base.full_oldest))
 
-pub returns-in-Some-clause-ready : goal.returns-in-Some-clause-ready
-returns-in-Some-clause-ready g c =
+pub returns-clause-ready : goal.returns-clause-ready
+returns-clause-ready g c =
     let start = start_of c.args.hall.now in
     let old = c.args.caller.now in
     let q = c.args.hall.now.cells + 0 in
@@ -30,21 +30,21 @@ returns-in-Some-clause-ready g c =
       free = loaded_stage start q (view old.pass) (view c.read_post.new.pass) c.read_post.result l ∙ r.free;
     }
 
-pub returns-in-Some-clause-shown : goal.returns-in-Some-clause-shown
-returns-in-Some-clause-shown g c =
+pub returns-clause-shown : goal.returns-clause-shown
+returns-clause-shown g c =
     subst (IsShownBehind (start_of c.args.hall.now) (view c.args.caller.now.pass).seen (view c.read_post.new.pass).seen) (sym c.in-Some.ensures.1)
-    (read g (goal.at.returns-in-Some-clause-shown g c).After-read_post)
+    (read g (goal.at.returns-clause-shown g c).After-read_post)
 
-pub returns-in-Some-clause-went : goal.returns-in-Some-clause-went
-returns-in-Some-clause-went g c =
+pub returns-clause-went : goal.returns-clause-went
+returns-clause-went g c =
     let start = start_of c.args.hall.now in
     let old = c.args.caller.now in
     let q = c.args.hall.now.cells + 0 in
     let l = c.read_post.ensures.view in
     learned_went start (view old.pass) (view c.read_post.new.pass) old.number old.session c.requires.ready.at (loaded_learns start q (view old.pass) (view c.read_post.new.pass) c.read_post.result l c.requires.own.named) (loaded_kept start q (view old.pass) (view c.read_post.new.pass) c.read_post.result l)
 
-pub returns-in-Some-clause-adds : goal.returns-in-Some-clause-adds
-returns-in-Some-clause-adds g c =
+pub returns-clause-adds : goal.returns-clause-adds
+returns-clause-adds g c =
     let old = c.args.caller.now in
     learned_adds (view old.pass) (view c.read_post.new.pass) (by_at old.number old.session.levels.commands) c.requires.ready.at.name
     (loaded_learns (start_of c.args.hall.now) (c.args.hall.now.cells + 0) (view old.pass) (view c.read_post.new.pass) c.read_post.result c.read_post.ensures.view c.requires.own.named)

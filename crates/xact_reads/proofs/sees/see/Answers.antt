@@ -10,6 +10,7 @@ use Rattle.engine_parts.specs.Holds.{Knowledge}
 use Rattle.engine_parts.specs.Sessions.{by_at, stance_of}
 use Rattle.session_levels.specs.declared.session.Session as plain
 use Rattle.xact_reads.specs.Apart.{IsMeantCut, StaysApart}
+use Rattle.xact_reads.specs.Glances.{IsNamed}
 use Rattle.xact_reads.proofs.Aparting.{apart_unless}
 use Rattle.engine_parts.proofs.Adding.{adds_nothing, adds_wider, met_leaves, plain_leaves}
 use Rattle.engine_parts.proofs.Calling.{may_counted, own_counted, ran_refused}
@@ -92,5 +93,5 @@ returns-in-Err-clause-apart g c =
     let w = view c.see_found.new.caller.pass in
     let start = start_of c.args.hall.now in
     apart_unless (IsMeantCut start w.seen u.session.levels c.args.name.now c.args.x.number) (IsMeantCut start w.seen old.session.levels c.args.name.now c.args.x.number) old.number u.number (view old.pass).seen (view u.pass).seen w.seen c.in-Err.refusal c.count.ensures.number
-    (λ cut. subst (λ (z : plain.Session). IsMeantCut start w.seen z c.args.name.now c.args.x.number) c.count.ensures.levels cut)
+    (λ (cut : IsMeantCut start w.seen u.session.levels c.args.name.now c.args.x.number). record { registered = cut.registered; named = subst (λ (z : plain.Session). IsNamed z c.args.name.now cut.registered) c.count.ensures.levels cut.named; id = cut.id; near = cut.near; cut = cut.cut })
     (counted_apart old.number u.number (view old.pass) (view u.pass) (view u.pass) (ap view c.count.ensures.pass) c.count.ensures.number refl) c.in-Err.ensures.apart

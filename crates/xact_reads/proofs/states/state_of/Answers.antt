@@ -1,4 +1,4 @@
-use Rattle.std.proofs.Common.{◌<◌, inr, arith, refl, subst}
+use Rattle.std.proofs.Common.{◌<◌, inr, arith, refl, rules, subst}
 use Rattle.std.proofs.lemmas.Bool.Decides.{nat_tests}
 use Rattle.hall.specs.Calls.{view, start_of}
 use Rattle.tx_events.specs.declared.refusal.Lock.TheVariants as locks

@@ -40,8 +40,8 @@ fn with_savepoint<R: Abort + AllocGlobal>(rt: &R) -> Standing {
         by: own(2),
         command: Command::Write,
         reply: Reply::Wrote {
-            ids: one_id(rt, three),
             warn: false,
+            ids: one_id(rt, three),
         },
     };
     let events = [event_of(rt, own(2), Act::Id(3))];

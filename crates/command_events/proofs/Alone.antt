@@ -12,7 +12,7 @@ use Rattle.report_law.specs.Kinds.{BeginAsTold}
 use Rattle.command_events.specs.Told.{AreTold, IsToldNothing, gives_ids, plain_events}
 
 pub has_plain : (by : By) (s : Stance) (command : Command) (reply : Reply) (es : List Event) → gives_ids command reply ≡ false → HasEvents by s command reply es ↔ (es ≡ plain_events by s command reply)
-has_plain by s commands.Write (replies.Wrote ids warn) es plain = absurd cc
+has_plain by s commands.Write (replies.Wrote warn ids) es plain = absurd cc
 has_plain by s commands.Write (replies.Refused refusal) es plain = absurd cc
 has_plain by s commands.Undo replies.Done es plain = (λ e. e, λ e. e)
 has_plain by s commands.Commit replies.Done es plain = (λ e. e, λ e. e)

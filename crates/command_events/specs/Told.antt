@@ -29,7 +29,7 @@ as_list (Some e) = e ∷ []
 
 -- whether the command may give ids, by its reply
 abbrev pub gives_ids : Command → Reply → Bool
-gives_ids commands.Write (replies.Wrote ids warn) = true
+gives_ids commands.Write (replies.Wrote warn ids) = true
 gives_ids commands.Write (replies.Refused refusal) = true
 gives_ids command reply = false
 

@@ -22,8 +22,8 @@ fn told_wrote(
     warn: bool,
     own: &[Event],
 ) -> Result<Option<Vec<Event>>, Memory>
-    ensures some { IfOk result (λ o. IfSome o (λ es. AreTold by standing.now commands.Write (replies.Wrote ids.now warn) own.now es.items)) }
-    ensures none { IfOk result (λ o. IfNone o (IsToldNothing by standing.now commands.Write (replies.Wrote ids.now warn) own.now)) }
+    ensures some { IfOk result (λ o. IfSome o (λ es. AreTold by standing.now commands.Write (replies.Wrote warn ids.now) own.now es.items)) }
+    ensures none { IfOk result (λ o. IfNone o (IsToldNothing by standing.now commands.Write (replies.Wrote warn ids.now) own.now)) }
 {
     let given = ids.items();
     if given.len() as u64 != standing.levels.lacking() {
@@ -98,7 +98,7 @@ pub fn told_events(
 {
     match &line.command {
         Command::Write => match &line.reply {
-            Reply::Wrote { ids, warn } => told_wrote(alloc, line.by, standing, ids, *warn, own),
+            Reply::Wrote { warn, ids } => told_wrote(alloc, line.by, standing, ids, *warn, own),
             Reply::Refused { refusal } => {
                 let events = told_refused(alloc, line.by, standing, refusal, own)?;
                 Ok(Some(events))

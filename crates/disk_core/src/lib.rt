@@ -2,6 +2,7 @@
 //! failed (docs/DISKS.md).
 #![tactic(auto)]
 
+mod boxed_log;
 mod boxed_pages;
 mod log_disk;
 mod media;

@@ -2,8 +2,7 @@
 ghost use Rattle.std.specs.Prelude.{◌≡◌, ◌≤◌, IfOk, OnOk, OnErr};
 ghost use Rattle.disk_core.specs.Faults.{CountsFault, counted_by};
 ghost use Rattle.disk_core.specs.Media.{AllCrashed, HaveSameBanks};
-ghost use Rattle.disk_core.specs.MemLogViews.{log_crashed, LogFell};
-ghost use Rattle.disk_core.specs.MemMediaViews.{BankFell, IsFirst, bank_crashed};
+ghost use Rattle.disk_core.specs.MemMediaViews.{BankFell, BoxedLogFell, IsFirst, IsFirstLog, bank_crashed, boxed_log_crashed};
 
 use crate::mem_banks::{crash_banks, new_banks};
 use crate::{Crash, Failed, Media, MemLog, MemPages, MountRefusal, Volumes};
@@ -15,7 +14,7 @@ pub struct MemMedia {
     alloc: Global,
     // The log's bytes before the first mount.
     log: Vec<u8>,
-    held: Option<Volumes<MemLog, Box<MemPages>>>,
+    held: Option<Volumes<Box<MemLog>, Box<MemPages>>>,
     is_mounted: bool,
     faults: u64,
 }
@@ -51,12 +50,22 @@ impl MemMedia {
     }
 }
 
+// The log of a first mount, and the bytes go into it.
+fn log_of(alloc: Global, bytes: &mut Vec<u8>) -> Result<Box<MemLog>, AllocError>
+    ensures first { IfOk result (IsFirstLog bytes.old.items) }
+    ensures err { OnErr result (bytes.new.items ≡ bytes.old.items) }
+{
+    let mut log = Box::new(alloc, MemLog::of(alloc, Vec::new(alloc)))?;
+    *log = MemLog::of(alloc, mem::replace(bytes, Vec::new(alloc)));
+    Ok(log)
+}
+
 // The first volumes, and the log's bytes go into them.
 fn first_volumes(
     alloc: Global,
     log: &mut Vec<u8>,
     banks: u32,
-) -> Result<Volumes<MemLog, Box<MemPages>>, AllocError>
+) -> Result<Volumes<Box<MemLog>, Box<MemPages>>, AllocError>
     requires some { 1 ≤ banks }
     requires few { banks ≤ 16 }
     ensures first { IfOk result (IsFirst log.old.items banks) }
@@ -66,7 +75,7 @@ fn first_volumes(
     let subtrans = new_banks(alloc, banks)?;
     let offsets = new_banks(alloc, banks)?;
     let members = new_banks(alloc, banks)?;
-    let log = MemLog::of(alloc, mem::replace(log, Vec::new(alloc)));
+    let log = log_of(alloc, log)?;
     Ok(Volumes {
         log,
         xact,
@@ -76,9 +85,9 @@ fn first_volumes(
     })
 }
 
-fn crash_all(volumes: &mut Volumes<MemLog, Box<MemPages>>, how: Crash) -> Result<(), Failed>
-    ensures crashed { OnOk result (AllCrashed log_crashed bank_crashed volumes.old volumes.new) }
-    ensures fell { OnOk result (AllCrashed (LogFell how) (BankFell how) volumes.old volumes.new) }
+fn crash_all(volumes: &mut Volumes<Box<MemLog>, Box<MemPages>>, how: Crash) -> Result<(), Failed>
+    ensures crashed { OnOk result (AllCrashed boxed_log_crashed bank_crashed volumes.old volumes.new) }
+    ensures fell { OnOk result (AllCrashed (BoxedLogFell how) (BankFell how) volumes.old volumes.new) }
     ensures banks { HaveSameBanks volumes.old volumes.new }
 {
     volumes.log.crash(how);
@@ -89,7 +98,7 @@ fn crash_all(volumes: &mut Volumes<MemLog, Box<MemPages>>, how: Crash) -> Result
 }
 
 impl Media for MemMedia {
-    type Log = MemLog;
+    type Log = Box<MemLog>;
 
     type Pages = Box<MemPages>;
 
@@ -98,8 +107,7 @@ impl Media for MemMedia {
     ghost use Rattle.disk_core.specs.Images.{NoMore, Only};
     ghost use Rattle.disk_core.specs.Media.{HasBanks, HaveSameBanks, CountsMount, AllCrashed};
     ghost use Rattle.disk_core.specs.declared.media.Volumes.{Volumes};
-    ghost use Rattle.disk_core.specs.MemLogViews.{log_crashed, LogFell};
-    ghost use Rattle.disk_core.specs.MemMediaViews.{BankFell, IsFirst, bank_crashed, first_log, gives, is_idle, is_new};
+    ghost use Rattle.disk_core.specs.MemMediaViews.{BankFell, BoxedLogFell, IsFirst, bank_crashed, boxed_log_crashed, first_log, gives, is_idle, is_new};
 
     ghost is_idle = { λ m. is_idle m };
 
@@ -109,11 +117,11 @@ impl Media for MemMedia {
 
     ghost gives = { λ m. gives m };
 
-    ghost falls = { λ how. AllCrashed (LogFell how) (BankFell how) };
+    ghost falls = { λ how. AllCrashed (BoxedLogFell how) (BankFell how) };
 
     ghost faults = { λ m. m.faults };
 
-    fn mount(&mut self, banks: u32) -> Result<Volumes<MemLog, Box<MemPages>>, MountRefusal>
+    fn mount(&mut self, banks: u32) -> Result<Volumes<Box<MemLog>, Box<MemPages>>, MountRefusal>
         requires idle { IsTrue (is_idle self.old) }
         requires some { 1 ≤ banks }
         requires few { banks ≤ 16 }
@@ -139,12 +147,16 @@ impl Media for MemMedia {
         Ok(volumes)
     }
 
-    fn crash(&mut self, volumes: Volumes<MemLog, Box<MemPages>>, how: Crash) -> Result<(), Failed>
+    fn crash(
+        &mut self,
+        volumes: Volumes<Box<MemLog>, Box<MemPages>>,
+        how: Crash,
+    ) -> Result<(), Failed>
         ensures idle { IsTrue (is_idle self.new) }
         ensures old { is_new self.new ≡ false }
-        ensures left { OnOk result ((next : Volumes MemLog (Box MemPages)) → gives self.new next → AllCrashed log_crashed bank_crashed volumes next) }
-        ensures fell { OnOk result ((next : Volumes MemLog (Box MemPages)) → gives self.new next → AllCrashed (LogFell how) (BankFell how) volumes next) }
-        ensures banks { (next : Volumes MemLog (Box MemPages)) → gives self.new next → HaveSameBanks volumes next }
+        ensures left { OnOk result ((next : Volumes (Box MemLog) (Box MemPages)) → gives self.new next → AllCrashed boxed_log_crashed bank_crashed volumes next) }
+        ensures fell { OnOk result ((next : Volumes (Box MemLog) (Box MemPages)) → gives self.new next → AllCrashed (BoxedLogFell how) (BankFell how) volumes next) }
+        ensures banks { (next : Volumes (Box MemLog) (Box MemPages)) → gives self.new next → HaveSameBanks volumes next }
         ensures cause { CountsFault result self.old.faults self.new.faults }
         ensures counted { self.new.faults ≡ counted_by result self.old.faults }
     {
@@ -155,7 +167,7 @@ impl Media for MemMedia {
         count_failed(outcome, &mut self.faults)
     }
 
-    fn rest(&mut self, volumes: Volumes<MemLog, Box<MemPages>>)
+    fn rest(&mut self, volumes: Volumes<Box<MemLog>, Box<MemPages>>)
         ensures idle { IsTrue (is_idle self.new) }
         ensures old { is_new self.new ≡ false }
         ensures same { Only volumes (gives self.new) }

@@ -31,7 +31,7 @@ pub fn new_cluster(banks: u32, sessions: u32) -> Cluster
 }
 
 /// Lets the parts of a lock table go. Answers how many events its history has.
-fn let_go(parts: Parts<MemLog, Box<MemPages>>) -> u64 {
+fn let_go(parts: Parts<Box<MemLog>, Box<MemPages>>) -> u64 {
     let Parts {
         cluster: _,
         locks,
@@ -57,11 +57,11 @@ fn let_go(parts: Parts<MemLog, Box<MemPages>>) -> u64 {
 /// Makes the lock table over parts. None for want of memory.
 fn table_of(
     alloc: Global,
-    parts: Parts<MemLog, Box<MemPages>>,
+    parts: Parts<Box<MemLog>, Box<MemPages>>,
 ) -> Option<
     (
-        Hall<EngineLaw<MemLog, Box<MemPages>>>,
-        Host<MemLog, Box<MemPages>>,
+        Hall<EngineLaw<Box<MemLog>, Box<MemPages>>>,
+        Host<Box<MemLog>, Box<MemPages>>,
     ),
 >
     requires { AreParts parts }
@@ -83,13 +83,13 @@ fn table_of(
 /// Opens a lock table over a log without a record.
 fn open_parts(
     alloc: Global,
-    log: WalLog<MemLog>,
+    log: WalLog<Box<MemLog>>,
     volumes: BankVolumes<Box<MemPages>>,
     cluster: Cluster,
 ) -> Option<
     (
-        Hall<EngineLaw<MemLog, Box<MemPages>>>,
-        Host<MemLog, Box<MemPages>>,
+        Hall<EngineLaw<Box<MemLog>, Box<MemPages>>>,
+        Host<Box<MemLog>, Box<MemPages>>,
     ),
 >
     requires cluster { IsCluster cluster }
@@ -111,12 +111,12 @@ fn open_parts(
 /// Opens a lock table over mounted volumes, if their log has no record.
 fn open_mounted(
     alloc: Global,
-    volumes: Volumes<MemLog, Box<MemPages>>,
+    volumes: Volumes<Box<MemLog>, Box<MemPages>>,
     cluster: Cluster,
 ) -> Option<
     (
-        Hall<EngineLaw<MemLog, Box<MemPages>>>,
-        Host<MemLog, Box<MemPages>>,
+        Hall<EngineLaw<Box<MemLog>, Box<MemPages>>>,
+        Host<Box<MemLog>, Box<MemPages>>,
     ),
 >
     requires cluster { IsCluster cluster }
@@ -156,8 +156,8 @@ pub fn open_table(
     cluster: Cluster,
 ) -> Option<
     (
-        Hall<EngineLaw<MemLog, Box<MemPages>>>,
-        Host<MemLog, Box<MemPages>>,
+        Hall<EngineLaw<Box<MemLog>, Box<MemPages>>>,
+        Host<Box<MemLog>, Box<MemPages>>,
     ),
 >
     requires { IsCluster cluster }
@@ -176,8 +176,8 @@ pub fn open_table(
 
 /// Closes a table whose sessions were all taken back. Answers how many events its history has.
 pub fn close_table(
-    hall: Hall<EngineLaw<MemLog, Box<MemPages>>>,
-    host: Host<MemLog, Box<MemPages>>,
+    hall: Hall<EngineLaw<Box<MemLog>, Box<MemPages>>>,
+    host: Host<Box<MemLog>, Box<MemPages>>,
 ) -> u64
     requires host { IsHost hall host }
     requires all { HoldsAllBut host [] }

@@ -43,8 +43,8 @@ fn micros_since(host: &HostRuntime, start: io::Result<Instant>) -> Option<u128> 
 fn work_timed<R: Threads + Wait + Sync>(
     host: &HostRuntime,
     rt: &R,
-    hall: &Hall<EngineLaw<MemLog, Box<MemPages>>>,
-    members: &mut Vec<Member<MemLog, Box<MemPages>>>,
+    hall: &Hall<EngineLaw<Box<MemLog>, Box<MemPages>>>,
+    members: &mut Vec<Member<Box<MemLog>, Box<MemPages>>>,
     banks: u32,
     alloc: Global,
     shape: &Shape,
@@ -69,8 +69,8 @@ fn run_opened<R: Threads + Wait + Sync>(
     host: &HostRuntime,
     rt: &R,
     alloc: Global,
-    hall: Hall<EngineLaw<MemLog, Box<MemPages>>>,
-    postmaster: Host<MemLog, Box<MemPages>>,
+    hall: Hall<EngineLaw<Box<MemLog>, Box<MemPages>>>,
+    postmaster: Host<Box<MemLog>, Box<MemPages>>,
     shape: &Shape,
     turns: u32,
 ) -> Option<Outcome>

@@ -16,7 +16,8 @@ ghost use Rattle.event_rules.specs.Fronts.{AreTold, IsFront, list_at};
 use history_places::{HistoryPlaces, SnapMark, open_now, snap_mark};
 use place_columns::OwnEvents;
 use std::alloc::Global;
-use tx_events::{Counters, Event, Memory, SnapData};
+use tx_events::{Counters, Event, Memory};
+use tx_model::SharedSnap;
 
 /// The legal front of a history: what its places tell, of each of its events that takes a snapshot what is kept of that, and
 /// how many ids the session of each has open behind it.
@@ -28,7 +29,7 @@ pub struct HistoryFront {
 }
 
 /// What the reply of the line of this number tells of a snapshot, if it does.
-fn told_at(lists: &[Option<SnapData>], line: u64) -> Option<&SnapData>
+fn told_at(lists: &[Option<SharedSnap>], line: u64) -> Option<&SharedSnap>
     ensures { option_copied result ≡ list_at lists.now line }
 {
     match lists.get(line as usize) {
@@ -41,7 +42,7 @@ fn told_at(lists: &[Option<SnapData>], line: u64) -> Option<&SnapData>
 fn mark_of(
     places: &mut HistoryPlaces,
     event: &Event,
-    lists: &[Option<SnapData>],
+    lists: &[Option<SharedSnap>],
     line: u64,
 ) -> Result<Option<SnapMark>, Memory>
     ensures same { places.new ≡ places.old }
@@ -64,7 +65,7 @@ pub fn history_front(
     sessions: u32,
     events: &[Event],
     own: &OwnEvents,
-    lists: &[Option<SnapData>],
+    lists: &[Option<SharedSnap>],
 ) -> Result<HistoryFront, Memory>
     requires base { IsBase base }
     requires sessions { sessions ≤ 64 }

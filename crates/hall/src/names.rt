@@ -57,7 +57,7 @@ impl Names {
         ensures held { (k : ℕ) → slice_index_or self.new.held k false ≡ (slice_index_or self.old.held k false || slice_index_or other.now.held k false) }
     {
         for name in 0..NAMES {
-            self.held[name] = self.held[name] || other.held[name];
+            self.held[name] |= other.held[name];
         }
     }
 }

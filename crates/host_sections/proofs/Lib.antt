@@ -3,3 +3,4 @@ pub mod LogSteps
 pub mod BankSteps
 pub mod Refusals
 pub mod Asking
+pub mod Noted

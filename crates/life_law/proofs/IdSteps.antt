@@ -77,8 +77,8 @@ ask_given by x reply = elim (was_asked reply && nat_le 3 x) as (λ b. given (con
 pub bounds_of : (by : By) (number : ℕ) (s : Stance) (command : Command) (reply : Reply) (added : List Event) → HasEvents by s command reply added → Bounds number s command reply added
 bounds_of by number s commands.Begin replies.Done added h = none_given number s commands.Begin replies.Done added h (omega arith)
 bounds_of by number s commands.Save replies.Done added h = none_given number s commands.Save replies.Done added h (let e = sum_by-append (λ (l : Option ℕ). cond (is_none l) 1 0) s.levels (None ∷ []) in omega (arith, e))
-bounds_of by number s commands.Write (replies.Wrote ids warn) added h =
-    subst (Bounds number s commands.Write (replies.Wrote ids warn)) (sym h.0) (let e = fills by None s.levels ids in omega (arith, e))
+bounds_of by number s commands.Write (replies.Wrote warn ids) added h =
+    subst (Bounds number s commands.Write (replies.Wrote warn ids)) (sym h.0) (let e = fills by None s.levels ids in omega (arith, e))
 bounds_of by number s commands.Write (replies.Refused refusal) added h =
     ⊎_elim
     (λ (q : added ≡ []). none_given number s commands.Write (replies.Refused refusal) added q (let e = fills_none s.levels in omega (arith, e)))

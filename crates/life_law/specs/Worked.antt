@@ -30,8 +30,8 @@ line_of session number command reply = record { by = by_at session number; comma
 
 abbrev pub first_lines : List Line
 first_lines =
-    line_of 0 1 commands.Begin replies.Done ∷ line_of 0 2 commands.Write (replies.Wrote (3 ∷ []) false)
-    ∷ line_of 1 1 commands.Begin replies.Done ∷ line_of 1 2 commands.Write (replies.Wrote (4 ∷ []) false)
+    line_of 0 1 commands.Begin replies.Done ∷ line_of 0 2 commands.Write (replies.Wrote false (3 ∷ []))
+    ∷ line_of 1 1 commands.Begin replies.Done ∷ line_of 1 2 commands.Write (replies.Wrote false (4 ∷ []))
     ∷ line_of 1 3 commands.Commit replies.Done ∷ []
 
 -- session 0 asks for its commit, for a savepoint, and for its commit again
@@ -155,7 +155,7 @@ special_life = short_life (events.Snap its_name (by_at 0 1) ∷ []) special_line
 -- a write that was refused for a pending abort gave an id to one of two savepoints
 abbrev pub giving_lines : List Line
 giving_lines =
-    line_of 0 1 commands.Begin replies.Done ∷ line_of 0 2 commands.Write (replies.Wrote (3 ∷ []) false)
+    line_of 0 1 commands.Begin replies.Done ∷ line_of 0 2 commands.Write (replies.Wrote false (3 ∷ []))
     ∷ line_of 0 3 commands.Save replies.Done ∷ line_of 0 4 commands.Save replies.Done
     ∷ line_of 0 5 commands.Abort bank_fault
     ∷ line_of 0 6 commands.Write (replies.Refused refusals.AbortPending) ∷ []

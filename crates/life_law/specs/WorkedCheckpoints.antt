@@ -17,7 +17,7 @@ use Rattle.life_law.specs.Laws.{IsLawful}
 use Rattle.life_law.specs.Worked.{bank_fault, by_at, line_of, worked_base}
 
 abbrev pub written_lines : List Line
-written_lines = line_of 0 1 commands.Begin replies.Done ∷ line_of 0 2 commands.Write (replies.Wrote (3 ∷ []) false) ∷ []
+written_lines = line_of 0 1 commands.Begin replies.Done ∷ line_of 0 2 commands.Write (replies.Wrote false (3 ∷ [])) ∷ []
 
 abbrev pub ending_lines : List Line
 ending_lines = line_of 0 3 commands.Commit replies.Done ∷ []

@@ -40,7 +40,7 @@ late_base = record worked_base { next = 2144483649 }
 abbrev pub last_lines : List Line
 last_lines =
     line_of 1 1 commands.Begin replies.Done
-    ∷ line_of 1 2 commands.Write (replies.Wrote (2144483649 ∷ []) true) ∷ []
+    ∷ line_of 1 2 commands.Write (replies.Wrote true (2144483649 ∷ [])) ∷ []
 
 abbrev pub last_events : List Event
 last_events = events.Id (by_at 1 2) 2144483649 ∷ []

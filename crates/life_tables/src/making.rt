@@ -41,8 +41,8 @@ use reply_rules::{
 };
 use std::alloc::Global;
 use std::collections::BTreeSet;
-use tx_events::{Memory, MultiEvent, Rec, SnapData};
-use tx_model::{Life, LifeReport};
+use tx_events::{Memory, MultiEvent, Rec};
+use tx_model::{Life, LifeReport, SharedSnap};
 
 /// How many sessions a report has at most.
 const SESSIONS: u32 = 64;
@@ -76,7 +76,7 @@ pub fn front_of(
     alloc: Global,
     report: &LifeReport,
     own: &OwnEvents,
-    lists: &[Option<SnapData>],
+    lists: &[Option<SharedSnap>],
 ) -> Result<HistoryFront, Memory>
     ghost at: { LifeAt }
     requires report { report.now ≡ at.report }

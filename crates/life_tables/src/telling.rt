@@ -8,11 +8,11 @@ ghost use Rattle.life_tables.specs.Lives.{is_multi_reply};
 ghost use Rattle.life_tables.specs.Told.{AreToldLists, told_of};
 
 use std::alloc::Global;
-use tx_events::{Memory, SnapData};
-use tx_model::{Line, Reply, Step};
+use tx_events::Memory;
+use tx_model::{Line, Reply, SharedSnap, Step};
 
 /// The lists of the snapshot that the reply tells, if it does.
-fn told_lists(reply: &Reply) -> Result<Option<SnapData>, Memory>
+fn told_lists(reply: &Reply) -> Result<Option<SharedSnap>, Memory>
     ensures { IfOk result (λ o. o ≡ told_lists reply.now) }
 {
     match reply {
@@ -24,12 +24,12 @@ fn told_lists(reply: &Reply) -> Result<Option<SnapData>, Memory>
 /// What the replies of the lines so far tell of snapshots. The last lines, whose replies tell of none, are counted alone.
 #[derive(Drop)]
 struct ToldSoFar {
-    lists: Vec<Option<SnapData>>,
+    lists: Vec<Option<SharedSnap>>,
     blanks: u64,
 }
 
 #[tactic(auto, using(crate::proofs::Snapped::replicate_more))]
-fn push_blanks(lists: &mut Vec<Option<SnapData>>, count: u64) -> Result<(), Memory>
+fn push_blanks(lists: &mut Vec<Option<SharedSnap>>, count: u64) -> Result<(), Memory>
     ensures { OnOk result (lists.new.items ≡ lists.old.items ++ replicate count None) }
 {
     for _n in 0..count {
@@ -40,7 +40,7 @@ fn push_blanks(lists: &mut Vec<Option<SnapData>>, count: u64) -> Result<(), Memo
 
 /// One line more, whose reply tells this.
 #[tactic(auto, using(crate::proofs::Snapped::told_more, crate::proofs::Snapped::blank_more))]
-fn note_lists(so_far: &mut ToldSoFar, told: Option<SnapData>) -> Result<(), Memory>
+fn note_lists(so_far: &mut ToldSoFar, told: Option<SharedSnap>) -> Result<(), Memory>
     ensures { OnOk result (told_of so_far.new ≡ told_of so_far.old ++ told ∷ []) }
 {
     match told {
@@ -88,7 +88,7 @@ fn none_told(alloc: Global) -> ToldSoFar
 
 /// The lists of the snapshot that each line's reply tells, up to the last line that tells of one.
 #[tactic(auto, using(crate::proofs::Snapped::all_told))]
-pub fn lists_by_lines(alloc: Global, steps: &[Step]) -> Result<Vec<Option<SnapData>>, Memory>
+pub fn lists_by_lines(alloc: Global, steps: &[Step]) -> Result<Vec<Option<SharedSnap>>, Memory>
     ensures { IfOk result (λ lists. AreToldLists (flat_map lines_in steps.now) lists.items) }
 {
     let mut so_far = none_told(alloc);

@@ -16,6 +16,6 @@ use Rattle.wal_core.specs.Log.{history_on}
 use Rattle.session_run.proofs.Handed.{none_on_empty}
 
 -- nothing was written on the log within
-pub none_within : (inner : MemMedia) → first_log inner ≡ [] → (at : Which) (fails : Fails) (refused : Volumes ℕ ℕ) (banks : ℕ) (v : Volumes (FusedLog MemLog) (FusedPages (Box MemPages))) → fuse_begins (IsFirst (first_log inner) banks) at fails refused v → history_on (written v.log.inner) ≡ None
+pub none_within : (inner : MemMedia) → first_log inner ≡ [] → (at : Which) (fails : Fails) (refused : Volumes ℕ ℕ) (banks : ℕ) (v : Volumes (FusedLog (Box MemLog)) (FusedPages (Box MemPages))) → fuse_begins (IsFirst (first_log inner) banks) at fails refused v → history_on (written v.log.inner.value) ≡ None
 none_within inner empty at fails refused banks v begins =
-    none_on_empty (written v.log.inner) (ap (λ (f : FusedLog MemLog). written f.inner) begins.2.log ∙ begins.1.log_written ∙ ap (λ (bytes : List ℕ). record { start = 0; bytes = bytes }) empty)
+    none_on_empty (written v.log.inner.value) (ap (λ (f : FusedLog (Box MemLog)). written f.inner.value) begins.2.log ∙ begins.1.log_written ∙ ap (λ (bytes : List ℕ). record { start = 0; bytes = bytes }) empty)

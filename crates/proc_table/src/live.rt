@@ -65,10 +65,9 @@ impl LiveSnapshots {
         }
     }
 
-    /// Takes out the session's snapshot of this name, and gives its name back. Takes no memory.
-    pub fn take_out(&mut self, session: u32, name: &Name) -> Option<Name>
+    /// Takes out the session's snapshot of this name, and gives its xmin. Takes no memory.
+    pub fn take_out(&mut self, session: u32, name: &Name) -> Option<FullXid>
         requires within { session < length self.old.sessions.items }
-        ensures name { IfSome result (λ n. n ≡ name.now) }
         ensures left { IfSome result (λ _. (snaps : List LiveSnap) → HoldsLive snaps self.old → HoldsLive (others session name.now snaps) self.new) }
         ensures none { IfNone result ((snaps : List LiveSnap) → HoldsLive snaps self.old → live_xmin session name.now snaps ≡ None) }
         ensures sessions { length self.new.sessions.items ≡ length self.old.sessions.items }
@@ -76,7 +75,7 @@ impl LiveSnapshots {
         match self.sessions[session as usize].take(name) {
             Some(xmin) => {
                 count_less(&mut self.xmins, xmin);
-                Some(name.same())
+                Some(xmin)
             }
             None => None,
         }

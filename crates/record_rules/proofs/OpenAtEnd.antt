@@ -90,7 +90,7 @@ below_64 h s t subs each o =
 
 not_done_iff : (r : Reply) → (is_not_done r ≡ true) ↔ (r ≢ replies.Done)
 not_done_iff replies.Done = (λ e. absurd cc, λ f. absurd (f refl))
-not_done_iff (replies.Wrote ids warn) = (λ e q. absurd cc, λ f. refl)
+not_done_iff (replies.Wrote warn ids) = (λ e q. absurd cc, λ f. refl)
 not_done_iff (replies.Snapped lists) = (λ e q. absurd cc, λ f. refl)
 not_done_iff (replies.Seen visible) = (λ e q. absurd cc, λ f. refl)
 not_done_iff (replies.Known status) = (λ e q. absurd cc, λ f. refl)
@@ -105,7 +105,7 @@ not_done_iff (replies.Refused refusal) = (λ e q. absurd cc, λ f. refl)
 
 fault_iff : (r : Reply) → (is_disk_fault r ≡ true) ↔ IsDiskFault r
 fault_iff replies.Done = (λ e. absurd cc, λ f. absurd f)
-fault_iff (replies.Wrote ids warn) = (λ e. absurd cc, λ f. absurd f)
+fault_iff (replies.Wrote warn ids) = (λ e. absurd cc, λ f. absurd f)
 fault_iff (replies.Snapped lists) = (λ e. absurd cc, λ f. absurd f)
 fault_iff (replies.Seen visible) = (λ e. absurd cc, λ f. absurd f)
 fault_iff (replies.Known status) = (λ e. absurd cc, λ f. absurd f)

@@ -27,7 +27,7 @@ none_unless {X} (Some x) b e f = let t = f (λ n. absurd cc) in absurd cc
 
 pub goes_is : (judged : Type 0) (j : Judged) (before : List Line) (round multi_round : RoundSpan) (by : By) (s : Stance) (command : Command) (reply : Reply) → goes_by_places command reply ≡ true
     → IsLawfulReply judged j before round multi_round by s command reply ↔ (judged → IsLawfulByHistory j before round multi_round by s command reply)
-goes_is judged j before round multi_round by s commands.Write (replies.Wrote ids warn) goes = (λ f y. f (λ t. y), λ f h. f (h goes))
+goes_is judged j before round multi_round by s commands.Write (replies.Wrote warn ids) goes = (λ f y. f (λ t. y), λ f h. f (h goes))
 goes_is judged j before round multi_round by s commands.Write (replies.Refused (refusals.Stop next stop)) goes = (λ f y. f (λ t. y), λ f h. f (h goes))
 goes_is judged j before round multi_round by s (commands.Snap name) (replies.Snapped lists) goes = (λ f y. f (λ t. y), λ f h. f (h goes))
 goes_is judged j before round multi_round by s commands.Horizon (replies.Horizon xmin) goes = (λ f y. f (λ t. y), λ f h. f (h goes))

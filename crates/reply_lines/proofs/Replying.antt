@@ -61,7 +61,7 @@ did_is s x answer reply b is goes told =
 
 -- ---- writes
 
-pub wrote_is : (s : Spot) (ids : List ℕ) (warn : Bool) (reply : Reply) (standing : Stance) (a late b t : Bool) → reply ≡ replies.Wrote ids warn → standing ≡ stance_at s.at s.asking.by
+pub wrote_is : (s : Spot) (ids : List ℕ) (warn : Bool) (reply : Reply) (standing : Stance) (a late b t : Bool) → reply ≡ replies.Wrote warn ids → standing ≡ stance_at s.at s.asking.by
     → IsTrue a ↔ (standing.levels ≢ []) → IsTrue late ↔ IsWarned (base_of s) (history_of s) s.asking.by → IsTrue b ↔ (IsTrue warn ↔ IsTrue late) → IsTrue t ↔ (IsTrue a × IsTrue b) → IsTrue t ↔ IsLawfulHere s commands.Write reply
 wrote_is s ids warn reply standing a late b t is stands is_a is_late is_b is_t =
     let open_ : IsTrue a ↔ ((stance_at s.at s.asking.by).levels ≢ []) = subst (λ (x : Stance). IsTrue a ↔ (x.levels ≢ [])) stands is_a in

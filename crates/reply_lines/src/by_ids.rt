@@ -13,8 +13,8 @@ use place_rules::{
     is_did_at, is_did_too_old, is_future_at, is_not_given, is_old_member, is_snapped, is_status_at,
 };
 use std::collections::BTreeSet;
-use tx_events::{By, FullXid, SnapData, Xid};
-use tx_model::{Pair, Status};
+use tx_events::{By, FullXid, Xid};
+use tx_model::{Pair, SharedSnap, Status};
 
 /// The line of the session's command of this number.
 pub fn line_of(known: &Known, asking: Asking, number: u64) -> u64
@@ -75,7 +75,7 @@ pub fn is_older_than(known: &Known, asking: Asking, number: u64, x: Xid, oldest:
 }
 
 /// Whether a snapshot that the command took holds these lists, which its reply tells.
-pub fn has_taken(known: &Known, asking: Asking, _lists: &SnapData) -> bool
+pub fn has_taken(known: &Known, asking: Asking, _lists: &SharedSnap) -> bool
     ghost s: { ListSpot }
     requires spot { IsSpot s.spot known.now asking }
     requires lists { s.lists ≡ _lists.now }

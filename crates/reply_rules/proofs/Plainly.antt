@@ -21,7 +21,7 @@ special x f = omega (arith, ltb-false 2 x f)
 
 pub plain_is : (judged : Type 0) (j : Judged) (before : List Line) (round multi_round : RoundSpan) (by : By) (s : Stance) (command : Command) (reply : Reply) → goes_by_places command reply ≡ false → by_standing reply ≡ None → is_by_log reply ≡ false
     → IsPlain s command reply ↔ IsLawfulReply judged j before round multi_round by s command reply
-plain_is judged j before round multi_round by s commands.Write (replies.Wrote ids warn) plain other log = absurd cc
+plain_is judged j before round multi_round by s commands.Write (replies.Wrote warn ids) plain other log = absurd cc
 plain_is judged j before round multi_round by s commands.Write (replies.Refused (refusals.Stop next stop)) plain other log = absurd cc
 plain_is judged j before round multi_round by s (commands.Snap name) (replies.Snapped lists) plain other log = absurd cc
 plain_is judged j before round multi_round by s commands.Horizon (replies.Horizon xmin) plain other log = absurd cc

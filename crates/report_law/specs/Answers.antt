@@ -96,7 +96,7 @@ HasNoRoom life size =
 
 -- What some place of a history has to bear out. An id below 3 has its answer wherever it is asked.
 abbrev pub goes_by_places : Command → Reply → Bool
-goes_by_places commands.Write (replies.Wrote ids warn) = true
+goes_by_places commands.Write (replies.Wrote warn ids) = true
 goes_by_places commands.Write (replies.Refused (refusals.Stop next stop)) = true
 goes_by_places (commands.Snap name) (replies.Snapped lists) = true
 goes_by_places commands.Horizon (replies.Horizon xmin) = true

@@ -124,7 +124,7 @@ dump_bytes (b ∷ bytes) = map hex_word (b ∷ bytes)
 -- a reply's words, given the names of the sessions
 abbrev pub reply_words : List (List ℕ) → Reply → List (List ℕ)
 reply_words names replies.Done = codes "ok" ∷ []
-reply_words names (replies.Wrote ids warn) = codes "ok" ∷ numbers_or_dash ids ++ warned warn
+reply_words names (replies.Wrote warn ids) = codes "ok" ∷ numbers_or_dash ids ++ warned warn
 reply_words names (replies.Snapped s) = codes "ok" ∷ snapshot_words s
 reply_words names (replies.Seen visible) = cond visible (codes "visible") (codes "hidden") ∷ []
 reply_words names (replies.Known status) = status_word status ∷ []

@@ -8,9 +8,8 @@ ghost use Rattle.report_text.specs.ReplyText.{reply_words, warned, status_word, 
 use crate::member::put_verdicts;
 use crate::refusal::{put_refusal, refusal_word};
 use crate::text::{Text, name_of, put_numbers_or_dash, put_yes_or_no};
-use tx_model::{
-    ByteList, IdList, Memory, NameList, Reply, SharedIds, SnapData, Status, VerdictList,
-};
+use tx_events::FullXid;
+use tx_model::{ByteList, IdList, Memory, NameList, Reply, SharedSnap, Status, VerdictList};
 
 /// An arrow behind a space.
 #[tactic(auto, unfolding(crate::specs::Words::more))]
@@ -45,7 +44,7 @@ fn put_wrote(out: &mut Text, ids: &IdList, warn: bool) -> Result<(), Memory>
 }
 
 #[tactic(auto, using(crate::proofs::MoreWords::then_more))]
-fn put_xip(out: &mut Text, ids: &SharedIds) -> Result<(), Memory>
+fn put_xip(out: &mut Text, ids: &[FullXid]) -> Result<(), Memory>
     ensures ok { OnOk result (out.new ≡ out.old ++ more (codes "xip" ∷ numbers_or_dash ids.now)) }
 {
     out.word(b"xip")?;
@@ -53,7 +52,7 @@ fn put_xip(out: &mut Text, ids: &SharedIds) -> Result<(), Memory>
 }
 
 #[tactic(auto, using(crate::proofs::MoreWords::then_more))]
-fn put_subxip(out: &mut Text, ids: &SharedIds) -> Result<(), Memory>
+fn put_subxip(out: &mut Text, ids: &[FullXid]) -> Result<(), Memory>
     ensures ok { OnOk result (out.new ≡ out.old ++ more (codes "sub" ∷ numbers_or_dash ids.now)) }
 {
     out.word(b"sub")?;
@@ -61,19 +60,19 @@ fn put_subxip(out: &mut Text, ids: &SharedIds) -> Result<(), Memory>
 }
 
 #[tactic(auto, using(crate::proofs::MoreWords::then_more), unfolding(crate::specs::ReplyText::snapshot_words))]
-fn put_snapshot(out: &mut Text, lists: &SnapData) -> Result<(), Memory>
+fn put_snapshot(out: &mut Text, lists: &SharedSnap) -> Result<(), Memory>
     ensures ok { OnOk result (out.new ≡ out.old ++ more (snapshot_words lists.now)) }
 {
-    out.named(b"xmin", lists.xmin.number())?;
-    out.named(b"xmax", lists.xmax.number())?;
-    put_xip(out, &lists.xip)?;
-    put_subxip(out, &lists.subxip)?;
+    out.named(b"xmin", lists.xmin().number())?;
+    out.named(b"xmax", lists.xmax().number())?;
+    put_xip(out, lists.xip())?;
+    put_subxip(out, lists.subxip())?;
     out.word(b"overflow")?;
-    put_yes_or_no(out, lists.overflowed)
+    put_yes_or_no(out, lists.overflowed())
 }
 
 #[tactic(auto, using(crate::proofs::MoreWords::then_more))]
-fn put_snapped(out: &mut Text, lists: &SnapData) -> Result<(), Memory>
+fn put_snapped(out: &mut Text, lists: &SharedSnap) -> Result<(), Memory>
     ensures ok { OnOk result (out.new ≡ out.old ++ more (codes "->" ∷ codes "ok" ∷ snapshot_words lists.now)) }
 {
     put_ok(out)?;
@@ -161,7 +160,7 @@ pub fn put_answer(out: &mut Text, names: &NameList, reply: &Reply) -> Result<(),
 {
     match reply {
         Reply::Done => put_ok(out),
-        Reply::Wrote { ids, warn } => put_wrote(out, ids, *warn),
+        Reply::Wrote { warn, ids } => put_wrote(out, ids, *warn),
         Reply::Snapped { lists } => put_snapped(out, lists),
         Reply::Seen { visible } => {
             put_arrow(out)?;

@@ -9,7 +9,8 @@ use itoa::Buffer;
 use std::alloc::Global;
 use std::marker::Model;
 use text_bytes::Bytes;
-use tx_model::{IdList, Memory, NameList, SharedIds};
+use tx_events::FullXid;
+use tx_model::{IdList, Memory, NameList};
 
 /// A text. After want of memory it may have grown by a part of what was to be added.
 #[derive(Drop)]
@@ -101,23 +102,23 @@ impl Text {
     }
 
     /// The top-level ids of a snapshot, each behind a space, or a dash. The words of those printed last are copied.
-    pub fn tops(&mut self, ids: &SharedIds) -> Result<(), Memory>
+    pub fn tops(&mut self, ids: &[FullXid]) -> Result<(), Memory>
         ensures ok { OnOk result (self.new ≡ self.old ++ more (numbers_or_dash ids.now)) }
     {
-        if ids.items().is_empty() {
+        if ids.is_empty() {
             return self.word(b"-");
         }
-        self.tops.put(&mut self.bytes, ids.items())
+        self.tops.put(&mut self.bytes, ids)
     }
 
     /// The same for the ids of subtransactions.
-    pub fn subs(&mut self, ids: &SharedIds) -> Result<(), Memory>
+    pub fn subs(&mut self, ids: &[FullXid]) -> Result<(), Memory>
         ensures ok { OnOk result (self.new ≡ self.old ++ more (numbers_or_dash ids.now)) }
     {
-        if ids.items().is_empty() {
+        if ids.is_empty() {
             return self.word(b"-");
         }
-        self.subs.put(&mut self.bytes, ids.items())
+        self.subs.put(&mut self.bytes, ids)
     }
 
     /// A word and a number, each behind a space.

@@ -35,7 +35,7 @@ warned_none : (b : Bool) → NoIds (warned b)
 warned_none true = none_here (codes "warn") [] refl
 warned_none false = record { ids = refl; rest = refl }
 
-wrote_again : (ids : List ℕ) (warn : Bool) → AllByRecursion FitsId ids → wrote_at (numbers_or_dash ids ++ warned warn) ≡ Some (replies.Wrote ids warn)
+wrote_again : (ids : List ℕ) (warn : Bool) → AllByRecursion FitsId ids → wrote_at (numbers_or_dash ids ++ warned warn) ≡ Some (replies.Wrote warn ids)
 unfolding wrote_at
 wrote_again ids warn a =
     let l : ReadsList (numbers_or_dash ids ++ warned warn) ids (warned warn) = list_again ids (warned warn) a (warned_none warn) in
@@ -48,7 +48,7 @@ reply_again_refused k r f = rw (refusal_not_ok r, refusal_no_answer r, refusal_a
 pub reply_again : (names : List (List ℕ)) (k : Kind) (r : Reply) → FitsReply k r → reply_at k (reply_words names r) ≡ Some r
 unfolding reply_at multi_reply_at horizon_at is_answer look_in status_in did_in status_word
 reply_again names k replies.Done f = rw f refl
-reply_again names k (replies.Wrote ids warn) f = rw f.0 (wrote_again ids warn f.1)
+reply_again names k (replies.Wrote warn ids) f = rw f.0 (wrote_again ids warn f.1)
 reply_again names k (replies.Snapped s) f = rw (f.0, snap_again s f.1) refl
 reply_again names k (replies.Seen true) f = rw f refl
 reply_again names k (replies.Seen false) f = rw f refl
@@ -198,7 +198,7 @@ refusal_are_words r f = (refusal_is_word r, refusal_rest_are_words r f)
 pub reply_are_words : (names : List (List ℕ)) (k : Kind) (r : Reply) → FitsReply k r → AreWords (reply_words names r)
 unfolding status_word
 reply_are_words names k replies.Done f = search rules
-reply_are_words names k (replies.Wrote ids warn) f = (search rules, words_append (numbers_or_dash ids) (warned warn) (list_are_words ids f.1) (warned_are_words warn))
+reply_are_words names k (replies.Wrote warn ids) f = (search rules, words_append (numbers_or_dash ids) (warned warn) (list_are_words ids f.1) (warned_are_words warn))
 reply_are_words names k (replies.Snapped s) f = (search rules, snapshot_are_words s f.1)
 reply_are_words names k (replies.Seen true) f = search rules
 reply_are_words names k (replies.Seen false) f = search rules

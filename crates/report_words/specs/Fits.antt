@@ -103,7 +103,7 @@ FitsRefusal refusals.Memory = Unit {0}
 -- a reply to a command that is answered so
 abbrev pub FitsReply : Kind → Reply → Type 0
 FitsReply k replies.Done = k ≡ kinds.Plain
-FitsReply k (replies.Wrote ids warn) = (k ≡ kinds.Ids) × AllByRecursion FitsId ids
+FitsReply k (replies.Wrote warn ids) = (k ≡ kinds.Ids) × AllByRecursion FitsId ids
 FitsReply k (replies.Snapped s) = (k ≡ kinds.Snapshot) × FitsSnap s
 FitsReply k (replies.Seen visible) = k ≡ kinds.Look
 FitsReply k (replies.Known status) = k ≡ kinds.Status

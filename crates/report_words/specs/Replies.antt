@@ -41,7 +41,7 @@ warn_at [] = false
 warn_at (w ∷ ws) = true
 
 unfoldable pub wrote_at : List (List ℕ) → Option Reply
-wrote_at ws = Some (replies.Wrote (list_ids ws) (warn_at (behind_list ws)))
+wrote_at ws = Some (replies.Wrote (warn_at (behind_list ws)) (list_ids ws))
 
 unfoldable pub multi_reply_at : List (List ℕ) → Option Reply
 multi_reply_at ws = do

@@ -6,7 +6,7 @@ ghost use Rattle.report_words.specs.Fits.{FitsId, FitsMulti, FitsBy, FitsCounter
 use crate::reply::Kind;
 use tx_events::{FullMulti, FullXid, Xid};
 use tx_model::{
-    By, ByteList, Counters, Lock, MemberList, NameList, PairList, Refusal, Reply, SnapData,
+    By, ByteList, Counters, Lock, MemberList, NameList, PairList, Refusal, Reply, SharedSnap,
     VerdictList,
 };
 
@@ -89,13 +89,13 @@ pub fn counters_fit(counters: &Counters)
     number_fits(counters.oldest_offset);
 }
 
-fn snapshot_fits(lists: &SnapData)
+fn snapshot_fits(lists: &SharedSnap)
     ensures { FitsSnap lists.now }
 {
-    id_fits(lists.xmin);
-    id_fits(lists.xmax);
-    ids_fit(lists.xip.items());
-    ids_fit(lists.subxip.items());
+    id_fits(lists.xmin());
+    id_fits(lists.xmax());
+    ids_fit(lists.xip());
+    ids_fit(lists.subxip());
 }
 
 /// Whether the session has a name.

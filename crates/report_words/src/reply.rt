@@ -14,7 +14,9 @@ use crate::refusal::refusal_at;
 use crate::unread::Unread;
 use crate::word::{full_id, is_word, number_at, word_at};
 use std::alloc::Global;
-use tx_model::{ByteList, Command, IdList, NameList, Refusal, Reply, Status, VerdictList};
+use tx_model::{
+    ByteList, Command, IdList, NameList, Refusal, Reply, SharedSnap, Status, VerdictList,
+};
 
 /// What the reply to a command can say, but for refusals.
 #[derive(Clone, Copy, PartialEq, Eq)]
@@ -72,7 +74,7 @@ fn wrote_at(alloc: Global, rest: &[u8]) -> Result<Reply, Unread>
     let mut ids = IdList::new(alloc);
     let rest = read_list(&mut ids, rest)?;
     let warn = warn_at(rest);
-    Ok(Reply::Wrote { ids, warn })
+    Ok(Reply::Wrote { warn, ids })
 }
 
 #[tactic(auto, unfolding(crate::specs::Replies::multi_reply_at))]
@@ -107,7 +109,8 @@ fn ok_at(alloc: Global, kind: Kind, rest: &[u8]) -> Result<Reply, Unread>
         Kind::Plain => Ok(Reply::Done),
         Kind::Ids => wrote_at(alloc, rest),
         Kind::Snapshot => {
-            let lists = snap_at(alloc, rest)?;
+            let holds = snap_at(alloc, rest)?;
+            let lists = SharedSnap::of(alloc, holds)?;
             Ok(Reply::Snapped { lists })
         }
         Kind::Multi => multi_reply_at(rest),

@@ -91,7 +91,7 @@ abort_quiet by None = tt
 abort_quiet by (Some id) = (tt, tt)
 
 pub own_quiet : (by : By) (s : Stance) (c : Command) (r : Reply) (es : List Event) → IsDrawn c → HasEvents by s c r es → AllByRecursion IsQuiet es
-own_quiet by s commands.Write (replies.Wrote ids warn) es d e = subst (AllByRecursion IsQuiet) (sym e.0) (levels_quiet by None s.levels ids)
+own_quiet by s commands.Write (replies.Wrote warn ids) es d e = subst (AllByRecursion IsQuiet) (sym e.0) (levels_quiet by None s.levels ids)
 own_quiet by s commands.Write (replies.Refused refusal) es d e = ⊎_elim
     (λ (a : es ≡ []). subst (AllByRecursion IsQuiet) (sym a) tt)
     (λ (a : (ids : List ℕ) × (es ≡ level_events by None s.levels ids) × MayHaveGiven refusal (lacking s.levels) (length ids)). subst (AllByRecursion IsQuiet) (sym a.1) (levels_quiet by None s.levels a.0))

@@ -90,7 +90,7 @@ history_reply_fits base committed h round by s commands.Begin (replies.Refused r
 history_reply_fits base committed h round by s commands.Save replies.Done b l p m e = refl
 history_reply_fits base committed h round by s commands.Save (replies.Refused refusals.NoTransaction) b l p m e = tt
 history_reply_fits base committed h round by s commands.Save (replies.Refused refusals.DepthLimit) b l p m e = tt
-history_reply_fits base committed h round by s commands.Write (replies.Wrote ids warn) b l p m e = (refl, wrote_fits base h by s ids b l e.0 e.1)
+history_reply_fits base committed h round by s commands.Write (replies.Wrote warn ids) b l p m e = (refl, wrote_fits base h by s ids b l e.0 e.1)
 history_reply_fits base committed h round by s commands.Write (replies.Refused refusals.NoTransaction) b l p m e = tt
 history_reply_fits base committed h round by s commands.Write (replies.Refused (refusals.Stop next stop)) b l p m e =
     (subst FitsId (sym m.1.next_is) (next_fits base (take m.1.place h) b (legal_take base h m.1.place l)), subst FitsId (sym m.1.stop_is) (stop_fits _))
@@ -252,7 +252,7 @@ ask_named by x r f = elim (was_asked r && nat_le 3 x) as (λ b. AllByRecursion N
 
 -- the events of a command
 pub own_named : (by : By) (s : Stance) (c : Command) (r : Reply) (es : List Event) → FitsCommand c → HasEvents by s c r es → AllByRecursion NamesFit es
-own_named by s commands.Write (replies.Wrote ids warn) es f e = subst (AllByRecursion NamesFit) (sym e.0) (levels_named by None s.levels ids)
+own_named by s commands.Write (replies.Wrote warn ids) es f e = subst (AllByRecursion NamesFit) (sym e.0) (levels_named by None s.levels ids)
 own_named by s commands.Write (replies.Refused refusal) es f e = ⊎_elim
     (λ (a : es ≡ []). subst (AllByRecursion NamesFit) (sym a) tt)
     (λ (a : (ids : List ℕ) × (es ≡ level_events by None s.levels ids) × MayHaveGiven refusal (lacking s.levels) (length ids)). subst (AllByRecursion NamesFit) (sym a.1) (levels_named by None s.levels a.0))

@@ -90,14 +90,14 @@ begins f by replies.Done es w t = record { does = t.has; verdict = refl; then = 
 begins f by reply es w t = absurd (ok_reply f t.round by (standing [] []) None commands.Begin reply w tt t.standing t.fine t.lawful)
 
 first_write : (f : Facts) (by : By) (reply : Reply) (es : List Event) → IsWide f → IsTold f (standing (None ∷ []) []) by commands.Write reply es → Goes f Given (standing (None ∷ []) []) by commands.Write reply es
-first_write f by (replies.Wrote [] warn) es w t = absurd (let n : 0 ≡ 1 = t.has.1 in cc)
-first_write f by (replies.Wrote (id ∷ []) warn) es w t = record {
+first_write f by (replies.Wrote warn []) es w t = absurd (let n : 0 ≡ 1 = t.has.1 in cc)
+first_write f by (replies.Wrote warn (id ∷ [])) es w t = record {
   does = (by, None, id, t.has.0);
   verdict = refl;
-  then = (id, ap (λ es. after (standing (None ∷ []) []) by.command commands.Write (replies.Wrote (id ∷ []) warn) (given es)) t.has.0);
+  then = (id, ap (λ es. after (standing (None ∷ []) []) by.command commands.Write (replies.Wrote warn (id ∷ [])) (given es)) t.has.0);
   settled = refl;
 }
-first_write f by (replies.Wrote (id ∷ more ∷ ids) warn) es w t = absurd (let n : length (id ∷ more ∷ ids) ≡ 1 = t.has.1 in cc)
+first_write f by (replies.Wrote warn (id ∷ more ∷ ids)) es w t = absurd (let n : length (id ∷ more ∷ ids) ≡ 1 = t.has.1 in cc)
 first_write f by reply es w t = absurd (ok_reply f t.round by (standing (None ∷ []) []) None commands.Write reply w tt t.standing t.fine t.lawful)
 
 saves : (f : Facts) (by : By) (top : ℕ) (reply : Reply) (es : List Event) → IsWide f → IsTold f (standing (Some top ∷ []) []) by commands.Save reply es → Goes f Saved (standing (Some top ∷ []) []) by commands.Save reply es
@@ -105,14 +105,14 @@ saves f by top replies.Done es w t = record { does = t.has; verdict = refl; then
 saves f by top reply es w t = absurd (ok_reply f t.round by (standing (Some top ∷ []) []) None commands.Save reply w tt t.standing t.fine t.lawful)
 
 second_write : (f : Facts) (by : By) (top : ℕ) (reply : Reply) (es : List Event) → IsWide f → IsTold f (standing (Some top ∷ None ∷ []) []) by commands.Write reply es → Goes f SavedGiven (standing (Some top ∷ None ∷ []) []) by commands.Write reply es
-second_write f by top (replies.Wrote [] warn) es w t = absurd (let n : 0 ≡ 1 = t.has.1 in cc)
-second_write f by top (replies.Wrote (id ∷ []) warn) es w t = record {
+second_write f by top (replies.Wrote warn []) es w t = absurd (let n : 0 ≡ 1 = t.has.1 in cc)
+second_write f by top (replies.Wrote warn (id ∷ [])) es w t = record {
   does = (by, Some top, id, t.has.0);
   verdict = refl;
-  then = (top, id, ap (λ es. after (standing (Some top ∷ None ∷ []) []) by.command commands.Write (replies.Wrote (id ∷ []) warn) (given es)) t.has.0);
+  then = (top, id, ap (λ es. after (standing (Some top ∷ None ∷ []) []) by.command commands.Write (replies.Wrote warn (id ∷ [])) (given es)) t.has.0);
   settled = refl;
 }
-second_write f by top (replies.Wrote (id ∷ more ∷ ids) warn) es w t = absurd (let n : length (id ∷ more ∷ ids) ≡ 1 = t.has.1 in cc)
+second_write f by top (replies.Wrote warn (id ∷ more ∷ ids)) es w t = absurd (let n : length (id ∷ more ∷ ids) ≡ 1 = t.has.1 in cc)
 second_write f by top reply es w t = absurd (ok_reply f t.round by (standing (Some top ∷ None ∷ []) []) None commands.Write reply w tt t.standing t.fine t.lawful)
 
 undoes : (f : Facts) (by : By) (top id : ℕ) (reply : Reply) (es : List Event) → IsWide f → IsTold f (standing (Some top ∷ Some id ∷ []) []) by commands.Undo reply es → Goes f Given (standing (Some top ∷ Some id ∷ []) []) by commands.Undo reply es

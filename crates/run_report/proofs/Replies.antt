@@ -25,7 +25,7 @@ pub record IsWide (f : Facts) : Type 0 where
 abbrev pub IsOk : Command → Reply → Type 0
 IsOk commands.Begin replies.Done = Unit {0}
 IsOk commands.Save replies.Done = Unit {0}
-IsOk commands.Write (replies.Wrote ids warn) = Unit {0}
+IsOk commands.Write (replies.Wrote warn ids) = Unit {0}
 IsOk commands.Release replies.Done = Unit {0}
 IsOk commands.Undo replies.Done = Unit {0}
 IsOk commands.Commit replies.Done = Unit {0}
@@ -41,7 +41,7 @@ history_ok f round by s commands.Begin (replies.Refused refusals.AlreadyOpen) w 
 history_ok f round by s commands.Save replies.Done w d n m = tt
 history_ok f round by s commands.Save (replies.Refused refusals.NoTransaction) w d n m = absurd cc
 history_ok f round by s commands.Save (replies.Refused refusals.DepthLimit) w d n m = absurd cc
-history_ok f round by s commands.Write (replies.Wrote ids warn) w d n m = tt
+history_ok f round by s commands.Write (replies.Wrote warn ids) w d n m = tt
 history_ok f round by s commands.Write (replies.Refused refusals.NoTransaction) w d n m = absurd cc
 history_ok f round by s commands.Write (replies.Refused (refusals.Stop next stop)) w d n m = absurd (w.no_stop round by next stop m.1)
 history_ok f round by s commands.Release replies.Done w d n m = tt

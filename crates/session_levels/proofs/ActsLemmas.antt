@@ -222,7 +222,7 @@ events_own by p (None ∷ levels) (id ∷ ids) = (giving_by by p id, events_own 
 
 -- a write, of which the ids given are these
 pub acts_wrote : (base : Counters) (by : By) (h h' : List Event) (named ids : List ℕ) (unnamed : ℕ) (snaps : List (List ℕ × ℕ)) (warn : Bool) → 1 ≤ length (levels_of named unnamed) → unnamed ≡ length ids → h' ≡ h ++ level_events by None (levels_of named unnamed) ids → IsTrue warn ↔ IsWarned base h' by →
-    Acts base by (record { levels = levels_of named unnamed; snaps = snaps }) (record { levels = levels_of (named ++ ids) 0; snaps = snaps }) commands.Write (replies.Wrote ids warn) h h'
+    Acts base by (record { levels = levels_of named unnamed; snaps = snaps }) (record { levels = levels_of (named ++ ids) 0; snaps = snaps }) commands.Write (replies.Wrote warn ids) h h'
 acts_wrote base by h h' named ids unnamed snaps warn some n g w = record {
   added = level_events by None (levels_of named unnamed) ids;
   grown = g;

@@ -3,7 +3,7 @@ ghost use Rattle.session_levels.specs.Stands.{IsFresh};
 
 use std::alloc::Global;
 use tx_events::FullXid;
-use tx_model::{Name, SnapData};
+use tx_model::{Name, SharedSnap};
 
 /// A registered snapshot of a session: its name, the command that took it, its place in the history, and its data.
 #[derive(Drop)]
@@ -11,7 +11,7 @@ pub struct RegisteredSnapshot {
     pub name: Name,
     pub command: u64,
     pub place: usize,
-    pub snapshot: SnapData,
+    pub snapshot: SharedSnap,
 }
 
 /// How a session stands.

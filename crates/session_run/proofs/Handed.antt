@@ -13,7 +13,6 @@ use Rattle.disk_core.specs.MemMediaViews.{IsFirst, first_log, gives, is_new}
 use Rattle.disk_core.specs.declared.mem_log.MemLog.{MemLog}
 use Rattle.disk_core.specs.declared.mem_media.MemMedia.{MemMedia}
 use Rattle.disk_core.specs.declared.mem_pages.MemPages.{MemPages}
-use Rattle.disk_core.specs.contracts.mem_log.MemLogLogDisk.TheImpl as mem_log
 use Rattle.wal_core.specs.Log.{history_on}
 use Rattle.wal_core.specs.Opening.{opened}
 use Rattle.recoverable.specs.Fit.{KeptLog}
@@ -40,8 +39,9 @@ module _ {L P : Type 0} (l : logs.Ghosts L) (p : disks.Ghosts P) (kept : KeptLog
   pub silent_may_begin : p.tells ≡ false → MayBeginOver l p kept v
   silent_may_begin silent = record { banks = own_banks; tells = λ told. absurd (false≢true (sym silent ∙ told)); fits = λ told some. absurd (false≢true (sym silent ∙ told)) }
 
--- a media in memory on which nothing was written
-pub mem_may_begin : {p : disks.Ghosts (Box MemPages)} (kept : KeptLog) (m : MemMedia) → first_log m ≡ [] → IsTrue (is_new m) → (banks : ℕ) (v : Volumes MemLog (Box MemPages)) → MayMount (is_new m) (λ n. IsFirst (first_log m) n) (gives m) banks v → MayBeginOver mem_log.ghosts p kept v
-mem_may_begin {p} kept m empty new banks v mounted =
+-- a media in memory on which nothing was written; its log tells what is written
+pub mem_may_begin : {l : logs.Ghosts (Box MemLog)} {p : disks.Ghosts (Box MemPages)} (kept : KeptLog) (m : MemMedia) → first_log m ≡ [] → IsTrue (is_new m) → IsTrue l.tells → ((b : Box MemLog) → l.reads b ≡ written b.value)
+    → (banks : ℕ) (v : Volumes (Box MemLog) (Box MemPages)) → MayMount (is_new m) (λ n. IsFirst (first_log m) n) (gives m) banks v → MayBeginOver l p kept v
+mem_may_begin {l} {p} kept m empty new tells reads banks v mounted =
     let first = mounted.first new in
-    new_may_begin mem_log.ghosts p kept banks v first.0 (λ told. refl) (λ told. none_on_empty (written v.log) (first.1.log_written ∙ ap (λ (bytes : List ℕ). record { start = 0; bytes = bytes }) empty))
+    new_may_begin l p kept banks v first.0 (λ told. tells) (λ told. none_on_empty (l.reads v.log) (reads v.log ∙ first.1.log_written ∙ ap (λ (bytes : List ℕ). record { start = 0; bytes = bytes }) empty))

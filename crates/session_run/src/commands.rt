@@ -16,7 +16,7 @@ use hall::Hall;
 use multi_makes::multi;
 use multi_store::MultiGiven;
 use std::alloc::Global;
-use tx_model::{Command, Refusal, Reply, SnapData, Status, VerdictList};
+use tx_model::{Command, Refusal, Reply, SharedSnap, Status, VerdictList};
 use xact_ends::{abort, commit, undo};
 use xact_engine::{begin, drop_snap, release, save, snap};
 use xact_freezes::{freeze, multi_freeze, trim};
@@ -38,13 +38,13 @@ fn wrote(answer: Result<Wrote, Refusal>) -> Reply
     ensures { result ≡ reply_of reply_to answer }
 {
     match answer {
-        Ok(Wrote { ids, warn }) => Reply::Wrote { ids, warn },
+        Ok(Wrote { ids, warn }) => Reply::Wrote { warn, ids },
         Err(refusal) => Reply::Refused { refusal },
     }
 }
 
 // That of a snapshot.
-fn snapped(answer: Result<SnapData, Refusal>) -> Reply
+fn snapped(answer: Result<SharedSnap, Refusal>) -> Reply
     ensures { result ≡ reply_of replies.Snapped answer }
 {
     match answer {

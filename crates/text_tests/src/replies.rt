@@ -5,7 +5,7 @@ use report_text::{Text, put_command_line};
 use std::alloc::AllocGlobal;
 use std::process::Abort;
 use tx_events::{IdList, Lock, Mode, Refusal, Sequence, SharedIds, SnapData, Xid};
-use tx_model::{By, Command, MemberVerdict, Reply, Verdict};
+use tx_model::{By, Command, MemberVerdict, Reply, SharedSnap, Verdict};
 
 fn shared(rt: &(impl Abort + AllocGlobal), ids: IdList) -> SharedIds {
     SharedIds::of(rt.alloc(), ids).expect(rt, "memory")
@@ -29,25 +29,25 @@ fn check_refused(rt: &(impl Abort + AllocGlobal), refusal: Refusal, wanted: &str
 }
 
 pub fn snapshots_have_a_dash_for_no_ids(rt: &(impl Abort + AllocGlobal)) {
-    let overflowed = Reply::Snapped {
-        lists: SnapData {
-            xmin: id(rt, 3),
-            xmax: id(rt, 71),
-            xip: shared(rt, list(rt, [id(rt, 3)])),
-            subxip: shared(rt, Sequence::new(rt.alloc())),
-            overflowed: true,
-        },
+    let holds = SnapData {
+        xmin: id(rt, 3),
+        xmax: id(rt, 71),
+        xip: shared(rt, list(rt, [id(rt, 3)])),
+        subxip: shared(rt, Sequence::new(rt.alloc())),
+        overflowed: true,
     };
+    let lists = SharedSnap::of(rt.alloc(), holds).expect(rt, "memory");
+    let overflowed = Reply::Snapped { lists };
     let line = "a 1 begin -> ok xmin 3 xmax 71 xip 3 sub - overflow yes\n";
     check_line(rt, &overflowed, line);
     let nothing = Reply::Wrote {
-        ids: Sequence::new(rt.alloc()),
         warn: false,
+        ids: Sequence::new(rt.alloc()),
     };
     check_line(rt, &nothing, "a 1 begin -> ok -\n");
     let two = Reply::Wrote {
-        ids: list(rt, [id(rt, 3), id(rt, 4)]),
         warn: true,
+        ids: list(rt, [id(rt, 3), id(rt, 4)]),
     };
     check_line(rt, &two, "a 1 begin -> ok 3 4 warn\n");
 }

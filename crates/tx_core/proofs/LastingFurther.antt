@@ -188,6 +188,7 @@ post_stays : (start : Start) (lists more : List (List Entry)) (lock : ℕ) (befo
 post_stays start lists more lock before (kinds.Post number) g n = record {
   oldest = λ q. found_grows (oldest_id start.base.oldest) lists more before number g (n.oldest q);
   xmin = λ q. found_grows (oldest_xmin start.base.next) lists more before number g (n.xmin q);
+  form = n.form;
 }
 post_stays start lists more lock before (kinds.Event event) g n = shown_grows start lists more (oldest_id start.base.oldest (events_in before)) g n
 post_stays start lists more lock before _ g n = tt

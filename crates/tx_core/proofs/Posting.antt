@@ -88,12 +88,12 @@ found_now shown lists before rises each =
     }
 
 pub oldest_post_law : OldestPostKeeps
-oldest_post_law start seen by k =
+oldest_post_law start seen by k form =
     let h : List Event = history seen in
     let lock : ℕ = oldest_word start in
     let found = found_now (oldest_id start.base.oldest) seen (at seen lock) (oldest_by_places start.base h k.events.legal)
     (λ p e number here g. (subst (PostIn start seen lock (take p (at seen lock))) g (k.posts.each.each lock p e here)).oldest refl) in
-    post_keeps start seen lock by (oldest_id start.base.oldest h) (inl refl) (record { oldest = λ q. found; xmin = λ (q : lock ≡ xmin_word start). absurd (omega arith) })
+    post_keeps start seen lock by (oldest_id start.base.oldest h) (inl refl) (record { oldest = λ q. found; xmin = λ (q : lock ≡ xmin_word start). absurd (omega arith); form = λ q. form })
 
 pub xmin_post_law : XminPostKeeps
 xmin_post_law start seen by k base =
@@ -101,7 +101,7 @@ xmin_post_law start seen by k base =
     let lock : ℕ = xmin_word start in
     let found = found_now (oldest_xmin start.base.next) seen (at seen lock) (xmin_by_places start.base h k.events.legal base)
     (λ p e number here g. (subst (PostIn start seen lock (take p (at seen lock))) g (k.posts.each.each lock p e here)).xmin refl) in
-    post_keeps start seen lock by (oldest_xmin start.base.next h) (inr refl) (record { oldest = λ (q : lock ≡ oldest_word start). absurd (omega arith); xmin = λ q. found })
+    post_keeps start seen lock by (oldest_xmin start.base.next h) (inr refl) (record { oldest = λ (q : lock ≡ oldest_word start). absurd (omega arith); xmin = λ q. found; form = λ (q : lock ≡ oldest_word start). absurd (omega arith) })
 
 has_posts : (es : List Entry) (e : Entry) (number : ℕ) → Has es e → posted_in e.kind ≡ Some number → Has (posts es) number
 has_posts [] e number k g = absurd k

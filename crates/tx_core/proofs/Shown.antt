@@ -8,6 +8,7 @@ use Rattle.tx_events.proofs.ListSteps.{le_or_over}
 use Rattle.tx_events.proofs.Membership.{Has, all_at, by_end, contains_has, has_cases, has_filter_map, has_place}
 use Rattle.tx_events.proofs.PlaceLemmas.{last_at, slice_get-grows, take-grows}
 use Rattle.tx_events.specs.Horizon.{oldest_id}
+use Rattle.tx_events.specs.Ids.{IsXidNumber}
 use Rattle.notes.proofs.Growing.{begins_length}
 use Rattle.notes.specs.Lists.{at}
 use Rattle.tx_core.proofs.Asking.{event_kind}
@@ -85,6 +86,19 @@ shown_before start lists event p k stands =
     let need : PostIn start lists proc_lock (take r.0 (at lists proc_lock)) r.1.kind = k.posts.each.each proc_lock r.0 r.1 r.2 in
     subst (λ (before : List Event). WasShown start lists (oldest_id start.base.oldest before)) r.4 (subst (PostIn start lists proc_lock (take r.0 (at lists proc_lock))) (event_kind r.1.kind event r.3) need)
 
+-- what is shown last is the first one, or a published one, so the number of an id
+last_form : (start : Start) (lists : List (List Entry)) → EngineInvariant start lists → IsXidNumber start.base.oldest → IsXidNumber (last_from start.base.oldest (posts (at lists (oldest_word start))))
+last_form start lists k first =
+    let word : ℕ = oldest_word start in
+    let es : List Entry = at lists word in
+    ⊎_elim
+    (λ is. subst IsXidNumber (sym is) first)
+    (λ among.
+    let r = has_filter_map (λ (e : Entry). posted_in e.kind) es (last_from start.base.oldest (posts es)) among in
+    let p = has_place es r.0 r.1 in
+    (subst (PostIn start lists word (take p.0 es)) (post_kind r.0.kind (last_from start.base.oldest (posts es)) r.2) (k.posts.each.each word p.0 r.0 p.1)).form refl)
+    (last_among start.base.oldest (posts es))
+
 pub oldest_shown : OldestShown
 oldest_shown start seen lists k grows =
     let h : List Event = history lists in
@@ -98,12 +112,12 @@ oldest_shown start seen lists k grows =
     let long = begins_length (history seen) h (history_grows seen lists grows) in
     let first : base ≤ w = let up = oldest_between start.base h 0 q.0 k.events.legal (omega arith) in omega arith in
     ⊎_elim
-    (λ (near : length (history seen) ≤ q.0 + 1). record { place = q.0; late = near; within = q.1; is = is })
+    (λ (near : length (history seen) ≤ q.0 + 1). record { place = q.0; late = near; within = q.1; is = is; form = last_form start lists k })
     (λ (far : q.0 + 1 < length (history seen)).
     let p : ℕ = length (history seen) - 1 in
     let event = get_within h p (omega arith) in
     let shown = shown_before start lists event.0 p k event.1 in
     let upto : oldest_id base (take p h) ≤ w = ⊎_elim (λ (le : oldest_id base (take p h) ≤ base). omega arith) (λ n. let le = upto_last (oldest_id base) lists base es found n.0 (contains_has (posts es) n.0 n.1) in let below = n.2 in omega arith) shown in
     let up = oldest_between start.base h q.0 p k.events.legal (omega arith) in
-    record { place = p; late = omega arith; within = omega arith; is = omega arith })
+    record { place = p; late = omega arith; within = omega arith; is = omega arith; form = last_form start lists k })
     (le_or_over (length (history seen)) (q.0 + 1))

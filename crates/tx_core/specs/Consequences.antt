@@ -7,6 +7,7 @@ use Rattle.tx_events.specs.Base.{IsBase}
 use Rattle.tx_events.specs.Events.{given_to}
 use Rattle.tx_events.specs.History.{next_given}
 use Rattle.tx_events.specs.Horizon.{LiveSnap, live_snaps, oldest_id, oldest_xmin}
+use Rattle.tx_events.specs.Ids.{IsXidNumber}
 use Rattle.tx_events.specs.Families.{enclosing}
 use Rattle.tx_events.specs.Running.{open_ids}
 use Rattle.tx_core.specs.declared.entry.Entry.{Entry}
@@ -78,12 +79,13 @@ abbrev pub OldestRises : Type 0
 OldestRises = (start : Start) (lists more : List (List Entry)) → EngineInvariant start more → Grows lists more → oldest_id start.base.oldest (history lists) ≤ oldest_id start.base.oldest (history more)
 
 -- The oldest id that the word shows is that of a place of the history, and of none before the last event of what was seen
--- of the history by then.
+-- of the history by then. Where the life began with the number of an id, it is such a number too.
 pub record IsShownBehind (start : Start) (seen lists : List (List Entry)) (number : ℕ) : Type 0 where
   pub place : ℕ
   pub late : length (history seen) ≤ place + 1
   pub within : place ≤ length (history lists)
   pub is : number ≡ oldest_id start.base.oldest (take place (history lists))
+  pub form : IsXidNumber start.base.oldest → IsXidNumber number
 
 abbrev pub OldestShown : Type 0
 OldestShown = (start : Start) (seen lists : List (List Entry)) → EngineInvariant start lists → Grows seen lists

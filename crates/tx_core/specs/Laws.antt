@@ -23,7 +23,7 @@ use Rattle.tx_core.specs.FaultsRise.{faults_told}
 use Rattle.tx_core.specs.StaysDown.{IsUp, UpOf}
 use Rattle.tx_core.specs.RecordsOnce.{HasNoAbort, HasNoMulti}
 use Rattle.tx_core.specs.AbortRecordsExact.{HasNoAbortRecord}
-use Rattle.tx_events.specs.Ids.{IsFullId}
+use Rattle.tx_events.specs.Ids.{IsFullId, IsXidNumber}
 use Rattle.disk_core.specs.Faults.{HasRisen}
 use Rattle.tx_core.specs.Entries.{IsAppended, IsLinked, IsMarked, Link, Mark, history, link_of, mark_of, marks, records_of, session_of, flushed_to}
 use Rattle.tx_core.specs.MultiEntries.{SetOffset, SetSlot, multi_history, offset_of, slot_of}
@@ -210,7 +210,7 @@ MultiEventKeeps = (start : Start) (seen : List (List Entry)) (by : By) (event : 
 -- The published words. Whoever is inside the ProcArray's lock publishes what the history shows at its end.
 abbrev pub OldestPostKeeps : Type 0
 OldestPostKeeps = (start : Start) (seen : List (List Entry)) (by : By) →
-    EngineInvariant start seen → KindKeeps start seen (oldest_word start) by (kinds.Post (oldest_id start.base.oldest (history seen)))
+    EngineInvariant start seen → IsXidNumber (oldest_id start.base.oldest (history seen)) → KindKeeps start seen (oldest_word start) by (kinds.Post (oldest_id start.base.oldest (history seen)))
 
 abbrev pub XminPostKeeps : Type 0
 XminPostKeeps = (start : Start) (seen : List (List Entry)) (by : By) →

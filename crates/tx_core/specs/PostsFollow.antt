@@ -3,6 +3,7 @@ use Rattle.std.specs.Prelude.{◌≡◌, ℕ, ◌≤◌, ◌⊎◌, List, Option
 use Rattle.std.specs.List.{AllByRecursion, filter_map}
 use Rattle.tx_events.specs.declared.event.Event.{Event}
 use Rattle.tx_events.specs.Horizon.{oldest_id, oldest_xmin}
+use Rattle.tx_events.specs.Ids.{IsXidNumber}
 use Rattle.tx_core.specs.declared.entry.Entry.{Entry}
 use Rattle.tx_core.specs.declared.entry.Kind.{Kind}
 use Rattle.tx_core.specs.declared.entry.Kind.TheVariants as kinds
@@ -31,6 +32,7 @@ pub record IsFound (shown : List Event → ℕ) (lists : List (List Entry)) (bef
 pub record PostOf (start : Start) (lists : List (List Entry)) (lock : ℕ) (before : List Entry) (number : ℕ) : Type 0 where
   pub oldest : lock ≡ oldest_word start → IsFound (oldest_id start.base.oldest) lists before number
   pub xmin : lock ≡ xmin_word start → IsFound (oldest_xmin start.base.next) lists before number
+  pub form : lock ≡ oldest_word start → IsXidNumber number
 
 -- the oldest id was published as this or as a later one, or the life began with such a one
 abbrev pub WasShown : Start → List (List Entry) → ℕ → Type 0
@@ -53,6 +55,6 @@ abbrev pub NeedsPost : Start → List (List Entry) → ℕ → List Entry → En
 NeedsPost start lists lock before e = PostIn start lists lock before e.kind
 
 -- Each number that was published is the oldest id, or the oldest xmin, at a place of the history, and none is published
--- behind one of a later place. The oldest id is at most one event behind: who adds one publishes first what it finds.
+-- behind one of a later place; as an oldest id it is the number of an id. The oldest id is at most one event behind: who adds one publishes first what it finds.
 pub record PostsFollow (start : Start) (lists : List (List Entry)) : Type 0 where
   pub each : Upheld (NeedsPost start) lists

@@ -170,7 +170,7 @@ too_new_grows base h es r r' by oldest limit f t w o k = record {
 pub may_reply_grows : (base : Counters) (committed : List ℕ) (h es : List Event) (r r' : RoundSpan) (by : By) (s : Stance) (command : Command) (reply : Reply) → r'.from ≤ r.from → r.to ≤ r'.to → r.to ≤ length h → AreLater by es → MayReply base committed h r by s command reply → MayReply base committed (h ++ es) r' by s command reply
 may_reply_grows base committed h es r r' by s commands.Begin replies.Done f t w o m = m
 may_reply_grows base committed h es r r' by s commands.Begin (replies.Refused refusals.AlreadyOpen) f t w o m = m
-may_reply_grows base committed h es r r' by s commands.Write (replies.Wrote ids warn) f t w o m = (m.0, warned_grows base h es by warn (later_are_others by es o) m.1)
+may_reply_grows base committed h es r r' by s commands.Write (replies.Wrote warn ids) f t w o m = (m.0, warned_grows base h es by warn (later_are_others by es o) m.1)
 may_reply_grows base committed h es r r' by s commands.Write (replies.Refused refusals.NoTransaction) f t w o m = m
 may_reply_grows base committed h es r r' by s commands.Write (replies.Refused (refusals.Stop next stop)) f t w o m = (m.0, stopped_grows base h es r r' by next stop f t w o m.1)
 may_reply_grows base committed h es r r' by s commands.Save replies.Done f t w o m = m

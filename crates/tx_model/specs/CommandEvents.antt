@@ -68,7 +68,7 @@ MayHaveGiven refusal wanted ids = ids < wanted
 
 -- the events that a command has which was answered so
 abbrev pub HasEvents : By → Stance → Command → Reply → List Event → Type 0
-HasEvents by s commands.Write (replies.Wrote ids warn) h = (h ≡ level_events by None s.levels ids) × (length ids ≡ lacking s.levels)
+HasEvents by s commands.Write (replies.Wrote warn ids) h = (h ≡ level_events by None s.levels ids) × (length ids ≡ lacking s.levels)
 HasEvents by s commands.Write (replies.Refused refusal) h =
     (h ≡ []) ⊎ ((ids : List ℕ) × (h ≡ level_events by None s.levels ids) × MayHaveGiven refusal (lacking s.levels) (length ids))
 HasEvents by s commands.Undo replies.Done h = h ≡ undo_event by (innermost s.levels)

@@ -19,3 +19,4 @@ pub mod Replies
 pub mod Lines
 pub mod Asked
 pub mod Rounds
+pub mod SharedSnaps

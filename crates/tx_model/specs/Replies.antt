@@ -188,7 +188,7 @@ MayReply base committed h round by s commands.Begin (replies.Refused refusals.Al
 MayReply base committed h round by s commands.Save replies.Done = (s.levels ≢ []) × (length s.levels < most_levels)
 MayReply base committed h round by s commands.Save (replies.Refused refusals.NoTransaction) = s.levels ≡ []
 MayReply base committed h round by s commands.Save (replies.Refused refusals.DepthLimit) = most_levels ≤ length s.levels
-MayReply base committed h round by s commands.Write (replies.Wrote ids warn) = (s.levels ≢ []) × (IsTrue warn ↔ IsWarned base h by)
+MayReply base committed h round by s commands.Write (replies.Wrote warn ids) = (s.levels ≢ []) × (IsTrue warn ↔ IsWarned base h by)
 MayReply base committed h round by s commands.Write (replies.Refused refusals.NoTransaction) = s.levels ≡ []
 MayReply base committed h round by s commands.Write (replies.Refused (refusals.Stop next stop)) = (1 ≤ lacking s.levels) × IsStopped base h round by next stop
 MayReply base committed h round by s commands.Release replies.Done = 2 ≤ length s.levels

@@ -1,5 +1,6 @@
 //! What a command is answered.
-use tx_events::{Copied, FullMulti, FullXid, IdList, Memory, Mode, Refusal, Sequence, SnapData};
+use crate::shared_snap::SharedSnap;
+use tx_events::{Copied, FullMulti, FullXid, IdList, Memory, Mode, Refusal, Sequence};
 
 /// How a transaction stands.
 #[derive(Clone, Copy, Debug, PartialEq, Eq)]
@@ -42,14 +43,14 @@ pub type ByteList = Sequence<u8>;
 pub enum Reply {
     /// The plain `ok`.
     Done,
-    /// The ids given now, in order, and whether one came with a warning.
+    /// Whether an id came with a warning, and the ids given now, in order.
     Wrote {
-        ids: IdList,
         warn: bool,
+        ids: IdList,
     },
     /// What the snapshot holds.
     Snapped {
-        lists: SnapData,
+        lists: SharedSnap,
     },
     /// Whether the snapshot sees the id.
     Seen {
@@ -95,6 +96,8 @@ pub enum Reply {
         refusal: Refusal,
     },
 }
+
+const _: () = prove!(size_of::<Reply>() == 32);
 
 impl Copied for Reply {
     fn copy(&self) -> Result<Self, Memory> {

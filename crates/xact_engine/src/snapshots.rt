@@ -28,7 +28,8 @@ use engine_parts::{Caller, EngineLaw, Part, Passing, count, enter_proc, leave_lo
 use hall::{Hall, Note};
 use proc_table::ProcTable;
 use session_levels::{RegisteredSnapshot, forget, registered_as};
-use tx_events::{By, Memory, Name, Refusal, SnapData};
+use tx_events::{By, Memory, Name, Refusal};
+use tx_model::SharedSnap;
 
 /// A session registers at most so many snapshots.
 const MOST_SNAPS: usize = 64;
@@ -38,15 +39,16 @@ fn take_of(
     table: &mut ProcTable,
     by: By,
     name: &Name,
-) -> Result<(SnapData, RegisteredSnapshot), Memory>
+) -> Result<(SharedSnap, RegisteredSnapshot), Memory>
     requires session { by.session < table.old.sessions }
     requires turn { InTurn by table.old.events }
     requires free { is_live table.old.base.next by.session name.now table.old.events ≡ false }
     ensures { MatchResult result (λ r. IsTaken table.old table.new by name.now r.0 r.1) (λ _. table.new ≡ table.old) }
 {
     let lists = table.snapshot_data()?;
+    let snapshot = lists.clone()?;
     let place = table.events().len();
-    let snapshot = table.snapshot(by, name)?;
+    table.register(by, name, lists.xmin())?;
     Ok((
         lists,
         RegisteredSnapshot {
@@ -110,7 +112,7 @@ fn take<R: Passing, L: LogDisk, P: PageDisk>(
     hall: &Hall<EngineLaw<L, P>>,
     caller: &mut Caller<L, P>,
     name: &Name,
-) -> Result<SnapData, Refusal>
+) -> Result<SharedSnap, Refusal>
     requires own { IsOf hall.now caller.old.pass }
     requires laid { hall.now.cells ≡ 3 + 4 * (start_of hall.now).banks }
     requires may { MayCall (start_of hall.now) (view caller.old.pass) caller.old.number caller.old.session }
@@ -149,7 +151,7 @@ pub fn snap<R: Passing, L: LogDisk, P: PageDisk>(
     hall: &Hall<EngineLaw<L, P>>,
     caller: &mut Caller<L, P>,
     name: &Name,
-) -> Result<SnapData, Refusal>
+) -> Result<SharedSnap, Refusal>
     requires { MayRun hall.now (start_of hall.now).banks caller.old }
     ensures { Ran hall.now (next_command caller.old) (commands.Snap name.now) (reply_of replies.Snapped result)
         caller.old caller.new }

@@ -2,7 +2,8 @@
 ghost use Rattle.std.specs.Prelude.{◌≤◌};
 ghost use Rattle.xact_reads.specs.Glances.{HasLimits, IsGlance};
 
-use tx_events::{FullXid, Sight, SnapData, Xid, near, sight_of};
+use tx_events::{FullXid, Sight, Xid, near};
+use tx_model::SharedSnap;
 
 /// What a snapshot shows of an id before anything is read of it.
 #[derive(Clone, Copy)]
@@ -17,16 +18,16 @@ pub(crate) struct Glance {
 
 /// Looks for a stored id in a snapshot (the first part of `XidInMVCCSnapshot` in `src/backend/utils/time/snapmgr.c`).
 /// None where no full id is near the snapshot's xmax.
-pub(crate) fn glance_at(snapshot: &SnapData, x: Xid) -> Option<Glance>
+pub(crate) fn glance_at(snapshot: &SharedSnap, x: Xid) -> Option<Glance>
     requires normal { 3 ≤ x.number }
     requires limits { HasLimits snapshot.now }
     ensures { IsGlance snapshot.now x.number result }
 {
-    match near(snapshot.xmax, x) {
+    match near(snapshot.xmax(), x) {
         Some(id) => Some(Glance {
             id,
-            xmin: snapshot.xmin,
-            sight: sight_of(snapshot, id, true),
+            xmin: snapshot.xmin(),
+            sight: snapshot.sight_of(id, true),
         }),
         None => None,
     }

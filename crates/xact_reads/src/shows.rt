@@ -18,7 +18,7 @@ use disk_core::{LogDisk, PageDisk};
 use engine_parts::{Caller, EngineLaw, Passing};
 use hall::Hall;
 use session_levels::{Session as Levels, registered_as};
-use tx_events::{FullXid, Name, Refusal, Sight, sight_of_top};
+use tx_events::{FullXid, Name, Refusal, Sight};
 
 /// Whether the session's snapshot of this name shows a committed id of this topmost parent.
 fn shows_top(levels: &Levels, name: &Name, topmost: FullXid) -> bool
@@ -26,7 +26,7 @@ fn shows_top(levels: &Levels, name: &Name, topmost: FullXid) -> bool
         → result ≡ top_sight_by k.snapshot topmost }
 {
     match registered_as(levels, name) {
-        Some(registered) => sight_of_top(&registered.snapshot, topmost),
+        Some(registered) => registered.snapshot.shows_top(topmost),
         None => false,
     }
 }

@@ -60,7 +60,7 @@ later_beside by (e ∷ es) a = ((λ q. absurd (a.0 q)), later_beside by es a.1)
 warned_beside : (base : Counters) (by : By) (h rest : List Event) (warn : Bool) → AllByRecursion (λ e. (by_of e).session ≢ by.session) rest → IsTrue warn ↔ IsWarned base h by → IsTrue warn ↔ IsWarned base (h ++ rest) by
 warned_beside base by h rest warn beside w =
     let levels : List (Option ℕ) = None ∷ [] in
-    (may_reply_grows base [] h rest (alone h h) (alone h h) by (record { levels = levels; snaps = [] }) commands.Write (replies.Wrote [] warn) (omega arith) (omega arith) (omega arith) (later_beside by rest beside) ((λ q. cc), w)).1
+    (may_reply_grows base [] h rest (alone h h) (alone h h) by (record { levels = levels; snaps = [] }) commands.Write (replies.Wrote warn []) (omega arith) (omega arith) (omega arith) (later_beside by rest beside) ((λ q. cc), w)).1
 
 pub writing_none : (start : Start) (n : ℕ) (s : Session) (lists : List (List Entry)) → IsFresh lists n s.levels.commands → Writing start n s s [] false lists lists
 writing_none start n s lists fresh = record {
@@ -162,14 +162,14 @@ module _ (tells : Bool) (start : Start) (n : ℕ) (s s1 : Session) (ids : List �
   abbrev opened : List ℕ
   opened = open_ids n (history lists)
 
-  plain : (ids : List ℕ) (warn : Bool) → Adds by IsPlain lists more → Adds by (MayLeave commands.Write (stance_of s) s.stage opened (replies.Wrote ids warn)) lists more
-  plain ids warn = adds_wider by IsPlain _ lists more (plain_leaves commands.Write (stance_of s) s.stage opened (replies.Wrote ids warn))
+  plain : (ids : List ℕ) (warn : Bool) → Adds by IsPlain lists more → Adds by (MayLeave commands.Write (stance_of s) s.stage opened (replies.Wrote warn ids)) lists more
+  plain ids warn = adds_wider by IsPlain _ lists more (plain_leaves commands.Write (stance_of s) s.stage opened (replies.Wrote warn ids))
 
   met : (r : Refusal) → Adds by (MayMeet r) lists more → Adds by (MayLeave commands.Write (stance_of s) s.stage opened (replies.Refused r)) lists more
   met r = adds_wider by (MayMeet r) _ lists more (met_leaves commands.Write (stance_of s) s.stage opened r)
 
   -- each level has its id
-  pub acted_wrote : s1.levels.unnamed ≡ 0 → Adds by IsPlain lists more → Acted tells start by (stance_of s) (stance_of s1) s.stage commands.Write (replies.Wrote ids warn) lists more
+  pub acted_wrote : s1.levels.unnamed ≡ 0 → Adds by IsPlain lists more → Acted tells start by (stance_of s) (stance_of s1) s.stage commands.Write (replies.Wrote warn ids) lists more
   acted_wrote done adds = record {
     grows = k.went.on.grows;
     added = es;

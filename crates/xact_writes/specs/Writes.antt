@@ -26,7 +26,7 @@ use Rattle.xact_writes.specs.declared.writes.Wrote.{Wrote}
 
 -- the reply of a write that is done
 abbrev pub reply_to : Wrote → Reply
-reply_to wrote = replies.Wrote wrote.ids wrote.warn
+reply_to wrote = replies.Wrote wrote.warn wrote.ids
 
 -- why a level was given no id: memory was wanting, the stop limit was reached, or a fault was met
 abbrev pub IsWithout : Start → List (List Entry) → By → Refusal → Type 0

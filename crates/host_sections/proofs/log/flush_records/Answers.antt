@@ -25,8 +25,9 @@ use Rattle.engine_parts.specs.Parts.{IsLogOf}
 use Rattle.host_sections.specs.Asked.{LogMoments}
 use Rattle.host_sections.specs.HostEntries.{AddsFlush, flush_by, next_number}
 use Rattle.host_sections.proofs.Asking.{asks_with, asks_without, flush_moments}
-use Rattle.host_sections.proofs.Aloneness.{came_out, may_add, went_out}
+use Rattle.host_sections.proofs.Aloneness.{came_out}
 use Rattle.host_sections.proofs.LogSteps.{flush_fails, flushed_stands, log_untouched}
+use Rattle.host_sections.proofs.Noted.{noted_adds, noted_alone, noted_may, noted_own, noted_stands}
 use Rattle.host_sections.proofs.Refusals.{not_down, refused_down, same_err}
 use Rattle.host_sections.proofs.log.flush_records.Goals as goal
 
@@ -37,52 +38,35 @@ pub leave-requires-clause-cell : goal.leave-requires-clause-cell
 leave-requires-clause-cell g c = let cell = c.take_log-held.ensures.inside.cell in let laid = c.requires.alone.laid in omega (arith, cell, laid)
 
 pub leave-requires-clause-session : goal.leave-requires-clause-session
-leave-requires-clause-session g c =
-    let a = c.requires.alone in
-    ap session_of c.flush_note-flush.ensures ∙ (c.requires.turn.known ∙ (sym a.name ∙ sym c.take_log-held.ensures.inside.name))
+leave-requires-clause-session g c = noted_own c.args.hall.now log_lock c.args.pass.now c.take_log-held.new.pass c.requires.alone c.take_log-held.ensures.inside c.flush_note-flush.result.value (flush_by c.args.by c.next-next.result) c.flush_note-flush.ensures c.requires.turn
 
 pub leave-requires-clause-may : goal.leave-requires-clause-may
 leave-requires-clause-may g c =
     let start = start_of c.args.hall.now in
+    let old = (view c.args.pass.now).seen in
+    let s = subst (λ l. IsLogOf start l (at old log_lock)) (sym c.deref_mut-log.ensures.value) c.take_log-held.ensures.stands in
     let i = c.take_log-held.ensures.inside in
-    let seen = (view c.take_log-held.new.pass).seen in
-    let s = subst (λ l. IsLogOf start l (at (view c.args.pass.now).seen log_lock)) (sym c.deref_mut-log.ensures.value) c.take_log-held.ensures.stands in
-    let here = subst (λ z. IsLogOf start c.deref_mut-log.result.now (at z log_lock)) (sym i.seen) s in
-    let last = (flushes_rise start seen i.kept).within in
-    let same = length-map (records_of seen) (λ (r : By × Rec). r.1) in
+    let last = (flushes_rise start old (subst (EngineInvariant start) i.seen i.kept)).within in
+    let same = length-map (records_of old) (λ (r : By × Rec). r.1) in
     let next = c.next-next.ensures in
-    let is = here.next_is in
-    let up = here.up (not_down (log_down c.deref_mut-log.result.now) (λ n put. let refused = c.in-Ok.ensures.is_down n put in cc)) in
-    subst (λ z. MayKeep start seen z c.flush_note-flush.result.value) (sym i.cell)
-    (may_add start seen log_lock c.args.by (kinds.Flush c.next-next.result) c.flush_note-flush.result.value c.flush_note-flush.ensures
-    ((hosts_keep start seen c.args.by).flush c.next-next.result (omega (arith, last, same, next, is)) (omega (arith, same, next, is)) up)
-    c.requires.turn)
+    let is = s.next_is in
+    let up = s.up (not_down (log_down c.deref_mut-log.result.now) (λ n put. let refused = c.in-Ok.ensures.is_down n put in cc)) in
+    noted_may c.args.hall.now log_lock c.args.pass.now c.take_log-held.new.pass c.requires.alone c.take_log-held.ensures.inside c.flush_note-flush.result.value (flush_by c.args.by c.next-next.result) c.flush_note-flush.ensures c.requires.turn ((hosts_keep start old c.args.by).flush c.next-next.result (omega (arith, last, same, next, is)) (omega (arith, same, next, is)) up)
 
 pub leave-requires-clause-stands : goal.leave-requires-clause-stands
 leave-requires-clause-stands g c =
     let start = start_of c.args.hall.now in
-    let i = c.take_log-held.ensures.inside in
-    let seen = (view c.take_log-held.new.pass).seen in
-    let s = subst (λ l. IsLogOf start l (at (view c.args.pass.now).seen log_lock)) (sym c.deref_mut-log.ensures.value) c.take_log-held.ensures.stands in
-    let here = subst (λ z. IsLogOf start c.deref_mut-log.result.now (at z log_lock)) (sym i.seen) s in
+    let old = (view c.args.pass.now).seen in
     let o = c.deref_mut-log.result.now in
     let n = c.flush.new.self in
     let f = c.in-Ok.ensures in
+    let s = subst (λ l. IsLogOf start l (at old log_lock)) (sym c.deref_mut-log.ensures.value) c.take_log-held.ensures.stands in
     let up = not_down (log_down o) (λ m put. let refused = f.is_down m put in cc) in
-    subst (λ (z : ℕ). (z ≡ log_lock) × IsLogOf start n (at seen z ++ c.flush_note-flush.result.value ∷ [])) (sym i.cell) (
-      refl,
-      subst (λ (e : Entry). IsLogOf start n (at seen log_lock ++ e ∷ [])) (sym c.flush_note-flush.ensures)
-          (flushed_stands start o n (at seen log_lock) c.args.by here c.next-next.result c.next-next.ensures f.recs f.next f.counters f.ok (f.stays (λ q. cc)) up f.faults f.first f.checkpoint f.keeps f.begins_same),
-    )
+    noted_stands c.args.hall.now log_lock c.args.pass.now c.take_log-held.new.pass c.requires.alone c.take_log-held.ensures.inside c.flush_note-flush.result.value (flush_by c.args.by c.next-next.result) c.flush_note-flush.ensures (parts.Log (record c.take_log-held.result { value = n }))
+    (refl, flushed_stands start o n (at old log_lock) c.args.by s c.next-next.result c.next-next.ensures f.recs f.next f.counters f.ok (f.stays (λ q. cc)) up f.faults f.first f.checkpoint f.keeps f.begins_same)
 
 pub returns-in-Ok-clause-alone : goal.returns-in-Ok-clause-alone
-returns-in-Ok-clause-alone g c =
-    let a = c.requires.alone in
-    let i = c.take_log-held.ensures.inside in
-    let wide = a.own.wide in
-    let laid = a.laid in
-    (went_out c.args.hall.now log_lock c.args.pass.now c.take_log-held.new.pass c.leave.new.pass a i c.leave.ensures.own c.flush_note-flush.result.value
-    (subst (λ z. Leaves (start_of c.args.hall.now) z c.flush_note-flush.result.value (view c.take_log-held.new.pass) (view c.leave.new.pass)) i.cell c.leave.ensures.left)).alone
+returns-in-Ok-clause-alone g c = noted_alone c.args.hall.now log_lock c.args.pass.now c.take_log-held.new.pass c.requires.alone c.take_log-held.ensures.inside c.flush_note-flush.result.value (flush_by c.args.by c.next-next.result) c.flush_note-flush.ensures c.leave.new.pass c.leave.ensures.own c.leave.ensures.left
 
 pub returns-in-Ok-clause-holds : goal.returns-in-Ok-clause-holds
 returns-in-Ok-clause-holds g c = c.leave.ensures.left.holds ∙ c.take_log-held.ensures.inside.holds
@@ -90,11 +74,10 @@ returns-in-Ok-clause-holds g c = c.leave.ensures.left.holds ∙ c.take_log-held.
 pub returns-in-Ok-clause-adds : goal.returns-in-Ok-clause-adds
 returns-in-Ok-clause-adds g c =
     let start = start_of c.args.hall.now in
-    let i = c.take_log-held.ensures.inside in
     let old = (view c.args.pass.now).seen in
     let s = subst (λ l. IsLogOf start l (at old log_lock)) (sym c.deref_mut-log.ensures.value) c.take_log-held.ensures.stands in
     let next : c.next-next.result ≡ next_number start old = c.next-next.ensures ∙ s.next_is in
-    c.leave.ensures.left.seen ∙ ((λ j. add (i.seen j) (i.cell j) (c.flush_note-flush.ensures j)) ∙ ap (λ (n : ℕ). add old log_lock (flush_by c.args.by n)) next)
+    noted_adds c.args.hall.now log_lock c.args.pass.now c.take_log-held.new.pass c.requires.alone c.take_log-held.ensures.inside c.flush_note-flush.result.value (flush_by c.args.by c.next-next.result) c.flush_note-flush.ensures c.leave.new.pass c.leave.ensures.own c.leave.ensures.left ∙ ap (λ (n : ℕ). add old log_lock (flush_by c.args.by n)) next
 
 -- its volume failed
 pub leave-requires-in-LogFault-clause-inside : goal.leave-requires-in-LogFault-clause-inside
@@ -105,54 +88,39 @@ leave-requires-in-LogFault-clause-cell g c = let cell = c.take_log-held.ensures.
 
 pub leave-requires-in-LogFault-clause-session : goal.leave-requires-in-LogFault-clause-session
 leave-requires-in-LogFault-clause-session g c =
-    let a = c.requires.alone in
-    ap session_of c.flush_fault_note-fault.ensures ∙ (c.requires.turn.known ∙ (sym a.name ∙ sym c.take_log-held.ensures.inside.name))
+    let noted = c.flush_fault_note-fault.ensures ∙ ap (λ l. flush_fault_by c.args.by (g.L.LogDisk.faults (log_disk l))) c.deref.ensures in
+    noted_own c.args.hall.now log_lock c.args.pass.now c.take_log-held.new.pass c.requires.alone c.take_log-held.ensures.inside c.flush_fault_note-fault.result.value (flush_fault_by c.args.by (g.L.LogDisk.faults (log_disk c.flush.new.self))) noted c.requires.turn
 
 pub leave-requires-in-LogFault-clause-may : goal.leave-requires-in-LogFault-clause-may
 leave-requires-in-LogFault-clause-may g c =
     let start = start_of c.args.hall.now in
     let d = g.L.LogDisk in
-    let i = c.take_log-held.ensures.inside in
-    let seen = (view c.take_log-held.new.pass).seen in
-    let s = subst (λ l. IsLogOf start l (at (view c.args.pass.now).seen log_lock)) (sym c.deref_mut-log.ensures.value) c.take_log-held.ensures.stands in
-    let here = subst (λ z. IsLogOf start c.deref_mut-log.result.now (at z log_lock)) (sym i.seen) s in
+    let old = (view c.args.pass.now).seen in
     let o = c.deref_mut-log.result.now in
     let n = c.flush.new.self in
     let f = c.in-Err.ensures in
-    let noted = c.flush_fault_note-fault.ensures ∙ ap (λ l. flush_fault_by c.args.by (d.faults (log_disk l))) c.deref.ensures in
-    let up = here.up (not_down (log_down o) (λ m put. let refused = same_err (f.is_down m put) in let failed = c.in-LogFault.is in cc)) in
-    let risen = risen_past (faults_told start log_lock (at seen log_lock)) (d.faults (log_disk o)) (d.faults (log_disk n)) here.count (f.fault (ap Err c.in-LogFault.is)) in
-    subst (λ z. MayKeep start seen z c.flush_fault_note-fault.result.value) (sym i.cell)
-    (may_add start seen log_lock c.args.by (kinds.LogFault calls.Flush (d.faults (log_disk n))) c.flush_fault_note-fault.result.value noted
-    ((hosts_keep start seen c.args.by).log_fault calls.Flush (d.faults (log_disk n)) tt (λ q. up) risen)
-    c.requires.turn)
+    let s = subst (λ l. IsLogOf start l (at old log_lock)) (sym c.deref_mut-log.ensures.value) c.take_log-held.ensures.stands in
+    let noted = c.flush_fault_note-fault.ensures ∙ ap (λ l. flush_fault_by c.args.by (g.L.LogDisk.faults (log_disk l))) c.deref.ensures in
+    let up = s.up (not_down (log_down o) (λ m put. let refused = same_err (f.is_down m put) in let failed = c.in-LogFault.is in cc)) in
+    let risen = risen_past (faults_told start log_lock (at old log_lock)) (d.faults (log_disk o)) (d.faults (log_disk n)) s.count (f.fault (ap Err c.in-LogFault.is)) in
+    noted_may c.args.hall.now log_lock c.args.pass.now c.take_log-held.new.pass c.requires.alone c.take_log-held.ensures.inside c.flush_fault_note-fault.result.value (flush_fault_by c.args.by (g.L.LogDisk.faults (log_disk c.flush.new.self))) noted c.requires.turn ((hosts_keep start old c.args.by).log_fault calls.Flush (d.faults (log_disk n)) tt (λ q. up) risen)
 
 pub leave-requires-in-LogFault-clause-stands : goal.leave-requires-in-LogFault-clause-stands
 leave-requires-in-LogFault-clause-stands g c =
     let start = start_of c.args.hall.now in
-    let d = g.L.LogDisk in
-    let i = c.take_log-held.ensures.inside in
-    let seen = (view c.take_log-held.new.pass).seen in
-    let s = subst (λ l. IsLogOf start l (at (view c.args.pass.now).seen log_lock)) (sym c.deref_mut-log.ensures.value) c.take_log-held.ensures.stands in
-    let here = subst (λ z. IsLogOf start c.deref_mut-log.result.now (at z log_lock)) (sym i.seen) s in
+    let old = (view c.args.pass.now).seen in
     let o = c.deref_mut-log.result.now in
     let n = c.flush.new.self in
     let f = c.in-Err.ensures in
-    let noted = c.flush_fault_note-fault.ensures ∙ ap (λ l. flush_fault_by c.args.by (d.faults (log_disk l))) c.deref.ensures in
-    subst (λ (z : ℕ). (z ≡ log_lock) × IsLogOf start n (at seen z ++ c.flush_fault_note-fault.result.value ∷ [])) (sym i.cell) (
-      refl,
-      subst (λ (e : Entry). IsLogOf start n (at seen log_lock ++ e ∷ [])) (sym noted)
-          (flush_fails start o n (at seen log_lock) c.args.by here f.recs f.next f.counters f.err (f.put_down (ap Err c.in-LogFault.is)) f.first f.keeps f.begins_same),
-    )
+    let s = subst (λ l. IsLogOf start l (at old log_lock)) (sym c.deref_mut-log.ensures.value) c.take_log-held.ensures.stands in
+    let noted = c.flush_fault_note-fault.ensures ∙ ap (λ l. flush_fault_by c.args.by (g.L.LogDisk.faults (log_disk l))) c.deref.ensures in
+    noted_stands c.args.hall.now log_lock c.args.pass.now c.take_log-held.new.pass c.requires.alone c.take_log-held.ensures.inside c.flush_fault_note-fault.result.value (flush_fault_by c.args.by (g.L.LogDisk.faults (log_disk c.flush.new.self))) noted (parts.Log (record c.take_log-held.result { value = n }))
+    (refl, flush_fails start o n (at old log_lock) c.args.by s f.recs f.next f.counters f.err (f.put_down (ap Err c.in-LogFault.is)) f.first f.keeps f.begins_same)
 
 pub returns-in-LogFault-clause-alone : goal.returns-in-LogFault-clause-alone
 returns-in-LogFault-clause-alone g c =
-    let a = c.requires.alone in
-    let i = c.take_log-held.ensures.inside in
-    let wide = a.own.wide in
-    let laid = a.laid in
-    (went_out c.args.hall.now log_lock c.args.pass.now c.take_log-held.new.pass c.leave-in-LogFault.new.pass a i c.leave-in-LogFault.ensures.own c.flush_fault_note-fault.result.value
-    (subst (λ z. Leaves (start_of c.args.hall.now) z c.flush_fault_note-fault.result.value (view c.take_log-held.new.pass) (view c.leave-in-LogFault.new.pass)) i.cell c.leave-in-LogFault.ensures.left)).alone
+    let noted = c.flush_fault_note-fault.ensures ∙ ap (λ l. flush_fault_by c.args.by (g.L.LogDisk.faults (log_disk l))) c.deref.ensures in
+    noted_alone c.args.hall.now log_lock c.args.pass.now c.take_log-held.new.pass c.requires.alone c.take_log-held.ensures.inside c.flush_fault_note-fault.result.value (flush_fault_by c.args.by (g.L.LogDisk.faults (log_disk c.flush.new.self))) noted c.leave-in-LogFault.new.pass c.leave-in-LogFault.ensures.own c.leave-in-LogFault.ensures.left
 
 pub returns-in-LogFault-clause-holds : goal.returns-in-LogFault-clause-holds
 returns-in-LogFault-clause-holds g c = c.leave-in-LogFault.ensures.left.holds ∙ c.take_log-held.ensures.inside.holds
@@ -161,7 +129,6 @@ pub returns-in-LogFault-clause-adds : goal.returns-in-LogFault-clause-adds
 returns-in-LogFault-clause-adds g c =
     let start = start_of c.args.hall.now in
     let d = g.L.LogDisk in
-    let i = c.take_log-held.ensures.inside in
     let old = (view c.args.pass.now).seen in
     let s = subst (λ l. IsLogOf start l (at old log_lock)) (sym c.deref_mut-log.ensures.value) c.take_log-held.ensures.stands in
     let o = c.deref_mut-log.result.now in
@@ -170,7 +137,7 @@ returns-in-LogFault-clause-adds g c =
     record {
       count = d.faults (log_disk n);
       risen = risen_past (faults_told start log_lock (at old log_lock)) (d.faults (log_disk o)) (d.faults (log_disk n)) s.count (c.in-Err.ensures.fault (ap Err c.in-LogFault.is));
-      adds = c.leave-in-LogFault.ensures.left.seen ∙ (λ j. add (i.seen j) (i.cell j) (noted j));
+      adds = noted_adds c.args.hall.now log_lock c.args.pass.now c.take_log-held.new.pass c.requires.alone c.take_log-held.ensures.inside c.flush_fault_note-fault.result.value (flush_fault_by c.args.by (g.L.LogDisk.faults (log_disk c.flush.new.self))) noted c.leave-in-LogFault.new.pass c.leave-in-LogFault.ensures.own c.leave-in-LogFault.ensures.left;
     }
 
 -- the log was down
@@ -227,7 +194,6 @@ pub returns-in-Ok-clause-asks : goal.returns-in-Ok-clause-asks
 returns-in-Ok-clause-asks g c =
     let start = start_of c.args.hall.now in
     let d = g.L.LogDisk in
-    let i = c.take_log-held.ensures.inside in
     let old = (view c.args.pass.now).seen in
     let held = c.take_log-held.result in
     let o = c.deref_mut-log.result.now in
@@ -240,13 +206,12 @@ returns-in-Ok-clause-asks g c =
     (refl, c.take_log-held.ensures.stands) (subst (λ z. LogMoments z n) c.deref_mut-log.ensures.value (flush_moments o n f.first f.keeps_at_each_moment))
     (flush_by c.args.by c.next-next.result)
     (refl, flushed_stands start o n (at old log_lock) c.args.by s c.next-next.result c.next-next.ensures f.recs f.next f.counters f.ok (f.stays (λ q. cc)) up f.faults f.first f.checkpoint f.keeps f.begins_same)
-    (c.leave.ensures.left.seen ∙ (λ j. add (i.seen j) (i.cell j) (c.flush_note-flush.ensures j)))
+    (noted_adds c.args.hall.now log_lock c.args.pass.now c.take_log-held.new.pass c.requires.alone c.take_log-held.ensures.inside c.flush_note-flush.result.value (flush_by c.args.by c.next-next.result) c.flush_note-flush.ensures c.leave.new.pass c.leave.ensures.own c.leave.ensures.left)
 
 pub returns-in-LogFault-clause-asks : goal.returns-in-LogFault-clause-asks
 returns-in-LogFault-clause-asks g c =
     let start = start_of c.args.hall.now in
     let d = g.L.LogDisk in
-    let i = c.take_log-held.ensures.inside in
     let old = (view c.args.pass.now).seen in
     let held = c.take_log-held.result in
     let o = c.deref_mut-log.result.now in
@@ -259,7 +224,7 @@ returns-in-LogFault-clause-asks g c =
     (refl, c.take_log-held.ensures.stands) (subst (λ z. LogMoments z n) c.deref_mut-log.ensures.value (flush_moments o n f.first f.keeps_at_each_moment))
     (flush_fault_by c.args.by (d.faults (log_disk n)))
     (refl, flush_fails start o n (at old log_lock) c.args.by s f.recs f.next f.counters f.err (f.put_down (ap Err c.in-LogFault.is)) f.first f.keeps f.begins_same)
-    (c.leave-in-LogFault.ensures.left.seen ∙ (λ j. add (i.seen j) (i.cell j) (noted j)))
+    (noted_adds c.args.hall.now log_lock c.args.pass.now c.take_log-held.new.pass c.requires.alone c.take_log-held.ensures.inside c.flush_fault_note-fault.result.value (flush_fault_by c.args.by (g.L.LogDisk.faults (log_disk c.flush.new.self))) noted c.leave-in-LogFault.new.pass c.leave-in-LogFault.ensures.own c.leave-in-LogFault.ensures.left)
 
 pub returns-in_default-clause-asks : goal.returns-in_default-clause-asks
 returns-in_default-clause-asks g c =

@@ -159,8 +159,8 @@ returns-clause-ran g c =
     let s = old.session in
     let l = c.loop-caller in
     let i = l.invariant in
-    subst (λ (z : List ℕ). Ran c.args.hall.now s.levels.commands commands.Write (replies.Wrote z l.warn) old l.caller) (sym c.of.ensures)
-    (ran_write c.args.hall.now old l.caller (replies.Wrote l.ids.items l.warn) i.0.own i.0.may i.1.stage i.1.making i.1.count i.2.0 (not_refused c.args.caller.now.session c.requires.clear c.requires.some)
+    subst (λ (z : List ℕ). Ran c.args.hall.now s.levels.commands commands.Write (replies.Wrote l.warn z) old l.caller) (sym c.of.ensures)
+    (ran_write c.args.hall.now old l.caller (replies.Wrote l.warn l.ids.items) i.0.own i.0.may i.1.stage i.1.making i.1.count i.2.0 (not_refused c.args.caller.now.session c.requires.clear c.requires.some)
     (acted_wrote g.P.PageDisk.tells start old.number s l.caller.session l.ids.items l.warn (view old.pass).seen (view l.caller.pass).seen i.1 c.requires.clear c.requires.some (let f = c.loop-caller-test.false in omega arith) i.4))
 
 pub returns-clause-linked : goal.returns-clause-linked

@@ -5,5 +5,5 @@ use Rattle.script_rounds.proofs.steps.Steps.take.Given as goal
 abbrev pub invariant-loop-text : goal.invariant-loop-text
 invariant-loop-text l = record {
   last : l.self-inside.last ≡ l.initial.self-inside.last;
-  front : flat_map (λ text. text) l.self-inside.front.items ++ flat_map (λ text. text) l.text-iterator.rest.items ++ l.self-inside.last ≡ l.fn.self ++ l.fn.other;
+  front : flat_map (λ text. text) l.self-inside.front.items ≡ l.fn.self ++ flat_map (λ text. text) l.yielded;
 }

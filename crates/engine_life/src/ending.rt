@@ -12,7 +12,7 @@ use disk_core::{LogDisk, PageDisk, Volumes};
 use std::alloc::Global;
 use std::thread::Threads;
 use text_pieces::Pieces;
-use tx_events::{Event, MultiEvent};
+use tx_events::{EventList, MultiEvent};
 use tx_model::{How, Memory, NameList};
 use wal_core::WalLog;
 
@@ -51,17 +51,19 @@ fn log_end<R: Threads + Sync, L: LogDisk>(
     Ok(out)
 }
 
+// The events go before those of multixacts are printed.
 fn put_histories<R: Threads + Sync>(
     rt: &R,
     out: &mut Pieces,
     names: &NameList,
-    events: &[Event],
+    events: EventList,
     multis: &[MultiEvent],
     threads: usize,
 ) -> Result<(), Memory>
-    ensures ok { OnOk result (out.new ≡ out.old ++ (history_text names.now events.now ++ multis_text names.now multis.now)) }
+    ensures ok { OnOk result (out.new ≡ out.old ++ (history_text names.now events ++ multis_text names.now multis.now)) }
 {
-    out.put_history(rt, names, events, threads)?;
+    out.put_history(rt, names, events.items(), threads)?;
+    drop(events);
     out.put_multis(rt, names, multis, threads)
 }
 
@@ -93,14 +95,7 @@ pub fn end_life<R: Threads + Sync, L: LogDisk + Drop, P: PageDisk + Drop>(
         return (volumes, Err(Memory));
     };
     let mut histories = Pieces::new(alloc);
-    match put_histories(
-        rt,
-        &mut histories,
-        names,
-        history.items(),
-        multis.events(),
-        threads,
-    ) {
+    match put_histories(rt, &mut histories, names, history, multis.events(), threads) {
         Ok(()) => (volumes, Ok(EndText { histories, log })),
         Err(Memory) => (volumes, Err(Memory)),
     }

@@ -1,27 +1,34 @@
 //! The text of a life's steps.
-ghost use Rattle.std.specs.Prelude.{◌≡◌, ℕ, IfSome, OnErr, OnOk, take};
+ghost use Rattle.std.specs.Prelude.{◌≡◌, ℕ, ◌++◌, IfSome, OnErr, OnOk, take};
+ghost use Rattle.std.specs.List.{flat_map};
 ghost use Rattle.std.specs.Io.KnownBytes.{Appends};
 ghost use Rattle.tx_io.specs.Causes.{HasCause};
 
 use crate::LineKeeper;
-use crate::woven::Woven;
+use crate::woven::{Finished, Woven};
 use std::alloc::Global;
 use std::marker::Model;
+use std::mem;
 use tx_io::{Failed, Sink};
 use tx_model::{By, Command, Memory, NameList, Reply, Step};
 
 /// The text of steps. A snapshot's line shares its long end with the ones before that had the same.
 #[derive(Drop)]
 pub struct Steps {
-    text: Woven,
+    alloc: Global,
+    /// What stands before the last text: where long texts were joined, these were moved.
+    front: Vec<Finished>,
+    /// What grows.
+    last: Woven,
 }
 
 impl Model for Steps {
-    ghost use Rattle.std.specs.Prelude.{ℕ, List};
+    ghost use Rattle.std.specs.Prelude.{ℕ, List, ◌++◌};
+    ghost use Rattle.std.specs.List.{flat_map};
 
     ghost Value = { List ℕ };
 
-    ghost view = { λ s. s.text };
+    ghost view = { λ s. flat_map (λ text. text) s.front.items ++ s.last };
 }
 
 impl LineKeeper for Steps {
@@ -49,12 +56,14 @@ impl LineKeeper for Steps {
 
     fn none(alloc: Global) -> Steps {
         Steps {
-            text: Woven::new(alloc),
+            alloc,
+            front: Vec::new(alloc),
+            last: Woven::new(alloc),
         }
     }
 
     fn add_round(&mut self, number: u64) -> Result<(), Memory> {
-        self.text.add_round(number)
+        self.last.add_round(number)
     }
 
     #[inline(always)]
@@ -66,26 +75,59 @@ impl LineKeeper for Steps {
         reply: &Reply,
     ) -> Result<(), Memory> {
         match reply {
-            Reply::Snapped { .. } => self.text.add_again(names, by, command, reply),
-            _ => self.text.add_line(names, by, command, reply),
+            Reply::Snapped { .. } => self.last.add_again(names, by, command, reply),
+            _ => self.last.add_line(names, by, command, reply),
         }
     }
 
     fn add_step(&mut self, names: &NameList, step: &Step) -> Result<(), Memory> {
-        self.text.add_step(names, step)
+        self.last.add_step(names, step)
     }
 
-    fn join(&mut self, other: &Steps) -> Result<(), Memory> {
-        self.text.join(&other.text)
+    fn join(&mut self, other: &mut Steps) -> Result<(), Memory> {
+        if other.front.is_empty() && other.last.is_short() {
+            return self.last.join(&other.last);
+        }
+        self.take(other)
     }
 }
 
+/// Writes texts, one behind another, or a front of that.
+fn write_each<K: Sink>(alloc: Global, sink: &mut K, texts: &[Finished]) -> Result<(), Failed>
+    ensures ok { OnOk result (Appends (K.held sink.old) (K.held sink.new) (flat_map (λ text. text) texts.now)) }
+    ensures front { OnErr result ((n : ℕ)
+        × Appends (K.held sink.old) (K.held sink.new) (take n (flat_map (λ text. text) texts.now))) }
+    ensures cause { HasCause (K.faults sink.old) (K.faults sink.new) result }
+{
+    for text in texts {
+        text.write(alloc, sink)?;
+    }
+    Ok(())
+}
+
 impl Steps {
+    // Takes what the other has. No text is copied.
+    fn take(&mut self, other: &mut Steps) -> Result<(), Memory>
+        ensures { OnOk result (self.new ≡ self.old ++ other.old) }
+    {
+        let front = mem::replace(&mut other.front, Vec::new(self.alloc));
+        let last = mem::replace(&mut other.last, Woven::new(self.alloc));
+        let before = mem::replace(&mut self.last, last);
+        self.front.push(before.finish())?;
+        for text in front {
+            self.front.push(text)?;
+        }
+        Ok(())
+    }
+
     /// The text, where it stands in one piece.
     pub fn plain(&self) -> Option<&[u8]>
         ensures { IfSome result (λ text. text.now ≡ self.now) }
     {
-        self.text.plain()
+        if !self.front.is_empty() {
+            return None;
+        }
+        self.last.plain()
     }
 
     /// Writes the text, or a front of it.
@@ -94,6 +136,7 @@ impl Steps {
         ensures front { OnErr result ((n : ℕ) × Appends (K.held sink.old) (K.held sink.new) (take n self.now)) }
         ensures cause { HasCause (K.faults sink.old) (K.faults sink.new) result }
     {
-        self.text.write(sink)
+        write_each(self.alloc, sink, self.front.as_slice())?;
+        self.last.write(sink)
     }
 }

@@ -104,7 +104,7 @@ impl LineKeeper for Tally {
         Ok(())
     }
 
-    fn join(&mut self, other: &Tally) -> Result<(), Memory> {
+    fn join(&mut self, other: &mut Tally) -> Result<(), Memory> {
         self.lines.add_all(&other.lines);
         self.commands = self.commands.saturating_add(other.commands);
         self.verdicts = self.verdicts.saturating_add(other.verdicts);

@@ -16,6 +16,9 @@ use tx_model::{By, Command, Memory, NameList, Reply, Step};
 // A shared piece's place takes 16 bytes, so a shorter end isn't worth one.
 const LONG: usize = 64;
 
+// So many own bytes are copied when a text is joined to another one: a text of its own takes some hundred bytes more.
+const SHORT: usize = 4_096;
+
 /// A piece that others may share.
 type Piece = Arc<Vec<u8>>;
 
@@ -99,6 +102,28 @@ fn cut_end(alloc: Global, own: &mut Text, last: &mut Option<Piece>, start: usize
         }
         None => None,
     }
+}
+
+/// Writes own bytes with their shared pieces, or a front of that. The memory that it takes it can do without.
+fn write_woven<K: Sink>(
+    alloc: Global,
+    sink: &mut K,
+    own: &[u8],
+    shared: &[Shared],
+) -> Result<(), Failed>
+    requires { own_before shared.now ≤ length own.now }
+    ensures ok { OnOk result (Appends (K.held sink.old) (K.held sink.new) (woven shared.now own.now)) }
+    ensures front { OnErr result ((n : ℕ) × Appends (K.held sink.old) (K.held sink.new) (take n (woven shared.now own.now))) }
+    ensures cause { HasCause (K.faults sink.old) (K.faults sink.new) result }
+{
+    let mut kept = Vec::new(alloc);
+    let mut rest = own;
+    for piece in shared {
+        let (before, behind) = rest.split_at(piece.behind);
+        hand_both(sink, &mut kept, before, piece.bytes.as_slice())?;
+        rest = behind;
+    }
+    pass(sink, &mut kept, rest)
 }
 
 /// Takes a whole text off. Its room stays. Where memory was wanting, nothing is known of the own bytes, among which the
@@ -257,13 +282,57 @@ impl Woven {
         ensures front { OnErr result ((n : ℕ) × Appends (K.held sink.old) (K.held sink.new) (take n self.now)) }
         ensures cause { HasCause (K.faults sink.old) (K.faults sink.new) result }
     {
-        let mut kept = Vec::new(self.alloc);
-        let mut rest = self.own.bytes();
-        for shared in self.shared.as_slice() {
-            let (own, behind) = rest.split_at(shared.behind);
-            hand_both(sink, &mut kept, own, shared.bytes.as_slice())?;
-            rest = behind;
+        write_woven(self.alloc, sink, self.own.bytes(), self.shared.as_slice())
+    }
+
+    /// The same text, which grows no more.
+    pub fn finish(self) -> Finished
+        ensures { result ≡ self }
+    {
+        let Woven {
+            alloc: _,
+            own,
+            shared,
+            before: _,
+            last: _,
+        } = self;
+        Finished {
+            own: own.into_bytes(),
+            shared,
         }
-        pass(sink, &mut kept, rest)
+    }
+
+    /// Whether it has few bytes of its own.
+    pub fn is_short(&self) -> bool {
+        self.own.bytes().len() <= SHORT
+    }
+}
+
+/// A text of own bytes with shared pieces between them that grows no more. A contract sees the text.
+#[derive(Drop)]
+pub struct Finished {
+    own: Vec<u8>,
+    shared: Vec<Shared>,
+}
+
+impl Model for Finished {
+    ghost use Rattle.std.specs.Prelude.{◌≤◌, ℕ, List, length};
+    ghost use Rattle.script_rounds.specs.Woven.{own_before, woven};
+
+    ghost Value = { List ℕ };
+
+    ghost view = { λ f. woven f.shared.items f.own.items };
+
+    ghost invariant = { λ f. own_before f.shared.items ≤ length f.own.items };
+}
+
+impl Finished {
+    /// Writes the text, or a front of it. The memory that it takes it can do without.
+    pub fn write<K: Sink>(&self, alloc: Global, sink: &mut K) -> Result<(), Failed>
+        ensures ok { OnOk result (Appends (K.held sink.old) (K.held sink.new) self.now) }
+        ensures front { OnErr result ((n : ℕ) × Appends (K.held sink.old) (K.held sink.new) (take n self.now)) }
+        ensures cause { HasCause (K.faults sink.old) (K.faults sink.new) result }
+    {
+        write_woven(alloc, sink, self.own.as_slice(), self.shared.as_slice())
     }
 }

@@ -152,8 +152,8 @@ fn let_lines_go<K: LineKeeper + Drop, L: LogDisk, P: PageDisk>(
     member.kept = K::none(alloc);
 }
 
-/// Keeps what the members kept, one member behind another. Each lets it go as soon as it is kept here, so that no more than
-/// one member's lines are held twice.
+/// Keeps what the members kept, one member behind another. A long text is moved. What isn't is let go as soon as it is
+/// kept here, so that no more than one member's lines are held twice.
 fn join_members<K: LineKeeper + Drop, L: LogDisk, P: PageDisk>(
     alloc: Global,
     members: &mut Vec<Member<K, L, P>>,
@@ -167,7 +167,7 @@ fn join_members<K: LineKeeper + Drop, L: LogDisk, P: PageDisk>(
         if member.lost {
             return Err(Memory);
         }
-        kept.join(&member.kept)?;
+        kept.join(&mut member.kept)?;
         let_lines_go(alloc, member);
     }
     Ok(())

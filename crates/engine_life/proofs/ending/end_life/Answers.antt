@@ -18,7 +18,7 @@ returns-in-Ok-put_histories-clause-text g c = λ base committed recorded.
     let told = life_told (number_of closed) base committed recorded closed.events closed.multis.value.events closed.log in
     let rest : out ≡ histories =
     subst (λ (x : List ℕ × List Event × List MultiEvent). out ≡ x.0 ++ (history_text names x.1 ++ multis_text names x.2))
-    (λ j. (c.new-histories.ensures j, (c.items.ensures ∙ taken.events) j, (c.events.ensures.value ∙ (ap (λ m. m.events) c.deref.ensures ∙ ap (λ m. m.value.events) taken.multis)) j)) c.in-Ok-put_histories.ensures.ok in
+    (λ j. (c.new-histories.ensures j, taken.events j, (c.events.ensures.value ∙ (ap (λ m. m.events) c.deref.ensures ∙ ap (λ m. m.value.events) taken.multis)) j)) c.in-Ok-put_histories.ensures.ok in
     let ends : log ≡ log_text told ++ crash_text crash =
     subst (λ n. log ≡ log_text (life_told n base committed recorded closed.events closed.multis.value.events closed.log) ++ crash_text crash) c.number.ensures
     ((rw c.in-Ok.is at c.log_end-log.ensures) base committed recorded closed.events closed.multis.value.events) in

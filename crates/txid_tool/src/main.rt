@@ -3,6 +3,8 @@
 //! folder. `txid_tool check`: reads a report, and writes whether it is lawful. See `docs/SCRIPT-AND-REPORT.md`.
 #![tactic(auto)]
 
+ghost use Rattle.std.specs.Prelude.{◌≡◌, ◌↔◌, ◌∷◌, ℕ, List, [], IfNone, IfSome, IsTrue, codes, map, string_bytes};
+
 use disk_core::MemMedia;
 use disk_folder::FolderMedia;
 use engine_parts::OpenGate;
@@ -34,7 +36,13 @@ fn words(rt: &HostRuntime) -> io::Result<Vec<String>> {
 }
 
 /// The folder that the first two words name, which are taken away. Other words stay.
-fn take_folder(words: &mut Vec<String>) -> Option<String> {
+fn take_folder(words: &mut Vec<String>) -> Option<String>
+    ensures named { IfSome result (λ folder. map string_bytes words.old.items
+        ≡ codes "--folder" ∷ string_bytes folder ∷ map string_bytes words.new.items) }
+    ensures unnamed { IfNone result ((folder : List ℕ) (others : List (List ℕ))
+        → map string_bytes words.old.items ≡ codes "--folder" ∷ folder ∷ others → ⊥) }
+    ensures stay { IfNone result (words.new ≡ words.old) }
+{
     if words.len() < 2 || words[0].as_str() != "--folder" {
         return None;
     }
@@ -42,10 +50,19 @@ fn take_folder(words: &mut Vec<String>) -> Option<String> {
     Some(words.remove(0))
 }
 
+/// Whether the word is `check`.
+fn is_check_word(word: &String) -> bool
+    ensures { IsTrue result ↔ (string_bytes word.now ≡ codes "check") }
+{
+    word.as_str() == "check"
+}
+
 /// Whether the words ask for a report's judgement.
-fn is_check(words: &[String]) -> bool {
+fn is_check(words: &[String]) -> bool
+    ensures { IsTrue result ↔ (map string_bytes words.now ≡ codes "check" ∷ []) }
+{
     match words {
-        [word] => word.as_str() == "check",
+        [word] => is_check_word(word),
         _ => false,
     }
 }

@@ -74,7 +74,6 @@ pub struct EndText {
 
 /// The text of a closed life behind its steps, with the crash that ends it, if one does: each long list of it on so many
 /// threads. The log is printed first, and its records go before the histories are printed. Gives the volumes back.
-#[inline(always)]
 pub fn end_life<R: Threads + Sync, L: LogDisk + Drop, P: PageDisk + Drop>(
     rt: &R,
     alloc: Global,

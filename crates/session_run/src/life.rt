@@ -38,7 +38,6 @@ fn pages_read_an_image<P: PageDisk>()
 
 /// Runs a part of a script in a life that is open, closes the life, and keeps its lines: its rounds one after another, the
 /// sessions of a round on such threads, and the dumps and checkpoints between them.
-#[inline(always)]
 pub fn run_life<
     K: LineKeeper + Send + Drop,
     L: LogDisk + Send + Sync + Drop,

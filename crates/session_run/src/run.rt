@@ -89,7 +89,6 @@ struct Lived<L: LogDisk, P> {
 }
 
 /// Runs a part of a script in a life that is open, and closes it.
-#[inline(always)]
 fn run_part<L: LogDisk + Send + Sync + Drop, P: PageDisk + Send + Sync + Drop>(
     rt: &(impl Threads + Wait + Sync),
     alloc: Global,

@@ -66,6 +66,7 @@ pub(crate) fn bank_volumes<L: LogDisk + Drop, P: PageDisk + Drop>(
 
 /// Takes the parts apart that lie behind an engine's locks, in the order of these. What isn't on the volumes yet is lost.
 /// The vectors of volumes are empty, and have room for as many as there are locks.
+#[inline(always)]
 pub fn take_apart<L: LogDisk + Drop, P: PageDisk + Drop>(
     rooms: &mut LifeRooms<P>,
     locks: Vec<Part<L, P>>,

@@ -60,6 +60,7 @@ pub(crate) fn with_log<L, P>(log: L, volumes: BankVolumes<P>) -> Volumes<L, P>
 }
 
 // Makes the lock table over parts that were made.
+#[inline(always)]
 pub(crate) fn begin_life<L: LogDisk + Drop, P: PageDisk + Drop>(
     alloc: Global,
     rooms: &mut LifeRooms<P>,

@@ -35,6 +35,7 @@ pub struct ClosedLife<L: LogDisk, P> {
 /// which are all that was done, and of which the engine invariant holds; so is the history of its multixacts. Each bank has
 /// its four volumes. Each of these has counted at least the faults that its list tells, and a crash would leave of each of
 /// pg_xact, of the offsets and of the members what its list allows. Takes no memory.
+#[inline(always)]
 pub fn close_life<L: LogDisk + Drop, P: PageDisk + Drop>(
     life: OpenLife<L, P>,
     rooms: &mut LifeRooms<P>,

@@ -48,6 +48,7 @@ fn front_of(alloc: Global, number: u64, from: u64, base: &Counters) -> Result<Te
 
 /// The text of the life of this number, of which these are the texts of its steps, of its histories and of its log: with its
 /// front, and behind the last life the report's end.
+#[inline(always)]
 pub fn whole_text(
     alloc: Global,
     number: u64,
@@ -177,6 +178,7 @@ fn joined(alloc: Global, text: &LifeText) -> Option<Text>
 
 /// Writes the text of a life, or a front of it. The sink gets a short one in one piece. The memory that this takes it can do
 /// without.
+#[inline(always)]
 pub fn put_life<K: Sink>(alloc: Global, sink: &mut K, text: &LifeText) -> Result<(), Failed>
     ensures ok { OnOk result (Appends (K.held sink.old) (K.held sink.new) (text.now.front
         ++ (text.now.steps ++ (text.now.histories ++ text.now.log)))) }

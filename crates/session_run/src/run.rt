@@ -128,6 +128,7 @@ fn run_part<L: LogDisk + Send + Sync + Drop, P: PageDisk + Send + Sync + Drop>(
 
 /// Writes the text of a part that was run in the life of this number, and the crash that ends it. Gives the volumes back,
 /// and a note of the log that they fit.
+#[inline(always)]
 fn tell_part<R: Threads + Sync, K: Sink, L: LogDisk + Drop, P: PageDisk + Drop>(
     rt: &R,
     alloc: Global,

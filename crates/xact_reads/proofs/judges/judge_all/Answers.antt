@@ -1,4 +1,4 @@
-use Rattle.std.proofs.Common.{List, [], arith, subst, sym, take, take_all, ◌∙◌}
+use Rattle.std.proofs.Common.{◌≤◌, List, [], arith, subst, sym, take, take_all, ◌∙◌}
 use Rattle.std.specs.List.{AllByRecursion, filter_map}
 use Rattle.hall.specs.Calls.{view, start_of}
 use Rattle.bank_stores.specs.declared.slot.Slot.{Slot}
@@ -10,7 +10,7 @@ use Rattle.engine_parts.proofs.Adding.{adds_wider, plain_meets}
 use Rattle.engine_parts.proofs.Answering.{few_before}
 use Rattle.engine_parts.specs.declared.session.Session.{Session}
 use Rattle.xact_reads.specs.Glances.{IsNamed}
-use Rattle.xact_reads.specs.Multis.{AreJudged, pair_in}
+use Rattle.xact_reads.specs.Multis.{AreJudged, IsCarried, pair_in}
 use Rattle.xact_reads.proofs.Going.{read_adds, went_both}
 use Rattle.xact_reads.proofs.Judging.{all_later, carried_later}
 use Rattle.xact_reads.proofs.Replying.{named_at}
@@ -22,15 +22,15 @@ pub loop-place-init : goal.loop-place-init
 loop-place-init g c =
     let start = start_of c.args.hall.now in
     let old = c.args.caller.now in
-    let u = c.read_oldest_word-oldest.new.caller in
-    let e = c.read_oldest_word-oldest.ensures in
+    let u = c.read_oldest_word.new.caller in
+    let e = c.read_oldest_word.ensures in
     record {
       own = e.own;
       ready = e.ready;
       went = e.went;
       same = e.same;
-      oldest = word_carried start (view old.pass).seen (view u.pass).seen c.read_oldest_word-oldest.result e.shown;
-      from = word_from start (view old.pass).seen (view u.pass).seen c.read_oldest_word-oldest.result e.ready.at.kept e.shown;
+      oldest = subst (IsCarried start (view u.pass).seen) (sym c.number-oldest.ensures.value) (word_carried start (view old.pass).seen (view u.pass).seen c.read_oldest_word.result e.shown);
+      from = subst (λ n. start.base.oldest ≤ n) (sym c.number-oldest.ensures.value) (word_from start (view old.pass).seen (view u.pass).seen c.read_oldest_word.result e.ready.at.kept e.shown);
       within = omega arith;
       room = c.requires.room;
       said = λ told few fits k named. subst (λ (xs : List MemberVerdict). AreJudged start (view u.pass).seen k [] xs) (sym c.requires.none) tt;

@@ -1,6 +1,6 @@
 -- Which media may be handed to a run.
 use Rattle.std.specs.Global.{Box}
-use Rattle.std.proofs.Common.{IsTrue, List, None, [], ap, false, length, refl, subst, sym, true, ℕ, ◌∙◌, ◌≡◌}
+use Rattle.std.proofs.Common.{IsTrue, List, None, [], ap, false, length, subst, sym, true, ℕ, ◌∙◌, ◌≡◌}
 use Rattle.std.proofs.lemmas.Bool.{false≢true}
 use Rattle.std.specs.Prelude.{IsSome, Option}
 use Rattle.disk_core.specs.declared.log_disk.LogDisk as logs

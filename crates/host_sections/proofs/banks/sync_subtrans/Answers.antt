@@ -1,4 +1,4 @@
-use Rattle.std.proofs.Common.{Err, None, ◌≡◌, ◌+◌, ℕ, arith, ap, ◌∙◌, inl, subst, sym, refl, ◌∷◌, []}
+use Rattle.std.proofs.Common.{Err, arith, ap, ◌∙◌, inl, subst, sym, refl, ◌∷◌, []}
 use Rattle.hall.specs.Calls.{start_of, view}
 use Rattle.hall.specs.declared.view.Stage.TheVariants.{Inside}
 use Rattle.notes.specs.Lists.{at}

@@ -1,15 +1,13 @@
-use Rattle.std.proofs.Common.{Err, ◌≡◌, ◌+◌, ℕ, arith, ap, ◌∙◌, subst, sym, refl, ◌++◌, ◌∷◌, []}
+use Rattle.std.proofs.Common.{Err, ◌≡◌, ℕ, arith, ap, ◌∙◌, subst, sym, refl}
 use Rattle.std.proofs.lemmas.List.{length-map}
 use Rattle.hall.specs.Calls.{start_of, view}
 use Rattle.hall.specs.declared.view.Stage.TheVariants.{Inside}
 use Rattle.notes.specs.Lists.{add, at}
 use Rattle.tx_events.specs.declared.event.By.{By}
 use Rattle.tx_events.specs.declared.record.Rec.{Rec}
-use Rattle.tx_core.specs.declared.entry.Entry.{Entry}
-use Rattle.tx_core.specs.declared.entry.Kind.TheVariants as kinds
 use Rattle.tx_core.specs.declared.entry.LogCall.TheVariants as calls
 use Rattle.tx_core.specs.EngineInvariant.{EngineInvariant}
-use Rattle.tx_core.specs.Entries.{records_of, session_of}
+use Rattle.tx_core.specs.Entries.{records_of}
 use Rattle.tx_core.specs.FaultsRise.{faults_told}
 use Rattle.tx_core.specs.Locks.{log_lock}
 use Rattle.tx_core.proofs.FaultCounts.{risen_past}
@@ -19,8 +17,7 @@ use Rattle.wal_core.specs.LogViews.{log_disk, log_down}
 use Rattle.engine_parts.specs.declared.part.Part.TheVariants as parts
 use Rattle.engine_parts.specs.Faults.{flush_fault_by}
 use Rattle.wal_core.specs.declared.refusal.LogRefusal.{LogRefusal}
-use Rattle.engine_parts.specs.Holds.{Knowledge, Leaves}
-use Rattle.engine_parts.specs.Law.{MayKeep}
+use Rattle.engine_parts.specs.Holds.{Knowledge}
 use Rattle.engine_parts.specs.Parts.{IsLogOf}
 use Rattle.host_sections.specs.Asked.{LogMoments}
 use Rattle.host_sections.specs.HostEntries.{AddsFlush, flush_by, next_number}

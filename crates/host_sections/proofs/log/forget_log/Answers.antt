@@ -1,23 +1,18 @@
-use Rattle.std.proofs.Common.{Err, IsSome, Option, ◌≡◌, ◌+◌, ℕ, arith, ap, ◌∙◌, subst, sym, refl, ◌++◌, ◌∷◌, []}
+use Rattle.std.proofs.Common.{Err, IsSome, Option, ◌≡◌, ℕ, arith, ap, ◌∙◌, subst, sym, refl}
 use Rattle.hall.specs.Calls.{start_of, view}
 use Rattle.hall.specs.declared.view.Stage.TheVariants.{Inside}
-use Rattle.notes.specs.Lists.{add, at}
-use Rattle.tx_core.specs.declared.entry.Entry.{Entry}
-use Rattle.tx_core.specs.declared.entry.Kind.TheVariants as kinds
+use Rattle.notes.specs.Lists.{at}
 use Rattle.tx_core.specs.declared.entry.LogCall.TheVariants as calls
 use Rattle.tx_core.specs.EngineInvariant.{EngineInvariant}
-use Rattle.tx_core.specs.Entries.{session_of}
 use Rattle.tx_core.specs.FaultsRise.{faults_told}
 use Rattle.tx_core.specs.Locks.{log_lock}
-use Rattle.tx_core.specs.SyncsBeforeForgets.{MayForget}
 use Rattle.tx_core.proofs.FaultCounts.{risen_past}
 use Rattle.tx_core.proofs.Quiet.{hosts_keep}
 use Rattle.wal_core.specs.LogViews.{log_checkpoint, log_disk, log_down, log_first}
 use Rattle.wal_core.specs.declared.checkpoint.LastCheckpoint.{LastCheckpoint}
 use Rattle.wal_core.specs.declared.refusal.LogRefusal.{LogRefusal}
 use Rattle.engine_parts.specs.declared.part.Part.TheVariants as parts
-use Rattle.engine_parts.specs.Holds.{Knowledge, Leaves}
-use Rattle.engine_parts.specs.Law.{MayKeep}
+use Rattle.engine_parts.specs.Holds.{Knowledge}
 use Rattle.engine_parts.specs.Parts.{IsLogOf}
 use Rattle.host_sections.specs.Asked.{LogMoments}
 use Rattle.host_sections.specs.HostEntries.{AddsForget, forget_by, forget_fault_by}

@@ -1,9 +1,9 @@
 -- The members of a round keep nothing any more once it is kept for the run, and call as before.
-use Rattle.std.proofs.Common.{◌≡◌, ℕ, ◌+◌, ◌<◌, List, [], ◌∷◌, refl, sym, ap, subst, ◌∙◌, arith, drop, get_or, length, map, set}
+use Rattle.std.proofs.Common.{◌≡◌, ℕ, ◌+◌, ◌<◌, ◌≤◌, List, [], ◌∷◌, ◌++◌, refl, sym, ap, subst, ◌∙◌, arith, drop, get_or, length, length-set, map, set, take}
 use Rattle.std.proofs.Math.ListN.{get_or-map}
-use Rattle.std.proofs.Math.Seq.{map-set_same}
+use Rattle.std.proofs.Math.Seq.{map-set_same, take-length}
 use Rattle.std.proofs.lemmas.Grind.{drop_more_same}
-use Rattle.std.proofs.lemmas.List.{drop-set-lt, get_or-drop, length-map}
+use Rattle.std.proofs.lemmas.List.{drop-set-lt, get_or-drop, length-map, take-append-le}
 use Rattle.std.specs.List.{All}
 use Rattle.disk_core.specs.declared.log_disk.LogDisk as logs
 use Rattle.disk_core.specs.declared.page_disk.PageDisk as disks
@@ -35,6 +35,21 @@ module _ {K L P : Type 0} {l : logs.Ghosts L} {p : disks.Ghosts P} where
   pub callers_set : (xs ys : List (Member K L P l p)) (i : ℕ) (d m : Member K L P l p)
       → m.caller ≡ (get_or ys i d).caller → callers_of ys ≡ callers_of xs → callers_of (set ys i m) ≡ callers_of xs
   callers_set xs ys i d m here same = map-set_same (λ (x : Member K L P l p). x.caller) ys i m d here ∙ same
+
+  -- where it changed in a vector that is written back
+  pub callers_back : (xs ys all : List (Member K L P l p)) (n i : ℕ) (d m : Member K L P l p)
+      → m.caller ≡ (get_or ys i d).caller → callers_of ys ≡ callers_of xs → length xs ≡ n → xs ≡ all
+      → callers_of (take n (set ys i m ++ drop (length (set ys i m)) all)) ≡ callers_of all
+  callers_back xs ys all n i d m here same long is =
+      let s : List (Member K L P l p) = set ys i m in
+      let rest : List (Member K L P l p) = drop (length s) all in
+      let f : Member K L P l p → Caller L P l p = λ x. x.caller in
+      let count : n ≡ length s = sym long ∙ (sym (length-map xs f) ∙ ap length (sym same) ∙ length-map ys f) ∙ sym (length-set ys i m) in
+      let whole : take n (s ++ rest) ≡ s = ap (λ k. take k (s ++ rest)) count ∙ take-append-le (length s) s rest (least (length s)) ∙ take-length s in
+      ap callers_of whole ∙ callers_set xs ys i d m here same ∙ ap callers_of is
+    where
+      least : (n : ℕ) → n ≤ n
+      least n = omega arith
 
   module _ (old new : List (Member K L P l p)) (same : callers_of new ≡ callers_of old) where
     count_same : length new ≡ length old

@@ -1,10 +1,10 @@
-use Rattle.std.proofs.Common.{◌≡◌, ◌+◌, ◌++◌, ◌∷◌, [], ap, subst, sym, ◌∙◌, get_or, take, false}
+use Rattle.std.proofs.Common.{◌≡◌, ◌+◌, ◌++◌, ◌∷◌, [], ap, refl, subst, sym, ◌∙◌, get_or, take, false}
 use Rattle.std.proofs.lemmas.List.{take_more}
 use Rattle.std.proofs.lemmas.List.Elements.{All-push}
 use Rattle.std.specs.List.{All}
 use Rattle.session_run.specs.declared.member.Member.{Member}
 use Rattle.session_run.specs.Rounds.{with_members}
-use Rattle.session_run.proofs.Joining.{callers_set, here_same, rest_same}
+use Rattle.session_run.proofs.Joining.{callers_back, callers_set, here_same, rest_same}
 use Rattle.session_run.proofs.Rounding.{members_push}
 use Rattle.session_run.proofs.round.join_members.Goals as goal
 
@@ -27,3 +27,13 @@ loop-member-preserved g c =
       callers = callers_set xs ys k d c.let_lines_go.new.member c.let_lines_go.ensures i.callers;
       rest = rest_same xs ys k c.let_lines_go.new.member i.rest;
     }
+
+pub returns-in_err-join-clause-callers : goal.returns-in_err-join-clause-callers
+returns-in_err-join-clause-callers g c =
+    let k = c.loop-member.member-index in
+    let d = c.member-item.result in
+    let ys = c.loop-member.member-items in
+    let was = get_or ys k d in
+    callers_back c.deref_mut-member-items.result.now ys c.args.members.now.items c.args.members.now.len k d
+    (record { caller = was.caller; kept = c.join.new.other; lines = was.lines; lost = was.lost }) refl c.loop-member.invariant.callers
+    c.deref_mut-member-items.ensures.len c.deref_mut-member-items.ensures.value

@@ -29,23 +29,14 @@ pub struct Dumping {
 fn is_dump(step: &Step) -> bool
     ensures { result ≡ is_dump step.now }
 {
-    match step {
-        Step::Round { .. } => false,
-        Step::Checkpoint { .. } => false,
-        Step::Dump { .. } => true,
-    }
+    matches!(step, Step::Dump { .. })
 }
 
 /// Whether a dump is among the steps.
 fn has_dump(steps: &[Step]) -> bool
     ensures { result ≡ list_any is_dump steps.now }
 {
-    for step in steps {
-        if is_dump(step) {
-            return true;
-        }
-    }
-    false
+    steps.iter().any(|step| is_dump(step))
 }
 
 /// The multixacts that the life gave, where they are asked for; else none.

@@ -250,23 +250,14 @@ fn nothing_so_far(alloc: Global, report: &LifeReport) -> Result<SoFar, Memory>
 fn is_checkpoint(step: &Step) -> bool
     ensures { result ≡ is_checkpoint step.now }
 {
-    match step {
-        Step::Round { .. } => false,
-        Step::Checkpoint { .. } => true,
-        Step::Dump { .. } => false,
-    }
+    matches!(step, Step::Checkpoint { .. })
 }
 
 /// Whether a checkpoint is among the steps.
 fn has_checkpoint(steps: &[Step]) -> bool
     ensures { result ≡ list_any is_checkpoint steps.now }
 {
-    for step in steps {
-        if is_checkpoint(step) {
-            return true;
-        }
-    }
-    false
+    steps.iter().any(|step| is_checkpoint(step))
 }
 
 /// The counters of multixacts at each place, where a checkpoint is held against them; else none.

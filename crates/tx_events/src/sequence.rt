@@ -73,6 +73,13 @@ impl<T> Sequence<T> {
     {
         self.items.as_slice()
     }
+
+    /// The `Vec` of its items. Takes no memory.
+    pub fn into_vec(self) -> Vec<T>
+        ensures { result.items ≡ self }
+    {
+        self.items
+    }
 }
 
 impl<T: Drop> Sequence<T> {

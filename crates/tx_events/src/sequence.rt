@@ -51,8 +51,8 @@ impl<T> Sequence<T> {
         }
     }
 
-    // No items yet, with room for so many.
-    fn with_room(alloc: Global, count: usize) -> Result<Self, Memory>
+    /// No items yet, with room for so many.
+    pub fn with_room(alloc: Global, count: usize) -> Result<Self, Memory>
         ensures { IfOk result (λ s. s ≡ []) }
     {
         Ok(Sequence {

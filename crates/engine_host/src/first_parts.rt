@@ -62,7 +62,7 @@ pub fn open_new<L: LogDisk + Drop, P: PageDisk + Drop>(
         return Err((taken_apart(&mut rooms.banks, log, locks, volumes), refusal));
     }
     let fresh = &mut *log;
-    if let Err(refusal) = begin_log(fresh, &cluster) {
+    if let Err(refusal) = begin_log(alloc, fresh, &cluster) {
         return Err((taken_apart(&mut rooms.banks, log, locks, volumes), refusal));
     }
     rooms.keep_vectors(volumes);

@@ -47,6 +47,7 @@ impl BankRooms {
     }
 
     // Buffers for a bank: those of one that is over, or a new one.
+    #[inline(always)]
     fn take(&mut self) -> Result<Vec<Buffer>, AllocError>
         ensures some { IfOk result (λ v. 1 ≤ length v.items) }
         ensures empty { IfOk result (λ v. AllEmpty v.items) }

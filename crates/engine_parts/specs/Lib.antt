@@ -1,3 +1,4 @@
+pub mod LogTail
 pub mod Stand
 pub mod Course
 pub mod Shelf

@@ -22,9 +22,8 @@ use crate::turns::{is_in_turn, no_turns, note};
 use proc_table::{Given, ProcTable};
 use std::alloc::Global;
 use std::marker::Model;
-use tx_events::{
-    By, Counters, Event, FullXid, Memory, SnapData, XactEnd, is_listed, make_one_room,
-};
+use tx_events::{By, Counters, Event, FullXid, Memory, XactEnd, is_listed, make_one_room};
+use tx_model::SharedSnap;
 
 /// A history that is legal, and what its events say of ids. A contract sees the life's base, the number of sessions and
 /// the events. An event takes the logarithm of the history's length, and the end of a transaction besides as many steps as
@@ -212,7 +211,7 @@ impl HistoryReplay {
     }
 
     /// What a snapshot holds that is taken now.
-    pub fn snapshot_data(&mut self) -> Result<SnapData, Memory>
+    pub fn snapshot_data(&mut self) -> Result<SharedSnap, Memory>
         ensures data { IfOk result (λ s. s ≡ snapshot_data self.old.base.next self.old.events) }
         ensures same { self.new ≡ self.old }
     {

@@ -3,8 +3,7 @@ ghost use Rattle.std.specs.Prelude.{◌≡◌, ◌↔◌, IsTrue, Some};
 ghost use Rattle.std.specs.Option.{option_copied};
 ghost use Rattle.history_places.specs.SnapMarks.{IsMarkOf};
 
-use tx_events::FullXid;
-use tx_model::SharedSnap;
+use tx_events::{FullXid, SharedSnap};
 
 /// What is kept of a snapshot.
 #[derive(Clone, Copy, Debug, PartialEq, Eq)]

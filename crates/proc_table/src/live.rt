@@ -1,5 +1,5 @@
 //! The live snapshots, which hold back the oldest xmin.
-ghost use Rattle.std.specs.Prelude.{◌≡◌, ℕ, ◌+◌, ◌^◌, ◌<◌, List, [], ◌∷◌, ◌++◌, None, length, map, min, false, IfSome, IfNone, IfOk, OnOk, OnErr};
+ghost use Rattle.std.specs.Prelude.{◌≡◌, ℕ, ◌+◌, ◌^◌, ◌<◌, List, [], ◌∷◌, ◌++◌, None, length, map, min, false, IsTrue, IfOk, OnOk, OnErr};
 ghost use Rattle.std.specs.List.{fold, list_any};
 ghost use Rattle.std.specs.Ordering.{nat_cmp};
 ghost use Rattle.counted_map.specs.Counts.{counted};

@@ -25,10 +25,9 @@ use crate::live::LiveSnapshots;
 use std::alloc::{AllocError, Global};
 use std::marker::Model;
 use tx_events::{
-    By, ByWords, Counters, Event, EventList, FullXid, Memory, Name, Refusal, SnapData, XactEnd,
-    check_id, make_one_room, make_room, subtrans_page_in_full,
+    By, ByWords, Counters, Event, EventList, FullXid, Memory, Name, Refusal, SharedSnap, SnapData,
+    XactEnd, check_id, make_one_room, make_room, subtrans_page_in_full,
 };
-use tx_model::SharedSnap;
 
 /// The running transactions and the live snapshots of all sessions, and the history so far: what PostgreSQL keeps under
 /// `ProcArrayLock` and `XidGenLock`, here one lock. A contract sees the base of the life, the number of sessions, the

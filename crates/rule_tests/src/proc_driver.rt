@@ -7,8 +7,7 @@ ghost use Rattle.proc_table.specs.Table.{InTurn};
 use crate::numbers::{id, multi};
 use proc_table::{Asked, Given, ProcTable};
 use std::process::Abort;
-use tx_events::{By, Counters, FullXid, Name, Refusal, XactEnd, is_base};
-use tx_model::SharedSnap;
+use tx_events::{By, Counters, FullXid, Name, Refusal, SharedSnap, XactEnd, is_base};
 
 /// From here on commands have one number.
 const MOST_COMMANDS: u64 = 1_000_000;

@@ -1,5 +1,5 @@
 -- Where the log's batches end behind each call, and what is pending there.
-use Rattle.std.proofs.Common.{Err, List, None, Ok, Option, Result, Some, [], ap, arith, drop, length, refl, sym, tt, ℕ, ◌+◌, ◌++◌, ◌<◌, ◌∙◌, ◌∷◌, ◌≡◌, ◌≢◌}
+use Rattle.std.proofs.Common.{Err, List, None, Ok, Option, Result, Some, [], ap, arith, drop, length, refl, sym, ℕ, ◌+◌, ◌++◌, ◌∙◌, ◌∷◌, ◌≡◌, ◌≢◌}
 use Rattle.std.proofs.lemmas.List.Sums.{fold_push}
 use Rattle.std.specs.List.{fold}
 use Rattle.disk_core.specs.declared.log_disk.LogDisk as logs
@@ -14,7 +14,7 @@ use Rattle.wal_core.specs.declared.refusal.LogRefusal.{LogRefusal}
 use Rattle.wal_core.specs.declared.refusal.LogRefusal.TheVariants as log_refusals
 use Rattle.wal_core.specs.declared.wal_log.WalLog.{WalLog}
 use Rattle.wal_core.specs.Log.{bytes_of}
-use Rattle.wal_core.specs.LogViews.{log_down, log_end, log_flushed, log_next, log_pending, log_recs}
+use Rattle.wal_core.specs.LogViews.{log_end, log_flushed, log_next, log_pending, log_recs}
 use Rattle.engine_parts.specs.LogTail.{HadRoom, LacksRoom, LogTail, RoomFrom, RoomOf, first_tail, log_tail, tail_after, tail_flushed, tail_of}
 
 -- ---- one entry more

@@ -5,6 +5,7 @@ pub mod Shelf
 pub mod Shelves
 pub mod ShelfLaws
 pub mod BankCourse
+pub mod InPlace
 pub mod Parts
 pub mod Begins
 pub mod Law

@@ -18,6 +18,8 @@ use Rattle.tx_core.proofs.Quiet.{hosts_keep}
 use Rattle.wal_core.specs.Log.{counters_or_none}
 use Rattle.wal_core.specs.LogViews.{log_checkpoint, log_counters, log_disk, log_down, log_first, log_flushed, log_next, log_recs}
 use Rattle.engine_parts.specs.declared.part.Part.TheVariants as parts
+use Rattle.engine_parts.specs.LogTail.{log_tail}
+use Rattle.engine_parts.proofs.Tails.{appended_tail, took_room}
 use Rattle.engine_parts.specs.Holds.{Knowledge, Leaves}
 use Rattle.engine_parts.specs.Law.{MayKeep}
 use Rattle.engine_parts.specs.Parts.{IsLogOf}
@@ -85,7 +87,8 @@ leave-requires-clause-stands g c =
     subst (λ (z : ℕ). (z ≡ log_lock) × IsLogOf start n (at seen z ++ c.append_note-mark.result.value ∷ [])) (sym i.cell) (
       refl,
       subst (λ (e : Entry). IsLogOf start n (es ++ e ∷ [])) (sym c.append_note-mark.ensures)
-          (appends start d.tells (d.faults (log_disk o)) (d.faults (log_disk n)) (d.images (log_disk o)) (d.images (log_disk n)) (log_recs o) (log_recs n) (log_next o) (log_next n) (log_first o) (log_first n) (log_flushed o) (log_flushed n) (log_counters o) (log_counters n) (log_down o) (log_down n) (log_checkpoint o) (log_checkpoint n) es c.args.by here rec
+          (appends start d.tells (d.faults (log_disk o)) (d.faults (log_disk n)) (d.images (log_disk o)) (d.images (log_disk n)) (log_recs o) (log_recs n) (log_next o) (log_next n) (log_first o) (log_first n) (log_flushed o) (log_flushed n) (log_counters o) (log_counters n) (log_down o) (log_down n) (log_checkpoint o) (log_checkpoint n) (log_tail o) (log_tail n) es c.args.by here rec
+          (appended_tail o n rec a.pending a.end) (took_room (log_down o) (log_tail o) rec c.in-Ok.number a.is_down a.is_full)
           a.recs a.next a.flushed (a.counters ∙ ap (λ (l : Option Counters). Some (after_record (counters_or_none l) rec)) here.counters_are) a.stays (ap d.faults a.disk) a.first a.keeps (begins_untouched o n a.disk a.first)),
     )
 
@@ -126,7 +129,7 @@ put_back-requires-clause-stands g c =
     let n = c.append.new.self in
     let a = c.in-Err.ensures in
     subst (λ (z : ℕ). (z ≡ log_lock) × IsLogOf start n (at seen z)) (sym i.cell)
-    (refl, log_untouched start o n (at seen log_lock) a.disk a.err_recs.0 a.err_counters.1 a.first a.flushed a.err_counters.0 a.stays a.checkpoint here)
+    (refl, log_untouched start o n (at seen log_lock) a.disk a.err_recs.0 a.err_counters.1 a.first a.flushed a.err_counters.0 a.stays a.checkpoint a.end here)
 
 pub returns-clause-alone : goal.returns-clause-alone
 returns-clause-alone g c =
@@ -170,7 +173,8 @@ returns-in-Ok-clause-asks g c =
     (refl, c.take_log-held.ensures.stands) (subst (λ z. LogMoments z n) c.deref_mut-log.ensures.value (append_moments o n (λ told e x now. g.met.L.LogDisk.only_now e x told now) a.disk a.first))
     (append_by c.args.by rec) (
       refl,
-      appends start d.tells (d.faults (log_disk o)) (d.faults (log_disk n)) (d.images (log_disk o)) (d.images (log_disk n)) (log_recs o) (log_recs n) (log_next o) (log_next n) (log_first o) (log_first n) (log_flushed o) (log_flushed n) (log_counters o) (log_counters n) (log_down o) (log_down n) (log_checkpoint o) (log_checkpoint n) es c.args.by s rec
+      appends start d.tells (d.faults (log_disk o)) (d.faults (log_disk n)) (d.images (log_disk o)) (d.images (log_disk n)) (log_recs o) (log_recs n) (log_next o) (log_next n) (log_first o) (log_first n) (log_flushed o) (log_flushed n) (log_counters o) (log_counters n) (log_down o) (log_down n) (log_checkpoint o) (log_checkpoint n) (log_tail o) (log_tail n) es c.args.by s rec
+          (appended_tail o n rec a.pending a.end) (took_room (log_down o) (log_tail o) rec c.in-Ok.number a.is_down a.is_full)
           a.recs a.next a.flushed (a.counters ∙ ap (λ (l : Option Counters). Some (after_record (counters_or_none l) rec)) s.counters_are) a.stays (ap d.faults a.disk) a.first a.keeps (begins_untouched o n a.disk a.first),
     )
     (c.leave.ensures.left.seen ∙ (λ j. add (i.seen j) (i.cell j) (c.append_note-mark.ensures j)))
@@ -190,5 +194,5 @@ returns-clause-asks g c =
     let out = came_out c.args.hall.now log_lock c.args.pass.now c.take_log-held.new.pass c.put_back.new.pass c.requires.alone c.take_log-held.ensures.inside c.put_back.ensures.own.0 c.put_back.ensures.view in
     asks_without g.L.LogDisk g.P.PageDisk start log_lock old (view c.put_back.new.pass).seen (omega (arith, wide, c.requires.alone.laid)) (parts.Log held) (parts.Log (record held { value = n }))
     (refl, c.take_log-held.ensures.stands) (subst (λ z. LogMoments z n) c.deref_mut-log.ensures.value (append_moments o n (λ told e x now. g.met.L.LogDisk.only_now e x told now) a.disk a.first))
-    (refl, log_untouched start o n (at old log_lock) a.disk a.err_recs.0 a.err_counters.1 a.first a.flushed a.err_counters.0 a.stays a.checkpoint s)
+    (refl, log_untouched start o n (at old log_lock) a.disk a.err_recs.0 a.err_counters.1 a.first a.flushed a.err_counters.0 a.stays a.checkpoint a.end s)
     out.seen

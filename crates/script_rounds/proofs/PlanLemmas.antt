@@ -132,6 +132,12 @@ plan_none round p blank = record {
   places = λ k v e. subst (HasPlaces k round (take 0 round)) (sym (blank.places k v e)) (record { commands = refl; count = refl });
 }
 
+pub blank_same : (p q : Plan) → q.sessions.items ≡ p.sessions.items → q.places.items ≡ p.places.items → IsBlank p → IsBlank q
+blank_same p q sessions places blank = record {
+  sessions = sessions ∙ blank.sessions;
+  places = λ k v e. blank.places k v (ap (λ (vs : List (List ℕ)). slice_get vs k) (sym places) ∙ e);
+}
+
 pub blank_at_first : (p : Plan) → p.sessions.items ≡ [] → All (λ (places : List ℕ). places ≡ []) p.places.items → IsBlank p
 blank_at_first p sessions places = record { sessions = sessions; places = λ k v e. all_at (λ (v : List ℕ). v ≡ []) p.places.items k v places e }
 

@@ -107,3 +107,21 @@ told_all written kept both more here self e f =
 pub told_on : (written done new kept both more self : List ℕ) → done ++ new ≡ kept ++ both → self ≡ written ++ (kept ++ both ++ more) → written ++ done ++ new ++ more ≡ self
 told_on written done new kept both more self e f =
     ap (λ (t : List ℕ). t ++ more) (append_assoc written done new ∙ ap (λ (t : List ℕ). written ++ t) e) ∙ append_assoc written (kept ++ both) more ∙ sym f
+
+-- what is left of the own bytes while lists of pieces are written
+run_within : (runs : List (List Piece)) (i : ℕ) (run : List Piece) (rest : List ℕ) → i < length runs → run ≡ get_or runs i run → own_before (pieces_in (drop i runs)) ≤ length rest
+    → own_before run + own_before (pieces_in (drop (i + 1) runs)) ≤ length rest
+run_within runs i run rest l e w = subst (λ n. n ≤ length rest) (ap own_before (from_run runs i run l e) ∙ before_both run (pieces_in (drop (i + 1) runs))) w
+
+pub run_first : (runs : List (List Piece)) (i : ℕ) (run : List Piece) (rest : List ℕ) → i < length runs → run ≡ get_or runs i run → own_before (pieces_in (drop i runs)) ≤ length rest → own_before run ≤ length rest
+run_first runs i run rest l e w = first_within (own_before run) (own_before (pieces_in (drop (i + 1) runs))) (length rest) (run_within runs i run rest l e w)
+
+pub run_rest : (runs : List (List Piece)) (i : ℕ) (run : List Piece) (rest behind : List ℕ) → i < length runs → run ≡ get_or runs i run → own_before (pieces_in (drop i runs)) ≤ length rest
+    → behind ≡ drop (own_before run) rest → own_before (pieces_in (drop (i + 1) runs)) ≤ length behind
+run_rest runs i run rest behind l e w f =
+    let more = own_before (pieces_in (drop (i + 1) runs)) in
+    subst (λ (x : List ℕ). more ≤ length x) (sym f) (rest_within (own_before run) more rest (run_within runs i run rest l e w))
+
+pub run_step : (runs : List (List Piece)) (i : ℕ) (run : List Piece) (rest : List ℕ) → i < length runs → run ≡ get_or runs i run
+    → woven (pieces_in (drop i runs)) rest ≡ spread run rest ++ woven (pieces_in (drop (i + 1) runs)) (drop (own_before run) rest)
+run_step runs i run rest l e = ap (λ (ms : List Piece). woven ms rest) (from_run runs i run l e) ∙ woven_both run (pieces_in (drop (i + 1) runs)) rest

@@ -36,6 +36,14 @@ impl Places {
         self.at.as_slice()
     }
 
+    /// Makes room for so many in all. Without memory there is none.
+    pub fn make_room(&mut self, count: usize)
+        ensures { self.new ≡ self.old }
+    {
+        let more = count.saturating_sub(self.at.len());
+        let _ = self.at.reserve_exact(more);
+    }
+
     /// Adds a place at the end.
     pub fn push(&mut self, place: usize) -> Result<(), Memory>
         ensures { OnOk result (self.new ≡ self.old ++ place ∷ []) }

@@ -9,6 +9,9 @@ use session_lang::Items;
 use std::alloc::Global;
 use tx_model::Memory;
 
+// In a shorter round the room that doubles isn't much.
+const LONG: usize = 65_536;
+
 /// Whose the commands of a round are, so that no session has to look through those of the others.
 #[derive(Drop)]
 pub struct Plan {
@@ -28,6 +31,39 @@ fn no_places(alloc: Global, sessions: usize) -> Result<Vec<Places>, Memory>
         all.push(Places::new(alloc))?;
     }
     Ok(all)
+}
+
+/// How many commands of the round each of so many sessions has.
+fn counts_in(alloc: Global, sessions: usize, round: &Items) -> Result<Vec<usize>, Memory>
+    ensures { IfOk result (λ counts. length counts.items ≡ sessions) }
+{
+    let mut counts = Vec::with_capacity(alloc, sessions)?;
+    for _ in 0..sessions {
+        counts.push(0_usize)?;
+    }
+    for place in 0..round.len() {
+        if let Some(session) = round.session_at(place) {
+            if let Some(count) = counts.get_mut(session as usize) {
+                *count = count.saturating_add(1);
+            }
+        }
+    }
+    Ok(counts)
+}
+
+/// Makes room for the places of a long round, as much as they take. Without memory there is none.
+fn make_rooms(alloc: Global, places: &mut Vec<Places>, round: &Items)
+    ensures { places.new.items ≡ places.old.items }
+{
+    if round.len() < LONG || round.len() < places.len() {
+        return;
+    }
+    let Ok(counts) = counts_in(alloc, places.len(), round) else {
+        return;
+    };
+    for session in 0..places.len() {
+        places[session].make_room(counts[session]);
+    }
 }
 
 impl Plan {
@@ -65,6 +101,7 @@ impl Plan {
         ensures plan { OnOk result (IsPlanOf round.now round.now self.new) }
         ensures count { OnOk result (length self.new.places.items ≡ length self.old.places.items) }
     {
+        make_rooms(*self.sessions.allocator(), &mut self.places, round);
         for place in 0..round.len() {
             if let Some(session) = round.session_at(place) {
                 self.add(session, place)?;

@@ -5,12 +5,15 @@ use Rattle.session_lang.specs.declared.script.Item.TheVariants as items
 use Rattle.script_rounds.specs.declared.plan.Plan.{Plan}
 use Rattle.script_rounds.specs.Plans.{IsPlanOf}
 use Rattle.run_law.specs.Turns.{MayRun}
-use Rattle.script_rounds.proofs.PlanLemmas.{may_run, plan_more, plan_none, plan_same}
+use Rattle.script_rounds.proofs.PlanLemmas.{blank_same, may_run, plan_more, plan_none, plan_same}
 use Rattle.script_rounds.proofs.plan.Plan.fill.Goals as goal
 use Rattle.script_rounds.proofs.plan.Plan.fill.Goals.{in-Some+in_ok-add, in_default}
 
 pub loop-place-init : goal.loop-place-init
-loop-place-init c = (plan_none c.args.round.now c.args.self.now c.requires.blank, refl)
+loop-place-init c =
+    let p = c.args.self.now in
+    let q : Plan = record { sessions = p.sessions; places = c.make_rooms.new.places } in
+    (plan_none c.args.round.now q (blank_same p q refl c.make_rooms.ensures c.requires.blank), ap length c.make_rooms.ensures)
 
 pub loop-place-preserved : goal.loop-place-preserved
 loop-place-preserved c =

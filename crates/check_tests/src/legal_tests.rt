@@ -51,6 +51,6 @@ fn a_snapshot_holds_what_runs(rt: HostRuntime) {
         ],
     );
     let held = life.replay.snapshot_data().expect(&rt, "memory");
-    assert!(rt; held.xmin.number() == 3 && held.xmax.number() == 5);
-    assert!(rt; held.xip.items().len() == 1 && !held.overflowed);
+    assert!(rt; held.xmin().number() == 3 && held.xmax().number() == 5);
+    assert!(rt; held.xip().len() == 1 && !held.overflowed());
 }

@@ -42,7 +42,7 @@ fn events_stand_in_the_list_of_their_session(rt: HostRuntime) {
 fn an_id_is_the_next_one_until_it_is_given(rt: HostRuntime) {
     let mut life = lives::places_of(&rt, &[Act::Id(3)]);
     let held = life.places.snapshot_data().expect(&rt, "memory");
-    assert!(rt; held.xmin.number() == 3 && held.xmax.number() == 3);
+    assert!(rt; held.xmin().number() == 3 && held.xmax().number() == 3);
     let three = life.places.where_next(id(&rt, 3));
     assert!(rt; three.from == 0 && three.end == 1);
     let four = life.places.where_next(id(&rt, 4));

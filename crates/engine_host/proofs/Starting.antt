@@ -34,6 +34,7 @@ use Rattle.multi_store.specs.declared.generator.MultiGen.{MultiGen}
 use Rattle.engine_parts.specs.declared.part.Part.{Part}
 use Rattle.engine_parts.specs.declared.part.Part.TheVariants as parts
 use Rattle.engine_parts.specs.Course.{HasCourse, IsOpened}
+use Rattle.engine_parts.specs.LogTail.{LogTail}
 use Rattle.engine_parts.specs.Parts.{PartStands}
 use Rattle.engine_parts.specs.Stand.{GivesStart, LogStands, XactStands}
 use Rattle.engine_host.specs.declared.cluster.Cluster.{Cluster}
@@ -58,8 +59,8 @@ gives_any : (c : Cluster) (b : Beginning) (counts : List ℕ) (number : ℕ) (pa
 gives_any c b counts number past g = record { base = g.base; below = g.below; gives = g.gives; place = g.place; some = g.some; whole = g.whole }
 
 -- the first checkpoint gives the begin of a new cluster's life
-pub first_gives : (c : Cluster) → GivesStart (life_of c []) 0 (records.Checkpoint 0 c.base ∷ [])
-first_gives c = record {
+pub first_gives : (c : Cluster) (gate : ℕ) → GivesStart (life_of c gate []) 0 (records.Checkpoint 0 c.base ∷ [])
+first_gives c gate = record {
   base = none;
   below = λ multi offset members k. absurd (contains_has [] (records.Multi multi offset members) k);
   gives = λ i. record { counters = raised 0 c.base i; committed = []; recorded = [] };
@@ -80,11 +81,11 @@ first_gives c = record {
     whole (suc n) counters at = absurd cc
 
 -- one record, which is the checkpoint, and is on disk
-pub log_begins : (c : Cluster) (b : Beginning) (tells : Bool) (faults : ℕ) (images : Volume → Type 0) (recs : List Rec) (next first flushed : ℕ) (counters : Option Counters) (down : Option ℕ) (checkpoint : Option LastCheckpoint) (counts : List ℕ)
-    → recs ≡ records.Checkpoint b.number c.base ∷ [] → next ≡ b.number + 1 → flushed ≡ b.number + 1 → counters ≡ Some c.base → down ≡ None → first ≡ b.number → get_or counts log_lock 0 ≤ faults
+pub log_begins : (c : Cluster) (b : Beginning) (tells : Bool) (faults : ℕ) (images : Volume → Type 0) (recs : List Rec) (next first flushed : ℕ) (counters : Option Counters) (down : Option ℕ) (checkpoint : Option LastCheckpoint) (tail : LogTail) (counts : List ℕ)
+    → recs ≡ records.Checkpoint b.number c.base ∷ [] → next ≡ b.number + 1 → flushed ≡ b.number + 1 → counters ≡ Some c.base → down ≡ None → first ≡ b.number → get_or counts log_lock 0 ≤ faults → tail ≡ record { gate = b.gate; pending = [] }
     → (IsTrue tells → (number : ℕ) × (all : List Rec) × KeepsRecords number all recs next first flushed images × (IsTrue b.told → GivesStart (life_from c b []) number all))
-    → LogStands (life_from c b counts) tells faults images recs next first flushed counters down checkpoint []
-log_begins c b tells faults images recs next first flushed counters down checkpoint counts recs_are next_is flushed_is counters_are up low count keeps = record {
+    → LogStands (life_from c b counts) tells faults images recs next first flushed counters down checkpoint tail []
+log_begins c b tells faults images recs next first flushed counters down checkpoint tail counts recs_are next_is flushed_is counters_are up low count tail_is keeps = record {
   recs_are = recs_are;
   next_is = next_is ∙ none_more (b.number + 1);
   flushed_is = flushed_is;
@@ -98,6 +99,8 @@ log_begins c b tells faults images recs next first flushed counters down checkpo
   first_is = record { exact = let same : b.number + 1 - 1 ≡ b.number = omega arith in low ∙ sym same; one = inl (let here : first < b.number + 1 = omega (arith, low) in here); behind = λ up. omega arith };
   others = λ told. let k = keeps told in (k.2.other, k.2.begins);
   alone = λ number ends. absurd (let long = ap (λ (t : List Entry). length t) ends.split in let more = length-append ends.before (record { by = ends.appender; kind = kinds.Append (records.Checkpoint number ends.counters) } ∷ record { by = ends.flusher; kind = kinds.Flush (number + 1) } ∷ []) in omega (arith, long, more));
+  tail_is = tail_is;
+  room = tt;
 }
 
 -- ---- the banks

@@ -7,7 +7,8 @@ use Rattle.tx_events.specs.Base.{IsBase}
 use Rattle.tx_events.specs.declared.record.Rec.{Rec}
 use Rattle.tx_events.specs.declared.record.Rec.TheVariants as records
 use Rattle.wal_core.specs.declared.wal_log.WalLog.{WalLog}
-use Rattle.wal_core.specs.LogViews.{KeepsAll, log_counters, log_disk, log_down, log_first, log_flushed, log_next, log_recs}
+use Rattle.wal_core.specs.Log.{bytes_of}
+use Rattle.wal_core.specs.LogViews.{KeepsAll, log_counters, log_disk, log_down, log_end, log_first, log_flushed, log_next, log_pending, log_recs}
 use Rattle.slru_bank.specs.Calls.{faults_of}
 use Rattle.slru_bank.specs.declared.bank.SlruBank.{SlruBank}
 use Rattle.store_pages.specs.Layouts.{member_page_of, state_in, word_page_of, word_place_of, xact_page_of, xact_place_of}
@@ -34,10 +35,12 @@ pub record IsCluster (c : Cluster) : Type 0 where
   pub banks : (1 ≤ c.banks) × (c.banks ≤ 16)
   pub sessions : c.sessions ≤ 64
 
--- What a life begins with beside its cluster: the number of the checkpoint that the log has last, the ids that are
--- committed and the multixacts that were recorded before it, and whether the volumes told that.
+-- What a life begins with beside its cluster: the number of the checkpoint that the log has last, the place where its
+-- batches end, the ids that are committed and the multixacts that were recorded before it, and whether the volumes told
+-- that.
 pub record Beginning : Type 0 where
   pub number : ℕ
+  pub gate : ℕ
   pub committed : List ℕ
   pub recorded : List Rec
   pub told : Bool
@@ -52,16 +55,17 @@ life_from c b faults = record {
   committed = b.committed;
   recorded = b.recorded;
   logged = records.Checkpoint b.number c.base ∷ [];
+  gate = b.gate;
   told = b.told;
   faults = faults;
 }
 
 -- over a new log, which has one record: nothing is committed, and no multixact was recorded, whatever the volumes tell
-abbrev pub nothing_before : Beginning
-nothing_before = record { number = 0; committed = []; recorded = []; told = true }
+abbrev pub nothing_before : ℕ → Beginning
+nothing_before gate = record { number = 0; gate = gate; committed = []; recorded = []; told = true }
 
-abbrev pub life_of : Cluster → List ℕ → Start
-life_of c faults = life_from c nothing_before faults
+abbrev pub life_of : Cluster → ℕ → List ℕ → Start
+life_of c gate faults = life_from c (nothing_before gate) faults
 
 -- a log without a record
 pub record IsEmptyLog {D : Type 0} {g : logs.Ghosts D} (log : WalLog D g) : Type 0 where
@@ -73,9 +77,14 @@ pub record IsEmptyLog {D : Type 0} {g : logs.Ghosts D} (log : WalLog D g) : Type
   pub counters : log_counters log ≡ None
   pub keeps : IsTrue g.tells → KeepsAll 0 [] g.images log
 
--- a log with one record, the first checkpoint
+-- where the batch of the first checkpoint ends that is put on such a log
+abbrev pub first_gate : {D : Type 0} → {g : logs.Ghosts D} → Cluster → WalLog D g → ℕ
+first_gate c log = log_end log + 5 + length (bytes_of (records.Checkpoint 0 c.base ∷ []))
+
+-- a log with one record, the first checkpoint, which isn't on disk
 pub record HasFirst {D : Type 0} {g : logs.Ghosts D} (c : Cluster) (log : WalLog D g) : Type 0 where
   pub recs : log_recs log ≡ records.Checkpoint 0 c.base ∷ []
+  pub pending : log_pending log ≡ records.Checkpoint 0 c.base ∷ []
   pub next : log_next log ≡ 1
   pub first : log_first log ≡ 0
   pub down : log_down log ≡ None

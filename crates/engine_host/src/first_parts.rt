@@ -2,7 +2,7 @@
 ghost use Rattle.std.specs.Prelude.{◌≡◌, IfErr, IfOk};
 ghost use Rattle.wal_core.specs.LogViews.{log_disk};
 ghost use Rattle.engine_host.specs.Counted.{AreCounted};
-ghost use Rattle.engine_host.specs.Opening.{AreParts, IsCluster, IsEmptyLog, new_life, nothing_before};
+ghost use Rattle.engine_host.specs.Opening.{AreParts, IsCluster, IsEmptyLog, first_gate, new_life, nothing_before};
 ghost use Rattle.engine_host.specs.Refused.{IsRefusal};
 ghost use Rattle.engine_host.specs.Stores.{HaveEach};
 
@@ -35,7 +35,7 @@ pub fn open_new<L: LogDisk + Drop, P: PageDisk + Drop>(
     requires new { IsEmptyLog log }
     ensures cluster { IfOk result (λ parts. parts.cluster ≡ cluster) }
     ensures parts { IfOk result (λ parts. AreParts parts) }
-    ensures start { IfOk result (λ parts. parts.start.value ≡ new_life cluster nothing_before parts.locks.items) }
+    ensures start { IfOk result (λ parts. parts.start.value ≡ new_life cluster (nothing_before (first_gate cluster log)) parts.locks.items) }
     ensures counted { IfOk result (λ parts. AreCounted L.LogDisk P.PageDisk (log_disk log) volumes parts.start.value.faults) }
     ensures refused { IfErr result (λ e. IsRefusal P.PageDisk cluster log volumes e.0 e.1) }
 {
@@ -51,18 +51,11 @@ pub fn open_new<L: LogDisk + Drop, P: PageDisk + Drop>(
         Ok(locks) => locks,
         Err(refusal) => return Err((with_log(Box::into_inner(log).into_disk(), volumes), refusal)),
     };
-    if let Err(refusal) = add_banks(
-        alloc,
-        &mut rooms.banks,
-        &mut locks,
-        &mut volumes,
-        &cluster,
-        true,
-    ) {
+    if let Err(refusal) = add_banks(&mut rooms.banks, &mut locks, &mut volumes, &cluster, true) {
         return Err((taken_apart(&mut rooms.banks, log, locks, volumes), refusal));
     }
     let fresh = &mut *log;
-    if let Err(refusal) = begin_log(fresh, &cluster) {
+    if let Err(refusal) = begin_log(alloc, fresh, &cluster) {
         return Err((taken_apart(&mut rooms.banks, log, locks, volumes), refusal));
     }
     rooms.keep_vectors(volumes);

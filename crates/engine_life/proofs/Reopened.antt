@@ -13,7 +13,7 @@ use Rattle.tx_events.specs.Ids.{IsFullMulti}
 use Rattle.tx_events.specs.declared.record.Counters.{Counters}
 use Rattle.tx_events.specs.declared.record.Rec.{Rec}
 use Rattle.tx_events.specs.declared.record.Rec.TheVariants as records
-use Rattle.wal_core.specs.LogViews.{log_checkpoint, KeepsAll, log_counters, log_disk, log_down, log_first, log_flushed, log_next, log_recs}
+use Rattle.wal_core.specs.LogViews.{log_checkpoint, log_end as log_gate, KeepsAll, log_counters, log_disk, log_down, log_first, log_flushed, log_next, log_recs}
 use Rattle.wal_core.specs.declared.wal_log.WalLog.{WalLog}
 use Rattle.tx_core.specs.declared.entry.Start.{Start}
 use Rattle.tx_core.specs.StoredBytes.{byte_held}
@@ -33,8 +33,10 @@ use Rattle.recoverable.specs.Clusters.{AreLeft, IsLeft}
 use Rattle.replay_core.specs.Volumes.{LeavesFit, Recovers}
 use Rattle.replay_core.specs.declared.cluster.Recovered.{Recovered}
 use Rattle.replay_core.proofs.Rows.{had}
+use Rattle.engine_parts.specs.LogTail.{log_tail}
 use Rattle.engine_parts.specs.Sessions.{AreGivenBefore}
 use Rattle.engine_parts.specs.Stand.{GivesStart, number_of_state}
+use Rattle.engine_parts.proofs.Tails.{none_pending}
 use Rattle.engine_host.specs.declared.cluster.Cluster.{Cluster}
 use Rattle.engine_host.specs.Counted.{AreCounted}
 use Rattle.engine_host.specs.declared.cluster.BankVolumes.{BankVolumes}
@@ -57,11 +59,11 @@ each_store Q a b c d of_offsets = c
 each_store Q a b c d of_members = d
 
 -- the log that a recovery left is begun
-pub settled_begins : {D : Type 0} {g : logs.Ghosts D} (c : Cluster) (b : Beginning) (from : ℕ) (log : WalLog D g) → IsSettled from c.base log → b.number ≡ from → (IsTrue g.tells → IsTrue b.told → KeepsStart c b log) → IsBegunLog c b log
-settled_begins {g = g} c b from log s is given counts reached =
+pub settled_begins : {D : Type 0} {g : logs.Ghosts D} (c : Cluster) (b : Beginning) (from : ℕ) (log : WalLog D g) → IsSettled from c.base log → b.number ≡ from → b.gate ≡ log_gate log → (IsTrue g.tells → IsTrue b.told → KeepsStart c b log) → IsBegunLog c b log
+settled_begins {g = g} c b from log s is gate given counts reached =
     let next : from + 1 ≡ b.number + 1 = omega (arith, is) in
-    log_begins c b g.tells (g.faults (log_disk log)) (g.images (log_disk log)) (log_recs log) (log_next log) (log_first log) (log_flushed log) (log_counters log) (log_down log) (log_checkpoint log) counts
-    (s.recs ∙ ap (λ (n : ℕ). records.Checkpoint n c.base ∷ []) (sym is)) (s.next ∙ next) (s.flushed ∙ next) s.counters_are s.up (s.first ∙ sym is) reached
+    log_begins c b g.tells (g.faults (log_disk log)) (g.images (log_disk log)) (log_recs log) (log_next log) (log_first log) (log_flushed log) (log_counters log) (log_down log) (log_checkpoint log) (log_tail log) counts
+    (s.recs ∙ ap (λ (n : ℕ). records.Checkpoint n c.base ∷ []) (sym is)) (s.next ∙ next) (s.flushed ∙ next) s.counters_are s.up (s.first ∙ sym is) reached (λ i. record { gate = sym gate i; pending = none_pending log (s.flushed ∙ sym s.next) i })
     (λ told. kept_told b.told (λ number past. KeepsAll number past g.images log) (λ number past. GivesStart (life_from c b []) number past) (given told) (s.keeps told))
 
 -- a code and the state that is read of it
@@ -102,13 +104,13 @@ module _ {L P : Type 0} (l : logs.Ghosts L) (p : disks.Ghosts P) where
     members_are = store_as_read members each;
   }
 
-  module _ (old new : L) (xact xact' offsets' members' : List P) (from sessions : ℕ) (counters : Counters) (kept : KeptLog) (count : length xact' ≡ length xact) (some : 1 ≤ length xact) (full : IsFullMulti counters.multi)
+  module _ (old new : L) (xact xact' offsets' members' : List P) (from gate sessions : ℕ) (counters : Counters) (kept : KeptLog) (count : length xact' ≡ length xact) (some : 1 ≤ length xact) (full : IsFullMulti counters.multi)
       (reads : l.images new (l.reads new)) (each : (disk : P) → p.images disk (p.pages disk)) (r : Recovers l p old xact new xact' offsets' members' from counters kept) where
     abbrev cluster : Cluster
     cluster = cluster_over counters (length xact') sessions
 
     abbrev begins : Beginning
-    begins = behind true kept from
+    begins = behind true kept from gate
 
     abbrev start : Start
     start = life_from cluster begins []
@@ -250,8 +252,8 @@ same_left {L} {P} l p old r back kept log banks left =
     (subst (λ (xs : List P). LeavesFit l p old.xact.items (log_disk r.log) r.xact.items r.offsets.items xs kept) (sym (banks of_members)) left)))
 
 -- over volumes that don't tell nothing is committed
-pub none_before : (kept : KeptLog) (from sessions banks : ℕ) (counters : Counters) → AreGivenBefore (life_from (cluster_over counters banks sessions) (behind false kept from) [])
-none_before kept from sessions banks counters x k = absurd (contains_has [] x k)
+pub none_before : (kept : KeptLog) (from gate sessions banks : ℕ) (counters : Counters) → AreGivenBefore (life_from (cluster_over counters banks sessions) (behind false kept from gate) [])
+none_before kept from gate sessions banks counters x k = absurd (contains_has [] x k)
 
 -- empty pages show nothing
 pub empty_shown : {P : Type 0} (p : disks.Ghosts P) (volumes : List P) → ((disk : P) → p.images disk (p.pages disk)) → AreEmpty p volumes → AllShowNothing p false volumes
@@ -261,7 +263,7 @@ empty_shown p volumes each empty n disk at q small = (empty n disk at).zeros (p.
 pub empty_durable : {P : Type 0} (p : disks.Ghosts P) (volumes : List P) → AreEmpty p volumes → AllOnDisk p volumes
 empty_durable p volumes empty n disk at = (empty n disk at).on_disk
 
-pub before_any : (tells : Bool) (kept : KeptLog) (from sessions banks : ℕ) (counters : Counters)
-    → (IsTrue tells → AreGivenBefore (life_from (cluster_over counters banks sessions) (behind true kept from) [])) → AreGivenBefore (life_from (cluster_over counters banks sessions) (behind tells kept from) [])
-before_any true kept from sessions banks counters told = told refl
-before_any false kept from sessions banks counters told = none_before kept from sessions banks counters
+pub before_any : (tells : Bool) (kept : KeptLog) (from gate sessions banks : ℕ) (counters : Counters)
+    → (IsTrue tells → AreGivenBefore (life_from (cluster_over counters banks sessions) (behind true kept from gate) [])) → AreGivenBefore (life_from (cluster_over counters banks sessions) (behind tells kept from gate) [])
+before_any true kept from gate sessions banks counters told = told refl
+before_any false kept from gate sessions banks counters told = none_before kept from gate sessions banks counters

@@ -23,7 +23,7 @@ use proc_table::{Given, ProcTable};
 use std::alloc::Global;
 use std::marker::Model;
 use tx_events::{
-    By, Counters, Event, FullXid, Memory, SnapData, XactEnd, is_listed, make_one_room,
+    By, Counters, Event, FullXid, Memory, SharedSnap, XactEnd, is_listed, make_one_room,
 };
 
 /// A history that is legal, and what its events say of ids. A contract sees the life's base, the number of sessions and
@@ -212,7 +212,7 @@ impl HistoryReplay {
     }
 
     /// What a snapshot holds that is taken now.
-    pub fn snapshot_data(&mut self) -> Result<SnapData, Memory>
+    pub fn snapshot_data(&mut self) -> Result<SharedSnap, Memory>
         ensures data { IfOk result (λ s. s ≡ snapshot_data self.old.base.next self.old.events) }
         ensures same { self.new ≡ self.old }
     {

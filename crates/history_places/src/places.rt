@@ -12,7 +12,7 @@ use place_columns::{Span, column_of, span_of_id};
 use std::alloc::Global;
 use std::marker::Model;
 use tx_events::laws::limits_rise;
-use tx_events::{Counters, Event, FullXid, Limits, Memory, SnapData, make_one_room};
+use tx_events::{Counters, Event, FullXid, Limits, Memory, SharedSnap, make_one_room};
 
 /// A legal history with four numbers of each of its places, and of the place behind it: the next id, the announced oldest
 /// id, the id at which writes stop, and the oldest xmin. A contract sees the replay of the history. Where a number was true
@@ -95,7 +95,7 @@ impl HistoryPlaces {
     }
 
     /// What a snapshot holds that is taken now.
-    pub fn snapshot_data(&mut self) -> Result<SnapData, Memory>
+    pub fn snapshot_data(&mut self) -> Result<SharedSnap, Memory>
         ensures data { IfOk result (λ s. s ≡ snapshot_data self.old.base.next self.old.events) }
         ensures same { self.new ≡ self.old }
     {

@@ -3,8 +3,7 @@ ghost use Rattle.std.specs.Prelude.{◌≡◌, ◌↔◌, IsTrue, Some};
 ghost use Rattle.std.specs.Option.{option_copied};
 ghost use Rattle.history_places.specs.SnapMarks.{IsMarkOf};
 
-use tx_events::{FullXid, SnapData};
-use tx_model::SharedSnap;
+use tx_events::{FullXid, SharedSnap};
 
 /// What is kept of a snapshot.
 #[derive(Clone, Copy, Debug, PartialEq, Eq)]
@@ -21,26 +20,26 @@ fn same_ids(one: &[FullXid], other: &[FullXid]) -> bool
 }
 
 /// Whether both hold the same.
-fn is_same(one: &SnapData, other: &SharedSnap) -> bool
+fn is_same(one: &SharedSnap, other: &SharedSnap) -> bool
     ensures { IsTrue result ↔ (one.now ≡ other.now) }
 {
-    if one.xmin != other.xmin() {
+    if one.xmin() != other.xmin() {
         return false;
     }
-    if one.xmax != other.xmax() {
+    if one.xmax() != other.xmax() {
         return false;
     }
-    if one.overflowed != other.overflowed() {
+    if one.overflowed() != other.overflowed() {
         return false;
     }
-    if !same_ids(one.xip.items(), other.xip()) {
+    if !same_ids(one.xip(), other.xip()) {
         return false;
     }
-    same_ids(one.subxip.items(), other.subxip())
+    same_ids(one.subxip(), other.subxip())
 }
 
 /// What is kept of a snapshot that holds this, of whose command the reply tells these lists, if it tells any.
-pub fn snap_mark(holds: &SnapData, told: Option<&SharedSnap>) -> SnapMark
+pub fn snap_mark(holds: &SharedSnap, told: Option<&SharedSnap>) -> SnapMark
     ensures { IsMarkOf holds.now (option_copied told.entry) result }
 {
     let right = match told {
@@ -48,7 +47,7 @@ pub fn snap_mark(holds: &SnapData, told: Option<&SharedSnap>) -> SnapMark
         None => false,
     };
     SnapMark {
-        xmax: holds.xmax,
+        xmax: holds.xmax(),
         right,
     }
 }

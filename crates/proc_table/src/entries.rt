@@ -8,7 +8,7 @@ ghost use Rattle.proc_table.specs.Lists.{entries_below, tops_of, subs_of, some_o
 
 use crate::entry::Entry;
 use std::alloc::Global;
-use tx_events::{FullXid, IdList, Memory, SharedIds};
+use tx_events::{FullXid, IdList, Memory};
 
 /// The id that was given last to the transaction of this top.
 pub fn last_given(entries: &[Entry], top: FullXid) -> Option<FullXid>
@@ -102,7 +102,7 @@ pub fn least_top(from: FullXid, entries: &[Entry]) -> FullXid
 }
 
 /// The tops below the limit, in order.
-pub fn tops_below(alloc: Global, entries: &[Entry], limit: FullXid) -> Result<SharedIds, Memory>
+pub fn tops_below(alloc: Global, entries: &[Entry], limit: FullXid) -> Result<IdList, Memory>
     ensures { IfOk result (λ l. l ≡ tops_of (entries_below entries.now limit)) }
 {
     let mut tops = IdList::new(alloc);
@@ -111,7 +111,7 @@ pub fn tops_below(alloc: Global, entries: &[Entry], limit: FullXid) -> Result<Sh
             tops.push(entry.top)?;
         }
     }
-    SharedIds::of(alloc, tops)
+    Ok(tops)
 }
 
 /// Whether one of the entries with a top below the limit has overflowed.
@@ -132,15 +132,15 @@ pub fn listed_subs(
     entries: &[Entry],
     limit: FullXid,
     overflowed: bool,
-) -> Result<SharedIds, Memory>
+) -> Result<IdList, Memory>
     ensures { IfOk result (λ l. AreListed entries.now limit overflowed l) }
 {
     if overflowed {
-        return SharedIds::of(alloc, IdList::new(alloc));
+        return Ok(IdList::new(alloc));
     }
     let mut subs = subs_below(alloc, entries, limit)?;
     subs.sort()?;
-    SharedIds::of(alloc, IdList::of(subs))
+    Ok(IdList::of(subs))
 }
 
 /// The subids of the entries with a top below the limit, entry by entry.

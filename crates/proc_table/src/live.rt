@@ -1,5 +1,5 @@
 //! The live snapshots, which hold back the oldest xmin.
-ghost use Rattle.std.specs.Prelude.{◌≡◌, ℕ, ◌+◌, ◌^◌, ◌<◌, List, [], ◌∷◌, ◌++◌, None, length, map, min, false, IfSome, IfNone, IfOk, OnOk, OnErr};
+ghost use Rattle.std.specs.Prelude.{◌≡◌, ℕ, ◌+◌, ◌^◌, ◌<◌, List, [], ◌∷◌, ◌++◌, None, length, map, min, false, IsTrue, IfOk, OnOk, OnErr};
 ghost use Rattle.std.specs.List.{fold, list_any};
 ghost use Rattle.std.specs.Ordering.{nat_cmp};
 ghost use Rattle.counted_map.specs.Counts.{counted};
@@ -65,19 +65,19 @@ impl LiveSnapshots {
         }
     }
 
-    /// Takes out the session's snapshot of this name, and gives its xmin. Takes no memory.
-    pub fn take_out(&mut self, session: u32, name: &Name) -> Option<FullXid>
+    /// Takes out the session's snapshot of this name, if it has one, and tells whether. Takes no memory.
+    pub fn take_out(&mut self, session: u32, name: &Name) -> bool
         requires within { session < length self.old.sessions.items }
-        ensures left { IfSome result (λ _. (snaps : List LiveSnap) → HoldsLive snaps self.old → HoldsLive (others session name.now snaps) self.new) }
-        ensures none { IfNone result ((snaps : List LiveSnap) → HoldsLive snaps self.old → live_xmin session name.now snaps ≡ None) }
+        ensures left { IsTrue result → (snaps : List LiveSnap) → HoldsLive snaps self.old → HoldsLive (others session name.now snaps) self.new }
+        ensures none { result ≡ false → (snaps : List LiveSnap) → HoldsLive snaps self.old → live_xmin session name.now snaps ≡ None }
         ensures sessions { length self.new.sessions.items ≡ length self.old.sessions.items }
     {
         match self.sessions[session as usize].take(name) {
             Some(xmin) => {
                 count_less(&mut self.xmins, xmin);
-                Some(xmin)
+                true
             }
-            None => None,
+            None => false,
         }
     }
 

@@ -25,8 +25,8 @@ use crate::live::LiveSnapshots;
 use std::alloc::{AllocError, Global};
 use std::marker::Model;
 use tx_events::{
-    By, ByWords, Counters, Event, EventList, FullXid, Memory, Name, Refusal, SnapData, XactEnd,
-    check_id, make_one_room, make_room, subtrans_page_in_full,
+    By, ByWords, Counters, Event, EventList, FullXid, Memory, Name, Refusal, SharedSnap, SnapData,
+    XactEnd, check_id, make_one_room, make_room, subtrans_page_in_full,
 };
 
 /// The running transactions and the live snapshots of all sessions, and the history so far: what PostgreSQL keeps under
@@ -50,7 +50,7 @@ pub struct ProcTable {
     entries: Vec<Entry>,
     live: LiveSnapshots,
     /// What a snapshot holds that is taken now, where it was computed since the last end, undo or sub event.
-    contents: Option<SnapData>,
+    contents: Option<SharedSnap>,
     /// How often that was computed. Only tests read it.
     computations: u64,
     /// With room for the promised ones.
@@ -206,14 +206,14 @@ impl ProcTable {
 
     /// Takes a snapshot under a name that the session has no live snapshot of, and registers its xmin
     /// (`GetSnapshotData`). The room for its drop is taken now. After want of memory nothing changed.
-    pub fn snapshot(&mut self, by: By, name: &Name) -> Result<SnapData, Memory>
+    pub fn snapshot(&mut self, by: By, name: &Name) -> Result<SharedSnap, Memory>
         requires session { by.session < self.old.sessions }
         requires turn { InTurn by self.old.events }
         requires free { is_live self.old.base.next by.session name.now self.old.events ≡ false }
         ensures { Takes self.old self.new (events.Snap name.now by) result }
     {
         let taken = self.snapshot_data()?;
-        self.register(by, name, taken.xmin)?;
+        self.register(by, name, taken.xmin())?;
         Ok(taken)
     }
 
@@ -239,14 +239,14 @@ impl ProcTable {
 
     /// What a snapshot holds that is taken now. It is computed once, and shared until an end, an undo or a sub event
     /// changes it (`GetSnapshotDataReuse`).
-    pub fn snapshot_data(&mut self) -> Result<SnapData, Memory>
+    pub fn snapshot_data(&mut self) -> Result<SharedSnap, Memory>
         ensures data { IfOk result (λ s. s ≡ data_at self.old) }
         ensures same { self.new ≡ self.old }
     {
         if let Some(contents) = &self.contents {
             return Ok(contents.clone()?);
         }
-        let contents = self.compute()?;
+        let contents = SharedSnap::of(*self.events.allocator(), self.compute()?)?;
         let copy = contents.clone()?;
         self.contents = Some(contents);
         self.computations = self.computations.wrapping_add(1);
@@ -281,9 +281,9 @@ impl ProcTable {
         requires registered { is_live self.old.base.next by.session name.now self.old.events ≡ true }
         ensures { Adds self.old self.new (events.SnapDrop name.now by) }
     {
-        let Some(_xmin) = self.live.take_out(by.session, name) else {
+        if !self.live.take_out(by.session, name) {
             unreachable!()
-        };
+        }
         self.events.push_reserved(Event::SnapDrop {
             by: ByWords::of(by),
             name: name.same(),

@@ -3,10 +3,8 @@ use Rattle.std.proofs.Common.{◌≡◌, ◌≢◌, ℕ, zero, suc, ◌+◌, ◌
 use Rattle.std.specs.List.{AllByRecursion, flat_map, slice_get}
 use Rattle.std.proofs.lemmas.Bool.{cases_Bool, cases_lt, false≢true}
 use Rattle.std.proofs.lemmas.List.{append-nil, get_or-set_other, get_or-set_same, length-set}
-use Rattle.tx_events.specs.declared.event.By.{By}
 use Rattle.tx_events.specs.declared.event.Event.{Event}
 use Rattle.tx_events.specs.declared.multi.MultiEvent.{MultiEvent}
-use Rattle.tx_events.specs.declared.multi.MultiEvent.TheVariants as multis
 use Rattle.tx_events.specs.Events.{by_of}
 use Rattle.tx_events.specs.Multis.{multi_by}
 use Rattle.tx_events.proofs.ListSteps.{eqb-refl}
@@ -16,7 +14,6 @@ use Rattle.tx_model.specs.declared.report.Step.{Step}
 use Rattle.tx_model.specs.declared.report.Step.TheVariants as steps
 use Rattle.tx_model.specs.declared.report.How.{How}
 use Rattle.tx_model.specs.Rounds.{lines_in}
-use Rattle.report_text.specs.EventText.{multi_by_of}
 use Rattle.report_lines.specs.Fits.{FitsStep}
 use Rattle.report_read.specs.Item.{Item}
 use Rattle.report_read.specs.Item as items
@@ -178,12 +175,6 @@ sound_push counts lines x s few next =
 named_few : (before names : List (List ℕ)) (session : ℕ) → IsNamed before session names → session < 64
 named_few before names session n = let a = n.within in let b = n.few in omega arith
 
-same_multi_by : (e : MultiEvent) → multi_by_of e ≡ multi_by e
-same_multi_by (multis.Gen by multi offset members) = refl
-same_multi_by (multis.Hold by multi) = refl
-same_multi_by (multis.Unhold by multi) = refl
-same_multi_by (multis.Raise by multi offset) = refl
-
 -- what is told otherwise of the lines so far is the same
 still_sound : (counts : List ℕ) (a b : List Line) → b ≡ a → AreSound counts a → AreSound counts b
 still_sound counts a b e s = subst (AreSound counts) (sym e) s
@@ -267,7 +258,7 @@ sound_after t (items.multi e) m s f = record {
   present = s.present;
   events = s.events;
   multis = all_append (λ (e : MultiEvent). IsFew (multi_by e)) t.multis (e ∷ []) s.multis
-      (subst (λ (b : By). IsFew b) (same_multi_by e) (named_few t.names m.names (multi_by_of e).session f.rule.0), tt);
+      (named_few t.names m.names (multi_by e).session f.rule.0, tt);
 }
 sound_after t (items.log l) m s f = record {
   lives = s.lives;

@@ -11,7 +11,8 @@ use Rattle.tx_events.specs.declared.multi.MultiEvent.TheVariants as multis
 use Rattle.tx_events.specs.Events.{by_of}
 use Rattle.report_text.specs.Words.{line_text}
 use Rattle.report_text.specs.MemberText.{member_words}
-use Rattle.report_text.specs.EventText.{event_word, event_words, event_rest, by_words, multi_event_word, multi_event_words, multi_by_of, multi_event_rest}
+use Rattle.tx_events.specs.Multis.{multi_by}
+use Rattle.report_text.specs.EventText.{event_word, event_words, event_rest, by_words, multi_event_word, multi_event_words, multi_event_rest}
 use Rattle.report_words.specs.Words.{behind, AreWords}
 use Rattle.report_words.specs.Fits.{FitsMember, AreNames}
 use Rattle.report_words.proofs.Again.{number_at_again, number_word, id_again, by_again, by_are_words, line_gives, name_word}
@@ -69,4 +70,4 @@ multi_event_are_words names (multis.Unhold by multi) n f = (search rules, by_are
 multi_event_are_words names (multis.Raise by multi offset) n f = (search rules, by_are_words names by (decimal multi ∷ decimal offset ∷ []) n f.0 (number_word multi f.1.0, (number_word offset f.2, tt)))
 
 pub multi_line_again : (names : List (List ℕ)) (bytes : List ℕ) (e : MultiEvent) → AreNames names → 1 ≤ length bytes → FitsMultiEvent names e → drop 1 bytes ≡ line_text (multi_event_words names e) → multi_event_at names (behind (take (length bytes - 1) bytes)) ≡ Some e
-multi_line_again names bytes e n s f t = line_gives (multi_event_at names) bytes (multi_event_word e) (by_words names (multi_by_of e) ++ multi_event_rest e) (Some e) s (multi_event_again names e n f) (multi_event_are_words names e n f) t
+multi_line_again names bytes e n s f t = line_gives (multi_event_at names) bytes (multi_event_word e) (by_words names (multi_by e) ++ multi_event_rest e) (Some e) s (multi_event_again names e n f) (multi_event_are_words names e n f) t

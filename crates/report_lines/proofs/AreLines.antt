@@ -14,7 +14,8 @@ use Rattle.tx_model.specs.declared.report.Step.{Step}
 use Rattle.tx_model.specs.declared.report.Step.TheVariants as steps
 use Rattle.report_text.specs.Words.{more, line_text, name_at}
 use Rattle.report_text.specs.CommandText.{command_word, command_rest}
-use Rattle.report_text.specs.EventText.{event_word, event_rest, by_words, multi_event_word, multi_by_of, multi_event_rest}
+use Rattle.tx_events.specs.Multis.{multi_by}
+use Rattle.report_text.specs.EventText.{event_word, event_rest, by_words, multi_event_word, multi_event_rest}
 use Rattle.report_text.specs.RecordText.{record_words, counters_words}
 use Rattle.report_text.specs.ReplyText.{reply_words}
 use Rattle.report_text.specs.ReportText.{command_line, crash_text, dump_words, life_line, round_line, step_text, title_text}
@@ -57,7 +58,7 @@ pub event_is_line : (names : List (List ℕ)) (e : Event) → AreNames names →
 event_is_line names e n f = words_are_line (event_word e) (by_words names (by_of e) ++ event_rest e) (event_are_words names e n f)
 
 pub multi_is_line : (names : List (List ℕ)) (e : MultiEvent) → AreNames names → FitsMultiEvent names e → IsLine (multi_line names e)
-multi_is_line names e n f = words_are_line (multi_event_word e) (by_words names (multi_by_of e) ++ multi_event_rest e) (multi_event_are_words names e n f)
+multi_is_line names e n f = words_are_line (multi_event_word e) (by_words names (multi_by e) ++ multi_event_rest e) (multi_event_are_words names e n f)
 
 pub command_is_line : (names : List (List ℕ)) (l : Line) → AreNames names → FitsLine names l → IsLine (command_line names l)
 command_is_line names l n f = words_are_line (name_at names l.by.session) (decimal l.by.command ∷ command_word l.command ∷ (command_rest l.command ++ codes "->" ∷ reply_words names l.reply)) (said_are_words names l n f)

@@ -8,7 +8,8 @@ use Rattle.tx_model.specs.declared.report.Step.{Step}
 use Rattle.tx_model.specs.declared.report.Step.TheVariants as steps
 use Rattle.report_text.specs.Words.{name_at}
 use Rattle.report_text.specs.CommandText.{command_word, command_rest}
-use Rattle.report_text.specs.EventText.{event_word, event_words, event_rest, by_words, multi_event_word, multi_event_words, multi_by_of, multi_event_rest}
+use Rattle.tx_events.specs.Multis.{multi_by}
+use Rattle.report_text.specs.EventText.{event_word, event_words, event_rest, by_words, multi_event_word, multi_event_words, multi_event_rest}
 use Rattle.report_text.specs.RecordText.{record_words, counters_words}
 use Rattle.report_text.specs.ReplyText.{reply_words}
 use Rattle.report_text.specs.ReportText.{crash_text, dump_words, life_line, step_text}
@@ -76,7 +77,7 @@ line_words t (items.step s) names bytes l r e = step_again names s bytes l r.1 r
 line_words t items.history names bytes l r e = line_again bytes (codes "history") [] l (search rules, tt) e
 line_words t (items.event v) names bytes l r e = line_again bytes (event_word v) (by_words names (by_of v) ++ event_rest v) l (event_are_words names v r.0.are r.1) e
 line_words t items.multis names bytes l r e = line_again bytes (codes "multis") [] l (search rules, tt) e
-line_words t (items.multi v) names bytes l r e = line_again bytes (multi_event_word v) (by_words names (multi_by_of v) ++ multi_event_rest v) l (multi_event_are_words names v r.0.are r.1) e
+line_words t (items.multi v) names bytes l r e = line_again bytes (multi_event_word v) (by_words names (multi_by v) ++ multi_event_rest v) l (multi_event_are_words names v r.0.are r.1) e
 line_words t (items.log h) names bytes l r e = line_again bytes (codes "log") (codes "flushed" ∷ decimal h.flushed ∷ codes "end" ∷ decimal h.end ∷ []) l (log_are_words h r.1) e
 line_words t (items.logged number c) names bytes l r e = line_again bytes (decimal number) (record_words c) l (number_word number r.2, record_are_words number c r.3) e
 line_words t (items.crash how) names bytes l r e = crash_again how bytes l e

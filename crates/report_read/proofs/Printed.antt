@@ -16,7 +16,8 @@ use Rattle.tx_model.specs.declared.reply.Reply.{Reply}
 use Rattle.tx_model.specs.declared.reply.Reply.TheVariants as replies
 use Rattle.report_text.specs.Words.{line_text, name_at}
 use Rattle.report_text.specs.CommandText.{command_words}
-use Rattle.report_text.specs.EventText.{event_word, event_rest, multi_by_of, multi_event_word, multi_event_rest}
+use Rattle.tx_events.specs.Multis.{multi_by}
+use Rattle.report_text.specs.EventText.{event_word, event_rest, multi_event_word, multi_event_rest}
 use Rattle.report_text.specs.RecordText.{records_text}
 use Rattle.report_text.specs.ReplyText.{reply_words, refusal_word}
 use Rattle.report_text.specs.ReportText.{command_line, crash_text, dump_words, end_text, history_text, life_line, life_text, lives_text, log_text, multis_text, report_text, round_line, step_text, title_text}
@@ -255,7 +256,7 @@ names_extend t (items.round k) names r = extends_refl t.names names r.0
 names_extend t (items.command l) names r = named_extends t.names l.by.session names r.0
 names_extend t (items.step s) names r = are_extended t.names (session_of s) names r.0
 names_extend t (items.event e) names r = named_extends t.names (by_of e).session names r.0
-names_extend t (items.multi e) names r = named_extends t.names (multi_by_of e).session names r.0
+names_extend t (items.multi e) names r = named_extends t.names (multi_by e).session names r.0
 names_extend t (items.log l) names r = extends_refl t.names names r.0
 names_extend t (items.logged k q) names r = extends_refl t.names names r.0
 names_extend t _ names r = extends_refl t.names names r
@@ -292,7 +293,7 @@ line_stays t (items.command l) n names x r =
     ∙ ap (λ ws. line_text (name_at names l.by.session ∷ decimal l.by.command ∷ (command_words l.command ++ codes "->" ∷ ws))) (reply_stays (kind_of l.command) l.reply n names r.1.reply)
 line_stays t (items.step s) n names x r = step_stays s n names x r.2
 line_stays t (items.event e) n names x r = ap (λ w. line_text (event_word e ∷ w ∷ decimal (by_of e).command ∷ event_rest e)) (x (by_of e).session r.0.within).1
-line_stays t (items.multi e) n names x r = ap (λ w. line_text (multi_event_word e ∷ w ∷ decimal (multi_by_of e).command ∷ multi_event_rest e)) (x (multi_by_of e).session r.0.within).1
+line_stays t (items.multi e) n names x r = ap (λ w. line_text (multi_event_word e ∷ w ∷ decimal (multi_by e).command ∷ multi_event_rest e)) (x (multi_by e).session r.0.within).1
 line_stays t _ n names x r = refl
 
 -- ---- whole runs

@@ -20,7 +20,8 @@ use Rattle.tx_model.specs.declared.report.Step.TheVariants as steps
 use Rattle.tx_model.specs.declared.reply.Reply.{Reply}
 use Rattle.tx_model.specs.declared.reply.Reply.TheVariants as replies
 use Rattle.report_text.specs.Words.{name_at}
-use Rattle.report_text.specs.EventText.{multi_event_word, multi_by_of}
+use Rattle.tx_events.specs.Multis.{multi_by}
+use Rattle.report_text.specs.EventText.{multi_event_word}
 use Rattle.report_text.specs.ReplyText.{refusal_word, reply_words}
 use Rattle.report_text.specs.ReportText.{command_line, crash_text, dump_words, step_text}
 use Rattle.report_words.specs.Fits.{AreNames, FitsCheckpointReply, FitsCheckpointRefusal, IsPending}
@@ -142,7 +143,7 @@ pub event_second : (names : List (List ℕ)) (e : Event) → second_word (item_w
 unfolding second_word
 event_second names e = refl
 
-pub multi_second : (names : List (List ℕ)) (e : MultiEvent) → second_word (item_words names (items.multi e)) ≡ Some (name_at names (multi_by_of e).session)
+pub multi_second : (names : List (List ℕ)) (e : MultiEvent) → second_word (item_words names (items.multi e)) ≡ Some (name_at names (multi_by e).session)
 unfolding second_word
 multi_second names e = refl
 
@@ -312,7 +313,7 @@ module _ (t : Told) where
 
   multis_same : (l r : MultiEvent) (m k : List (List ℕ)) → Rule t (items.multi l) m → Rule t (items.multi r) k → multi_line m l ≡ multi_line k r → SameLine (items.multi l) (items.multi r) m k
   multis_same l r m k a b e =
-      let n : m ≡ k = named_same t.names (multi_by_of l).session (multi_by_of r).session m k a.0 b.0 (some_same _ _ (sym (multi_second m l) ∙ ap second_word (same_words t (items.multi l) (items.multi r) m k a b e) ∙ multi_second k r)) in
+      let n : m ≡ k = named_same t.names (multi_by l).session (multi_by r).session m k a.0 b.0 (some_same _ _ (sym (multi_second m l) ∙ ap second_word (same_words t (items.multi l) (items.multi r) m k a b e) ∙ multi_second k r)) in
       record { item = ap items.multi (multi_same k l r b.0.are (subst (λ q. FitsMultiEvent q l) n a.1) b.1 (ap (λ q. multi_line q l) (sym n) ∙ e)); names = n }
 
   steps_same : (l r : Step) (m k : List (List ℕ)) → Rule t (items.step l) m → Rule t (items.step r) k → step_text m l ≡ step_text k r → SameLine (items.step l) (items.step r) m k

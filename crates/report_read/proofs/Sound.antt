@@ -3,7 +3,7 @@ use Rattle.std.proofs.Common.{◌≡◌, ℕ, ◌+◌, ◌≤◌, zero, suc, Lis
 use Rattle.std.proofs.lemmas.Bool.{false≢true}
 use Rattle.tx_events.specs.Events.{by_of}
 use Rattle.tx_model.specs.declared.report.LifeReport.{LifeReport}
-use Rattle.report_text.specs.EventText.{multi_by_of}
+use Rattle.tx_events.specs.Multis.{multi_by}
 use Rattle.report_read.specs.Item.{Item}
 use Rattle.report_read.specs.Item as items
 use Rattle.report_read.specs.Grammar.{AreNamed, Follows, IsNamed, Rule, after, is_history, is_log, is_multis, may_stand, no_counts, session_of}
@@ -32,7 +32,7 @@ follow_few t (items.round k) names f r = same_few t.names names r.0 f
 follow_few t (items.command l) names f r = named_few t.names l.by.session names r.0
 follow_few t (items.step s) names f r = are_few t.names (session_of s) names r.0 f
 follow_few t (items.event e) names f r = named_few t.names (by_of e).session names r.0
-follow_few t (items.multi e) names f r = named_few t.names (multi_by_of e).session names r.0
+follow_few t (items.multi e) names f r = named_few t.names (multi_by e).session names r.0
 follow_few t (items.log l) names f r = same_few t.names names r.0 f
 follow_few t (items.logged k q) names f r = same_few t.names names r.0 f
 follow_few t _ names f r = same_few t.names names r f

@@ -11,7 +11,8 @@ use Rattle.tx_events.specs.declared.multi.MultiEvent.TheVariants as multis
 use Rattle.tx_events.specs.declared.record.Rec.{Rec}
 use Rattle.tx_model.specs.declared.report.How.{How}
 use Rattle.report_text.specs.Words.{name_at}
-use Rattle.report_text.specs.EventText.{event_rest, event_word, by_words, multi_by_of, multi_event_rest, multi_event_word}
+use Rattle.tx_events.specs.Multis.{multi_by}
+use Rattle.report_text.specs.EventText.{event_rest, event_word, by_words, multi_event_rest, multi_event_word}
 use Rattle.report_text.specs.ReportText.{crash_text, end_text, title_text}
 use Rattle.report_words.specs.Words.{behind}
 use Rattle.report_lines.specs.declared.life.Start.{Start}
@@ -116,11 +117,11 @@ event_taken t bytes w noted e m s l n q f i within g =
 
 -- ---- multixact events
 
-multi_names : (t : Told) (bytes : List ℕ) (e : MultiEvent) (names : Names) → 1 ≤ length bytes → Rule t (items.multi e) names → drop 1 bytes ≡ multi_line names e → second_word (words_in bytes) ≡ Some (name_at names (multi_by_of e).session)
+multi_names : (t : Told) (bytes : List ℕ) (e : MultiEvent) (names : Names) → 1 ≤ length bytes → Rule t (items.multi e) names → drop 1 bytes ≡ multi_line names e → second_word (words_in bytes) ≡ Some (name_at names (multi_by e).session)
 multi_names t bytes e names l r g = ap second_word (line_words t (items.multi e) names bytes l r g) ∙ multi_second names e
 
 pub multi_unnamed : (t : Told) (bytes : List ℕ) → 1 ≤ length bytes → second_word (words_in bytes) ≡ None → (e : MultiEvent) (names : Names) → Rule t (items.multi e) names → drop 1 bytes ≡ multi_line names e → ⊥
-multi_unnamed t bytes l n e names r g = some_none (name_at names (multi_by_of e).session) (sym (multi_names t bytes e names l r g) ∙ n)
+multi_unnamed t bytes l n e names r g = some_none (name_at names (multi_by e).session) (sym (multi_names t bytes e names l r g) ∙ n)
 
 multi_noted : (t : Told) (bytes w : List ℕ) → 1 ≤ length bytes → second_word (words_in bytes) ≡ Some w → (e : MultiEvent) (names : Names) → Rule t (items.multi e) names → drop 1 bytes ≡ multi_line names e → names ≡ note t.names w
 multi_noted t bytes w l n e names r g = r.0.noted ∙ ap (note t.names) (some_same _ _ (sym (multi_names t bytes e names l r g) ∙ n))
@@ -133,10 +134,10 @@ multi_unread t bytes w noted l n q d e names r g =
     let same : names ≡ noted = multi_noted t bytes w l n e names r g ∙ sym q in
     d e (record { fit = subst (λ (k : Names). FitsMultiEvent k e) same r.1; text = g ∙ ap (λ k. multi_line k e) same })
 
-pub multi_taken : (t : Told) (bytes w : List ℕ) (noted : Names) (e : MultiEvent) (m : Told) → t.stage ≡ stages.Multis → 1 ≤ length bytes → second_word (words_in bytes) ≡ Some w → noted ≡ note t.names w → AreFew noted → IsLineOf (FitsMultiEvent noted) (multi_line noted) (drop 1 bytes) e → (FitsMultiEvent noted e → (multi_by_of e).session < length noted) → m ≡ record (after t (items.multi e)) { names = noted } → IsTaken t m (drop 1 bytes)
+pub multi_taken : (t : Told) (bytes w : List ℕ) (noted : Names) (e : MultiEvent) (m : Told) → t.stage ≡ stages.Multis → 1 ≤ length bytes → second_word (words_in bytes) ≡ Some w → noted ≡ note t.names w → AreFew noted → IsLineOf (FitsMultiEvent noted) (multi_line noted) (drop 1 bytes) e → (FitsMultiEvent noted e → (multi_by e).session < length noted) → m ≡ record (after t (items.multi e)) { names = noted } → IsTaken t m (drop 1 bytes)
 multi_taken t bytes w noted e m s l n q f i within g =
-    let ws : words_in bytes ≡ item_words noted (items.multi e) = line_again bytes (multi_event_word e) (by_words noted (multi_by_of e) ++ multi_event_rest e) l (multi_event_are_words noted e f.are i.fit) i.text in
-    let named : w ≡ name_at noted (multi_by_of e).session = some_same _ _ (sym n ∙ ap second_word ws ∙ multi_second noted e) in
+    let ws : words_in bytes ≡ item_words noted (items.multi e) = line_again bytes (multi_event_word e) (by_words noted (multi_by e) ++ multi_event_rest e) l (multi_event_are_words noted e f.are i.fit) i.text in
+    let named : w ≡ name_at noted (multi_by e).session = some_same _ _ (sym n ∙ ap second_word ws ∙ multi_second noted e) in
     let names : m.names ≡ noted = ap (λ (k : Told). k.names) g in
     record {
       item = items.multi e;
@@ -195,7 +196,7 @@ pub event_within : (names : Names) (e : Event) → FitsEvent names e → (by_of 
 event_within names (events.Id by id) f = f.0.session
 event_within names _ f = f.0.session
 
-pub multi_within : (names : Names) (e : MultiEvent) → FitsMultiEvent names e → (multi_by_of e).session < length names
+pub multi_within : (names : Names) (e : MultiEvent) → FitsMultiEvent names e → (multi_by e).session < length names
 multi_within names (multis.Gen by multi offset members) f = f.0.session
 multi_within names _ f = f.0.session
 

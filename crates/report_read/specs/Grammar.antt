@@ -8,7 +8,7 @@ use Rattle.tx_model.specs.declared.report.Step.{Step}
 use Rattle.tx_model.specs.declared.report.Step.TheVariants as steps
 use Rattle.tx_model.specs.declared.reply.Reply.TheVariants as replies
 use Rattle.report_text.specs.Words.{line_text, name_at}
-use Rattle.report_text.specs.EventText.{multi_by_of}
+use Rattle.tx_events.specs.Multis.{multi_by}
 use Rattle.report_text.specs.ReportText.{command_line, crash_text, end_text, round_line, step_text, title_text}
 use Rattle.report_words.specs.Reading.{name_place}
 use Rattle.report_words.specs.Fits.{AreNames}
@@ -197,7 +197,7 @@ Rule t (items.step s) names = AreNamed t.names (session_of s) names × AreNames 
 Rule t items.history names = names ≡ t.names
 Rule t (items.event e) names = IsNamed t.names (by_of e).session names × FitsEvent names e
 Rule t items.multis names = names ≡ t.names
-Rule t (items.multi e) names = IsNamed t.names (multi_by_of e).session names × FitsMultiEvent names e
+Rule t (items.multi e) names = IsNamed t.names (multi_by e).session names × FitsMultiEvent names e
 Rule t (items.log l) names = (names ≡ t.names) × FitsLog l
 Rule t (items.logged number r) names = (names ≡ t.names) × (number ≡ t.start.from + length t.recs) × (number < 2 ^ 64) × FitsRecord number r
 Rule t (items.crash how) names = names ≡ t.names

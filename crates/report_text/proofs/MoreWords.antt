@@ -78,6 +78,10 @@ pub then_short_line : (o w : List ℕ) → (o ++ w) ++ 10 ∷ [] ≡ o ++ line_t
 unfolding line_text more
 then_short_line o w = append_assoc o w (10 ∷ []) ∙ ap (λ t. o ++ (t ++ 10 ∷ [])) (sym (append-nil w))
 
+-- a line's front: a name, a number and words
+pub then_front : (o w d : List ℕ) (ws : List (List ℕ)) → ((o ++ w) ++ more (d ∷ [])) ++ more ws ≡ o ++ (w ++ more (d ∷ ws))
+then_front o w d ws = then_more (o ++ w) (d ∷ []) ws ∙ append_assoc o w (more (d ∷ ws))
+
 -- a call that adds words after a call that has added some
 pub go_on : {T E : Type 0} (r : Result T E) (o a b : List ℕ) (xs ys : List (List ℕ)) → a ≡ o ++ more xs → OnOk r (b ≡ a ++ more ys) → OnOk r (b ≡ o ++ more (xs ++ ys))
 go_on (Ok x) o a b xs ys e h = h ∙ ap (λ t. t ++ more ys) e ∙ then_more o xs ys

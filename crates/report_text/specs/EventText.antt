@@ -4,6 +4,7 @@ use Rattle.std.specs.Fmt.{decimal}
 use Rattle.report_text.specs.Words.{name_at}
 use Rattle.report_text.specs.MemberText.{member_words}
 use Rattle.tx_events.specs.Events.{by_of}
+use Rattle.tx_events.specs.Multis.{multi_by}
 use Rattle.tx_events.specs.declared.event.By.{By}
 use Rattle.tx_events.specs.declared.event.Event.{Event}
 use Rattle.tx_events.specs.declared.event.Event.TheVariants as events
@@ -49,13 +50,6 @@ multi_event_word (multis.Hold by multi) = codes "hold"
 multi_event_word (multis.Unhold by multi) = codes "unhold"
 multi_event_word (multis.Raise by multi offset) = codes "raise"
 
--- whose it is
-abbrev pub multi_by_of : MultiEvent → By
-multi_by_of (multis.Gen by multi offset members) = by
-multi_by_of (multis.Hold by multi) = by
-multi_by_of (multis.Unhold by multi) = by
-multi_by_of (multis.Raise by multi offset) = by
-
 -- its words behind the session and the number
 abbrev pub multi_event_rest : MultiEvent → List (List ℕ)
 multi_event_rest (multis.Gen by multi offset members) = decimal multi ∷ decimal offset ∷ member_words members
@@ -65,4 +59,4 @@ multi_event_rest (multis.Raise by multi offset) = decimal multi ∷ decimal offs
 
 -- the line of a multixact event
 abbrev pub multi_event_words : List (List ℕ) → MultiEvent → List (List ℕ)
-multi_event_words names e = multi_event_word e ∷ by_words names (multi_by_of e) ++ multi_event_rest e
+multi_event_words names e = multi_event_word e ∷ by_words names (multi_by e) ++ multi_event_rest e

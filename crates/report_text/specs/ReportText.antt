@@ -2,13 +2,16 @@
 use Rattle.std.specs.Prelude.{ℕ, ◌+◌, List, [], ◌∷◌, ◌++◌, codes, Option, Some, None}
 use Rattle.std.specs.List.{flat_map}
 use Rattle.std.specs.Fmt.{decimal}
-use Rattle.report_text.specs.Words.{line_text}
+use Rattle.report_text.specs.Words.{line_text, more, name_at}
 use Rattle.report_text.specs.CommandText.{command_words}
-use Rattle.report_text.specs.ReplyText.{reply_words}
+use Rattle.report_text.specs.ReplyText.{reply_words, snapshot_words}
 use Rattle.report_text.specs.EventText.{event_words, multi_event_words, by_words}
 use Rattle.report_text.specs.RecordText.{counters_words, records_text}
 use Rattle.tx_events.specs.declared.event.Event.{Event}
 use Rattle.tx_events.specs.declared.multi.MultiEvent.{MultiEvent}
+use Rattle.tx_events.specs.declared.event.By.{By}
+use Rattle.tx_events.specs.declared.snapshot.SnapData.{SnapData}
+use Rattle.tx_model.specs.declared.command.Command.{Command}
 use Rattle.tx_model.specs.declared.report.DumpOf.{DumpOf}
 use Rattle.tx_model.specs.declared.report.DumpOf.TheVariants as dumps
 use Rattle.tx_model.specs.declared.report.Line.{Line}
@@ -24,6 +27,14 @@ use Rattle.tx_model.specs.declared.report.Report.{Report}
 -- a command with its reply
 abbrev pub command_line : List (List ℕ) → Line → List ℕ
 command_line names l = line_text (by_words names l.by ++ command_words l.command ++ codes "->" ∷ reply_words names l.reply)
+
+-- its line up to the arrow
+abbrev pub line_front : List (List ℕ) → By → Command → List ℕ
+line_front names by command = name_at names by.session ++ more (decimal by.command ∷ command_words command)
+
+-- and from the arrow on, where the reply tells what a snapshot holds
+abbrev pub snapshot_end : SnapData → List ℕ
+snapshot_end s = more (codes "->" ∷ codes "ok" ∷ snapshot_words s) ++ 10 ∷ []
 
 -- what a dump shows bytes of
 abbrev pub dump_words : DumpOf → List (List ℕ)

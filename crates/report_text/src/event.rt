@@ -2,9 +2,8 @@
 ghost use Rattle.std.specs.Prelude.{◌≡◌, [], ◌∷◌, ◌++◌, OnOk};
 ghost use Rattle.std.specs.List.{flat_map};
 ghost use Rattle.std.specs.Fmt.{decimal};
-ghost use Rattle.tx_events.specs.Events.{by_of};
 ghost use Rattle.report_text.specs.Words.{more, line_text};
-ghost use Rattle.report_text.specs.EventText.{by_words, event_word, event_rest, event_words, multi_event_word, multi_by_of, multi_event_rest, multi_event_words};
+ghost use Rattle.report_text.specs.EventText.{by_words, event_word, event_rest, event_words, multi_event_word, multi_event_rest, multi_event_words};
 
 use crate::member::put_members;
 use crate::text::{Text, name_of};
@@ -36,22 +35,6 @@ fn put_event_word(out: &mut Text, event: &Event) -> Result<(), Memory>
     }
 }
 
-fn by_of(event: &Event) -> By
-    ensures { result ≡ by_of event.now }
-{
-    match event {
-        Event::Id { by, .. } => by.get(),
-        Event::Sub { by, .. } => by.get(),
-        Event::Undo { by, .. } => by.get(),
-        Event::Commit { by, .. } => by.get(),
-        Event::Abort { by, .. } => by.get(),
-        Event::Snap { by, .. } => by.get(),
-        Event::SnapDrop { by, .. } => by.get(),
-        Event::Oldest { by, .. } => by.get(),
-        Event::Ask { by, .. } => by.get(),
-    }
-}
-
 #[tactic(auto, using(crate::proofs::MoreWords::then_more))]
 fn put_event_rest(out: &mut Text, event: &Event) -> Result<(), Memory>
     ensures ok { OnOk result (out.new ≡ out.old ++ more (event_rest event.now)) }
@@ -78,7 +61,7 @@ pub fn put_event(out: &mut Text, names: &NameList, event: &Event) -> Result<(), 
     ensures ok { OnOk result (out.new ≡ out.old ++ line_text (event_words names.now event.now)) }
 {
     put_event_word(out, event)?;
-    put_by(out, names, by_of(event))?;
+    put_by(out, names, event.by())?;
     put_event_rest(out, event)?;
     out.end_line()
 }
@@ -103,17 +86,6 @@ fn put_multi_event_word(out: &mut Text, event: &MultiEvent) -> Result<(), Memory
         MultiEvent::Hold { .. } => out.put(b"hold"),
         MultiEvent::Unhold { .. } => out.put(b"unhold"),
         MultiEvent::Raise { .. } => out.put(b"raise"),
-    }
-}
-
-fn multi_by_of(event: &MultiEvent) -> By
-    ensures { result ≡ multi_by_of event.now }
-{
-    match event {
-        MultiEvent::Gen { by, .. } => by.get(),
-        MultiEvent::Hold { by, .. } => by.get(),
-        MultiEvent::Unhold { by, .. } => by.get(),
-        MultiEvent::Raise { by, .. } => by.get(),
     }
 }
 
@@ -147,7 +119,7 @@ pub fn put_multi_event(out: &mut Text, names: &NameList, event: &MultiEvent) -> 
     ensures ok { OnOk result (out.new ≡ out.old ++ line_text (multi_event_words names.now event.now)) }
 {
     put_multi_event_word(out, event)?;
-    put_by(out, names, multi_by_of(event))?;
+    put_by(out, names, event.by())?;
     put_multi_event_rest(out, event)?;
     out.end_line()
 }

@@ -7,6 +7,7 @@ use std::alloc::Global;
 use std::marker::Model;
 use text_bytes::Bytes;
 use tx_events::{FullXid, Memory};
+use tx_model::SharedSnap;
 
 // Shorter lists are printed anew.
 const MANY: usize = 8;
@@ -22,6 +23,24 @@ fn are_same(a: &[FullXid], b: &[FullXid]) -> bool
         differing |= a[i].number() ^ b[i].number();
     }
     differing == 0
+}
+
+/// The same of lists of any length.
+fn are_same_lists(a: &[FullXid], b: &[FullXid]) -> bool
+    ensures { IsTrue result → a.now ≡ b.now }
+{
+    a.len() == b.len() && are_same(a, b)
+}
+
+/// Whether two snapshots hold the same.
+pub fn is_same_snapshot(a: &SharedSnap, b: &SharedSnap) -> bool
+    ensures { IsTrue result → a.now ≡ b.now }
+{
+    a.xmax() == b.xmax()
+        && a.xmin() == b.xmin()
+        && a.overflowed() == b.overflowed()
+        && are_same_lists(a.xip(), b.xip())
+        && are_same_lists(a.subxip(), b.subxip())
 }
 
 /// The list of ids that was printed last, with its words, so that these need not be made anew for the same list. A
@@ -58,7 +77,7 @@ impl Printed {
     fn is_of(&self, ids: &[FullXid]) -> bool
         ensures { IsTrue result → self.now ≡ ids.now }
     {
-        self.ids.len() == ids.len() && are_same(&self.ids, ids)
+        are_same_lists(&self.ids, ids)
     }
 
     // Where there is no memory, none are kept.

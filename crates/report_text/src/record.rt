@@ -93,7 +93,7 @@ fn put_record(out: &mut Text, rec: &Rec) -> Result<(), Memory>
             offset,
             members,
         } => put_multi(out, multi.number(), *offset, members),
-        Rec::Checkpoint { counters, .. } => put_checkpoint(out, counters),
+        Rec::Checkpoint { counters, .. } => put_checkpoint(out, counters.get()),
         Rec::Truncate {
             oldest,
             multi,

@@ -71,8 +71,9 @@ fn put_snapshot(out: &mut Text, lists: &SharedSnap) -> Result<(), Memory>
     put_yes_or_no(out, lists.overflowed())
 }
 
+/// An arrow, and what a snapshot holds.
 #[tactic(auto, using(crate::proofs::MoreWords::then_more))]
-fn put_snapped(out: &mut Text, lists: &SharedSnap) -> Result<(), Memory>
+pub fn put_snapped(out: &mut Text, lists: &SharedSnap) -> Result<(), Memory>
     ensures ok { OnOk result (out.new ≡ out.old ++ more (codes "->" ∷ codes "ok" ∷ snapshot_words lists.now)) }
 {
     put_ok(out)?;

@@ -4,12 +4,12 @@ ghost use Rattle.std.specs.List.{flat_map};
 ghost use Rattle.std.specs.Fmt.{decimal};
 ghost use Rattle.report_text.specs.Words.{more, line_text};
 ghost use Rattle.report_text.specs.ReplyText.{reply_words};
-ghost use Rattle.report_text.specs.ReportText.{command_line, dump_words, round_line, step_text};
+ghost use Rattle.report_text.specs.ReportText.{command_line, dump_words, line_front, round_line, snapshot_end, step_text};
 
 use crate::command::put_command;
-use crate::reply::put_answer;
+use crate::reply::{put_answer, put_snapped};
 use crate::text::{Text, name_of};
-use tx_model::{By, Command, DumpOf, Line, Memory, NameList, Reply, Step};
+use tx_model::{By, Command, DumpOf, Line, Memory, NameList, Reply, SharedSnap, Step};
 
 /// The line of a command with its reply.
 #[tactic(auto, using(crate::proofs::MoreWords::then_more, crate::proofs::MoreWords::then_line))]
@@ -26,6 +26,29 @@ pub fn put_command_line(
     out.number(by.command)?;
     put_command(out, command)?;
     put_answer(out, names, reply)?;
+    out.end_line()
+}
+
+/// The line of a command up to the arrow.
+#[tactic(auto, using(crate::proofs::MoreWords::then_front))]
+pub fn put_line_front(
+    out: &mut Text,
+    names: &NameList,
+    by: By,
+    command: &Command,
+) -> Result<(), Memory>
+    ensures ok { OnOk result (out.new ≡ out.old ++ line_front names.now by command.now) }
+{
+    out.front(name_of(names, by.session))?;
+    out.number(by.command)?;
+    put_command(out, command)
+}
+
+/// The end of a line that tells what a snapshot holds, from the arrow on.
+pub fn put_snapshot_end(out: &mut Text, lists: &SharedSnap) -> Result<(), Memory>
+    ensures ok { OnOk result (out.new ≡ out.old ++ snapshot_end lists.now) }
+{
+    put_snapped(out, lists)?;
     out.end_line()
 }
 

@@ -8,7 +8,7 @@ use crate::unread::Unread;
 use crate::word::{full_id, word_at};
 use std::alloc::Global;
 use tx_events::FullXid;
-use tx_model::{Counters, IdList, SharedIds, SnapData};
+use tx_model::{Counters, IdList, SnapData};
 
 /// The counters, each behind its word.
 #[tactic(auto, unfolding(crate::specs::Reading::counters_at))]
@@ -56,8 +56,8 @@ fn snap_lists_at(
     Ok(SnapData {
         xmin,
         xmax,
-        xip: SharedIds::of(alloc, xip)?,
-        subxip: SharedIds::of(alloc, subxip)?,
+        xip,
+        subxip,
         overflowed,
     })
 }

@@ -7,7 +7,7 @@ ghost use Rattle.proc_table.specs.Table.{InTurn};
 use crate::numbers::{id, multi};
 use proc_table::{Asked, Given, ProcTable};
 use std::process::Abort;
-use tx_events::{By, Counters, FullXid, Name, Refusal, SnapData, XactEnd, is_base};
+use tx_events::{By, Counters, FullXid, Name, Refusal, SharedSnap, XactEnd, is_base};
 
 /// From here on commands have one number.
 const MOST_COMMANDS: u64 = 1_000_000;
@@ -88,7 +88,7 @@ impl Driver {
     }
 
     /// A snapshot under the name, or none where that is in use.
-    pub fn snap(&mut self, rt: &impl Abort, session: u32, name: &Name) -> Option<SnapData>
+    pub fn snap(&mut self, rt: &impl Abort, session: u32, name: &Name) -> Option<SharedSnap>
         requires { session < 3 }
     {
         let by = self.by(session);

@@ -8,7 +8,7 @@ use Wrote::{Id, NeedsPage, Warned};
 use proc_table::{Asked, Given};
 use std::process;
 use tx_events::XactEnd::{Abort, Commit};
-use tx_events::{Name, Refusal, SharedIds, XactEnd};
+use tx_events::{FullXid, Name, Refusal, XactEnd};
 
 /// What is done next, and what comes of it.
 #[derive(Clone, Copy)]
@@ -221,11 +221,11 @@ fn written(rt: &impl process::Abort, wanted: Wrote) -> Result<Given, Refusal> {
     }
 }
 
-fn are(ids: &SharedIds, numbers: &[u64]) -> bool {
-    if ids.items().len() != numbers.len() {
+fn are(ids: &[FullXid], numbers: &[u64]) -> bool {
+    if ids.len() != numbers.len() {
         return false;
     }
-    for (id, number) in ids.items().iter().zip(numbers) {
+    for (id, number) in ids.iter().zip(numbers) {
         if id.number() != *number {
             return false;
         }
@@ -254,10 +254,10 @@ fn does(rt: &impl process::Abort, procs: &mut Driver, session: u32, act: Act<'_>
             let Some(snap) = procs.snap(rt, session, &Name::of(&[letter])) else {
                 return false;
             };
-            (snap.xmin.number(), snap.xmax.number()) == limits
-                && snap.overflowed == overflowed
-                && are(&snap.xip, tops)
-                && are(&snap.subxip, subs)
+            (snap.xmin().number(), snap.xmax().number()) == limits
+                && snap.overflowed() == overflowed
+                && are(snap.xip(), tops)
+                && are(snap.subxip(), subs)
         }
         Act::Drop(letter) => procs.drop_snap(session, &Name::of(&[letter])),
         Act::SnapsAndDrops(letter, count) => {

@@ -1,17 +1,17 @@
 // What snapshots say, from rows worked out by hand.
 use std::process::Abort;
-use tx_events::{FullXid, IdList, SharedIds, Sight, SnapData, sight_of, sight_of_top};
+use tx_events::{FullXid, IdList, Sight, SnapData, sight_of, sight_of_top};
 
 fn id<R: Abort>(rt: &R, number: u64) -> FullXid {
     FullXid::new(number).expect(rt, "an id")
 }
 
-fn ids<R: Abort + AllocGlobal>(rt: &R, from: u64, to: u64) -> SharedIds {
+fn ids<R: Abort + AllocGlobal>(rt: &R, from: u64, to: u64) -> IdList {
     let mut list = IdList::new(rt.alloc());
     for number in from..to {
         assert!(rt; list.push(id(rt, number)).is_ok());
     }
-    SharedIds::of(rt.alloc(), list).expect(rt, "memory")
+    list
 }
 
 /// The sights of committed ids, by number.

@@ -1,18 +1,18 @@
 // What a session is shown under a snapshot, and where each lock stands in the order of the banks.
 use std::process::Abort;
 use tx_core::{State, is_seen, lock_number, member_lock, offset_lock, parent_lock, state_lock};
-use tx_events::{FullMulti, FullXid, Lock, Sequence, SharedIds, SnapData};
+use tx_events::{FullMulti, FullXid, IdList, Lock, SnapData};
 
 fn id<R: Abort>(rt: &R, number: u64) -> FullXid {
     FullXid::new(number).expect(rt, "a full id")
 }
 
-fn ids<R: Abort + AllocGlobal>(rt: &R, numbers: &[u64]) -> SharedIds {
-    let mut list = Sequence::new(rt.alloc());
+fn ids<R: Abort + AllocGlobal>(rt: &R, numbers: &[u64]) -> IdList {
+    let mut list = IdList::new(rt.alloc());
     for number in numbers {
         assert!(rt; list.push(id(rt, *number)).is_ok());
     }
-    SharedIds::of(rt.alloc(), list).expect(rt, "memory")
+    list
 }
 
 /// The snapshot with these bounds, and with these ids that ran and subtransactions of theirs.

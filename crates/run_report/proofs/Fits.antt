@@ -31,7 +31,6 @@ use Rattle.life_law.specs.MultiLines.{HasMultiEvents, IsNotYet, MayCarry}
 use Rattle.life_law.specs.MultiPlaces.{has_multi_line, multis_of}
 use Rattle.life_law.specs.MultiReplies.{MayReplyMulti}
 use Rattle.life_law.specs.MultiStanding.{gave_multi}
-use Rattle.report_text.specs.EventText.{multi_by_of}
 use Rattle.run_report.proofs.MultiFits.{GoodMultis, MadeFits, MultiNamed, first_fits, limit_fits, made_fit, member_to, multi_stop_fits, next_made_fits, oldest_multi_fits}
 use Rattle.tx_events.proofs.OwnEvents.{same_by_swap}
 use Rattle.tx_model.specs.CommandEvents.{HasEvents, MayHaveGiven, abort_event, ask_event, commit_event, giving, innermost, level_events, undo_event, was_asked}
@@ -352,7 +351,7 @@ pub multis_fit : (names : List (List ℕ)) (all : List MultiEvent) → AllByRecu
 multis_fit names [] a m = tt
 multis_fit names (e ∷ all) a m = (multi_fits names e a.0.by a.0.named m.0, multis_fit names all a.1 m.1)
 
-pub multi_fits_by : (names : List (List ℕ)) (e : MultiEvent) → FitsMultiEvent names e → FitsBy names (multi_by_of e)
+pub multi_fits_by : (names : List (List ℕ)) (e : MultiEvent) → FitsMultiEvent names e → FitsBy names (multi_by e)
 multi_fits_by names (multis.Gen by multi offset members) f = f.0
 multi_fits_by names (multis.Hold by multi) f = f.0
 multi_fits_by names (multis.Unhold by multi) f = f.0

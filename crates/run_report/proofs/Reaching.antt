@@ -22,7 +22,7 @@ use Rattle.tx_events.proofs.PlaceLemmas.{last_at}
 use Rattle.tx_model.specs.Lines.{is_line_of}
 use Rattle.tx_model.proofs.LineGrowth.{lines_counted}
 use Rattle.tx_events.specs.Names.{IsName}
-use Rattle.report_text.specs.EventText.{multi_by_of}
+use Rattle.tx_events.specs.Multis.{multi_by}
 use Rattle.report_text.specs.Words.{name_at}
 use Rattle.tx_model.specs.declared.reply.Reply.TheVariants as replies
 use Rattle.report_words.specs.Fits.{AreNames, FitsCheckpointReply, FitsDumpReply, FitsReply}
@@ -394,6 +394,6 @@ multis_reach t [] st a few f = subst (λ l. Reaches t (record t { multis = l }))
 multis_reach t (e ∷ es) st a few f =
     let mid : Told = record t { multis = t.multis ++ e ∷ [] } in
     let fb = multi_fits_by t.names e f.0 in
-    let first : Follows t (items.multi e) mid = record { stands = rw st refl; rule = (known_named t.names (multi_by_of e).session a few fb.session, f.0); told = refl } in
+    let first : Follows t (items.multi e) mid = record { stands = rw st refl; rule = (known_named t.names (multi_by e).session a few fb.session, f.0); told = refl } in
     subst (λ l. Reaches t (record t { multis = l })) (append_assoc t.multis (e ∷ []) es)
     (follows_on t mid (record mid { multis = mid.multis ++ es }) (items.multi e) first (multis_reach mid es st a few f.1))

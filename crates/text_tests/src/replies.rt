@@ -4,12 +4,8 @@ use crate::reports::two_sessions;
 use report_text::{Text, put_command_line};
 use std::alloc::AllocGlobal;
 use std::process::Abort;
-use tx_events::{IdList, Lock, Mode, Refusal, Sequence, SharedIds, SnapData, Xid};
+use tx_events::{Lock, Mode, Refusal, Sequence, SnapData, Xid};
 use tx_model::{By, Command, MemberVerdict, Reply, SharedSnap, Verdict};
-
-fn shared(rt: &(impl Abort + AllocGlobal), ids: IdList) -> SharedIds {
-    SharedIds::of(rt.alloc(), ids).expect(rt, "memory")
-}
 
 /// With this reply the line of a `begin` is this one.
 fn check_line(rt: &(impl Abort + AllocGlobal), reply: &Reply, wanted: &str) {
@@ -32,8 +28,8 @@ pub fn snapshots_have_a_dash_for_no_ids(rt: &(impl Abort + AllocGlobal)) {
     let holds = SnapData {
         xmin: id(rt, 3),
         xmax: id(rt, 71),
-        xip: shared(rt, list(rt, [id(rt, 3)])),
-        subxip: shared(rt, Sequence::new(rt.alloc())),
+        xip: list(rt, [id(rt, 3)]),
+        subxip: Sequence::new(rt.alloc()),
         overflowed: true,
     };
     let lists = SharedSnap::of(rt.alloc(), holds).expect(rt, "memory");

@@ -39,6 +39,7 @@ start = record {
   committed = [];
   recorded = [];
   logged = [];
+  gate = 0;
   told = false;
   faults = [];
 }

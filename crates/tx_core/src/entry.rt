@@ -133,6 +133,8 @@ pub struct Start {
     pub recorded: RecList,
     /// The records that the log had when the life began, the checkpoint with which it began last.
     pub logged: RecList,
+    /// The place on the log's volume where the batches of these records end, and the first batch of the life may begin.
+    pub gate: u64,
     /// Whether the pages told at what offset each of the multixacts that were made before begins.
     pub told: bool,
     /// The volumes' counts of faults when the life began, by the numbers of their locks; 0 where there is none.

@@ -11,6 +11,7 @@ pub mod Families
 pub mod Running
 pub mod Visible
 pub mod Snapshots
+pub mod SharedSnaps
 pub mod Horizon
 pub mod Base
 pub mod LifeBase

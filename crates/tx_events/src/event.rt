@@ -1,4 +1,7 @@
 //! What happens under the ProcArray's lock.
+ghost use Rattle.std.specs.Prelude.{◌≡◌};
+ghost use Rattle.tx_events.specs.Events.{by_of};
+
 use crate::FullXid;
 use crate::by_words::ByWords;
 use crate::name::Name;
@@ -64,6 +67,25 @@ pub enum Event {
 }
 
 const _: () = prove!(size_of::<Event>() == 32);
+
+impl Event {
+    /// The command that it belongs to.
+    pub fn by(&self) -> By
+        ensures { result ≡ by_of self.now }
+    {
+        match self {
+            Event::Id { by, .. } => by.get(),
+            Event::Sub { by, .. } => by.get(),
+            Event::Undo { by, .. } => by.get(),
+            Event::Commit { by, .. } => by.get(),
+            Event::Abort { by, .. } => by.get(),
+            Event::Snap { by, .. } => by.get(),
+            Event::SnapDrop { by, .. } => by.get(),
+            Event::Oldest { by, .. } => by.get(),
+            Event::Ask { by, .. } => by.get(),
+        }
+    }
+}
 
 impl Copied for Event {
     fn copy(&self) -> Result<Self, Memory> {

@@ -2,8 +2,10 @@
 ghost use Rattle.std.specs.Prelude.{◌≡◌, ◌≤◌, ◌↔◌, Some};
 ghost use Rattle.tx_events.specs.declared.multi.Mode.{Mode};
 ghost use Rattle.tx_events.specs.Modes.{mode_number, mode_of};
+ghost use Rattle.tx_events.specs.Multis.{multi_by};
 
 use crate::by_words::ByWords;
+use crate::event::By;
 use crate::sequence::{Copied, Memory, Sequence};
 use crate::shared::Shared;
 use crate::{FullMulti, FullXid};
@@ -91,7 +93,21 @@ pub enum MultiEvent {
     },
 }
 
-const _: () = prove!(size_of::<MultiEvent>() == 48);
+const _: () = prove!(size_of::<MultiEvent>() == 40);
+
+impl MultiEvent {
+    /// The command that it belongs to.
+    pub fn by(&self) -> By
+        ensures { result ≡ multi_by self.now }
+    {
+        match self {
+            MultiEvent::Gen { by, .. } => by.get(),
+            MultiEvent::Hold { by, .. } => by.get(),
+            MultiEvent::Unhold { by, .. } => by.get(),
+            MultiEvent::Raise { by, .. } => by.get(),
+        }
+    }
+}
 
 impl Copied for MultiEvent {
     fn copy(&self) -> Result<Self, Memory> {

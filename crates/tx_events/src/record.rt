@@ -9,6 +9,7 @@ ghost use Rattle.tx_events.specs.Base.{first_base};
 
 use crate::multi::MemberList;
 use crate::sequence::{Copied, IdList, Memory, Sequence};
+use crate::shared_counters::SharedCounters;
 use crate::{FullMulti, FullXid};
 
 /// The counters that a life starts from and that a checkpoint keeps: what comes next and what is oldest, of ids,
@@ -78,7 +79,7 @@ pub enum Rec {
     /// The counters at a checkpoint, and this record's own number through all lives.
     Checkpoint {
         number: u64,
-        counters: Counters,
+        counters: SharedCounters,
     },
     /// The oldest numbers, logged before anything older is cut.
     Truncate {
@@ -87,6 +88,8 @@ pub enum Rec {
         offset: u64,
     },
 }
+
+const _: () = prove!(size_of::<Rec>() == 40);
 
 impl Rec {
     /// The number through all lives that the record itself carries. None exactly where it is no checkpoint.

@@ -51,8 +51,8 @@ impl<T> Sequence<T> {
         }
     }
 
-    // No items yet, with room for so many.
-    fn with_room(alloc: Global, count: usize) -> Result<Self, Memory>
+    /// No items yet, with room for so many.
+    pub fn with_room(alloc: Global, count: usize) -> Result<Self, Memory>
         ensures { IfOk result (λ s. s ≡ []) }
     {
         Ok(Sequence {
@@ -72,6 +72,13 @@ impl<T> Sequence<T> {
         ensures { result.now ≡ self.now }
     {
         self.items.as_slice()
+    }
+
+    /// The `Vec` of its items. Takes no memory.
+    pub fn into_vec(self) -> Vec<T>
+        ensures { result.items ≡ self }
+    {
+        self.items
     }
 }
 

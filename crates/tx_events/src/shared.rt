@@ -1,7 +1,6 @@
 //! Lists that copies share.
 ghost use Rattle.std.specs.Prelude.{◌≡◌, IfOk};
 
-use crate::FullXid;
 use crate::sequence::{Copied, Memory, Sequence};
 use std::alloc::{AllocError, Global};
 use std::marker::Model;
@@ -10,16 +9,15 @@ use std::sync::Arc;
 /// Items that copies share: a copy takes no memory. A contract sees the list of them.
 #[derive(Drop)]
 pub struct Shared<T> {
-    /// None where there are none.
-    items: Option<Arc<Sequence<T>>>,
+    items: Arc<Sequence<T>>,
 }
 
 impl<T> Model for Shared<T> {
-    ghost use Rattle.std.specs.Prelude.{List, [], unwrap_or, option_map};
+    ghost use Rattle.std.specs.Prelude.{List};
 
     ghost Value = { List T };
 
-    ghost view = { λ s. unwrap_or (option_map (λ a. a.value) s.items) [] };
+    ghost view = { λ s. s.items.value };
 }
 
 impl<T> Shared<T> {
@@ -27,23 +25,17 @@ impl<T> Shared<T> {
     pub fn items(&self) -> &[T]
         ensures { result.now ≡ self.now }
     {
-        match &self.items {
-            Some(items) => items.items(),
-            None => &[],
-        }
+        self.items.items()
     }
 }
 
 impl<T: Drop> Shared<T> {
-    /// These items, in a block that copies share. No items take no memory.
+    /// These items, in a block that copies share.
     pub fn of(alloc: Global, items: Sequence<T>) -> Result<Shared<T>, Memory>
         ensures { IfOk result (λ s. s ≡ items) }
     {
-        if items.items().is_empty() {
-            return Ok(Shared { items: None });
-        }
         Ok(Shared {
-            items: Some(Arc::new(alloc, items)?),
+            items: Arc::new(alloc, items)?,
         })
     }
 }
@@ -58,13 +50,8 @@ impl<T: Drop> Clone for Shared<T> {
     ghost is_clone = { λ x y. y ≡ x };
 
     fn clone(&self) -> Result<Self, AllocError> {
-        let items = match &self.items {
-            Some(items) => Some(Arc::try_clone(items)?),
-            None => None,
-        };
-        Ok(Shared { items })
+        Ok(Shared {
+            items: Arc::try_clone(&self.items)?,
+        })
     }
 }
-
-/// Ids, mostly ascending, that copies share.
-pub type SharedIds = Shared<FullXid>;

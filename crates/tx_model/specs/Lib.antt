@@ -19,4 +19,3 @@ pub mod Replies
 pub mod Lines
 pub mod Asked
 pub mod Rounds
-pub mod SharedSnaps

@@ -1,6 +1,5 @@
 //! What a command is answered.
-use crate::shared_snap::SharedSnap;
-use tx_events::{Copied, FullMulti, FullXid, IdList, Memory, Mode, Refusal, Sequence};
+use tx_events::{Copied, FullMulti, FullXid, IdList, Memory, Mode, Refusal, Sequence, SharedSnap};
 
 /// How a transaction stands.
 #[derive(Clone, Copy, Debug, PartialEq, Eq)]

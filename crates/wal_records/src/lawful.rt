@@ -82,7 +82,7 @@ fn has_lawful_form(rec: &Rec) -> bool
             offset,
             members,
         } => is_lawful_multi(*multi, *offset, members.items()),
-        Rec::Checkpoint { number, counters } => is_lawful_checkpoint(*number, *counters),
+        Rec::Checkpoint { number, counters } => is_lawful_checkpoint(*number, *counters.get()),
         Rec::Truncate {
             oldest,
             multi,

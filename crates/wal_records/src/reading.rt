@@ -12,6 +12,7 @@ use byteorder::{ByteOrder, LittleEndian};
 use std::alloc::Global;
 use tx_events::{
     Counters, FullMulti, FullXid, IdList, Member, MemberList, Memory, Mode, Rec, Sequence,
+    SharedCounters,
 };
 
 // Each reader takes what it reads off the front of `rest`.
@@ -126,7 +127,7 @@ fn ids_from(alloc: Global, count: u32, last: u64, rest: &mut &[u8]) -> Result<Id
 fn members_from(alloc: Global, count: u32, rest: &mut &[u8]) -> Result<MemberList, Stop>
     ensures { GivesAt result rest.new.now (members_at count rest.old.now) }
 {
-    let mut members = Sequence::new(alloc);
+    let mut members = Sequence::with_room(alloc, count as usize)?;
     for _ in 0..count {
         members.push(one_member(rest)?)?;
     }
@@ -181,11 +182,11 @@ fn multi_from(alloc: Global, rest: &mut &[u8]) -> Result<Rec, Stop>
 }
 
 #[tactic(auto, unfolding(crate::specs::Reading::checkpoint_at))]
-fn checkpoint_from(rest: &mut &[u8]) -> Result<Rec, Stop>
+fn checkpoint_from(alloc: Global, rest: &mut &[u8]) -> Result<Rec, Stop>
     ensures { GivesAt result rest.new.now (checkpoint_at rest.old.now) }
 {
     let number = u64_at(rest)?;
-    let counters = counters_from(rest)?;
+    let counters = SharedCounters::of(alloc, counters_from(rest)?)?;
     Ok(Rec::Checkpoint { number, counters })
 }
 
@@ -223,7 +224,7 @@ pub fn take_rec(alloc: Global, rest: &mut &[u8]) -> Result<Rec, Stop>
         }
         [4, after @ ..] => {
             *rest = after;
-            checkpoint_from(rest)
+            checkpoint_from(alloc, rest)
         }
         [5, after @ ..] => {
             *rest = after;

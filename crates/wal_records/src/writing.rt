@@ -142,7 +142,7 @@ fn put_rec(out: &mut Vec<u8>, rec: &Rec) -> Result<(), AllocError>
         Rec::Checkpoint { number, counters } => {
             out.push(4)?;
             put_u64(out, *number)?;
-            put_counters(out, counters)
+            put_counters(out, counters.get())
         }
         Rec::Truncate {
             oldest,

@@ -28,7 +28,6 @@ use engine_parts::{Caller, EngineLaw, Part, Passing, count, enter_proc, leave_lo
 use hall::{Hall, Note};
 use proc_table::ProcTable;
 use session_levels::{RegisteredSnapshot, forget, registered_as};
-use std::alloc::Global;
 use tx_events::{By, Memory, Name, Refusal};
 use tx_model::SharedSnap;
 
@@ -41,14 +40,13 @@ fn take_of(
     table: &mut ProcTable,
     by: By,
     name: &Name,
-    alloc: Global,
 ) -> Result<(SharedSnap, SharedSnap, usize), Memory>
     requires session { by.session < table.old.sessions }
     requires turn { InTurn by table.old.events }
     requires free { is_live table.old.base.next by.session name.now table.old.events ≡ false }
     ensures { MatchResult result (λ r. IsTaken table.old table.new by name.now r.0 r.1 r.2) (λ _. table.new ≡ table.old) }
 {
-    let lists = SharedSnap::of(alloc, table.snapshot_data()?)?;
+    let lists = table.snapshot_data()?;
     let kept = lists.clone()?;
     let place = table.events().len();
     table.register(by, name, lists.xmin())?;
@@ -128,13 +126,12 @@ fn take<R: Passing, L: LogDisk, P: PageDisk>(
     let Ok(()) = caller.session.levels.registered.reserve(1) else {
         return Err(Refusal::Memory);
     };
-    let alloc = *caller.session.levels.registered.allocator();
     let by = By {
         session: caller.number,
         command: caller.session.levels.commands,
     };
     let mut held = enter_proc(rt, hall, caller);
-    match take_of(&mut *held, by, name, alloc) {
+    match take_of(&mut *held, by, name) {
         Ok((lists, kept, place)) => {
             register(hall, caller, held, by, name, place, kept);
             Ok(lists)

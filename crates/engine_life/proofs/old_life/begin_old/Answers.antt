@@ -40,6 +40,7 @@ returns-in-Ok-clause-life g c v is =
       sessions_are = k.cluster.1;
       base = k.start.2;
       opened_to = λ told. subst (λ (base : Counters). OpensUpTo (log_next c.args.found.log) base (g.L.LogDisk.reads v)) (sym k.start.1) (opens_up_to g.L.LogDisk v c.args.found is told);
+      gate = parts.start.value.gate;
       faults = map faults_behind parts.locks.items;
       counted = subst (λ (s : Start). AreCounted g.L.LogDisk g.P.PageDisk v c.args.volumes s.faults) k.start.0 (k.counted v is);
       begun = subst (λ (s : Start). IsBegun parts.cluster s life) k.start.0 begun;

@@ -6,7 +6,7 @@ use Rattle.wal_records.proofs.reading.members_from.Goals as goal
 
 pub returns-in_err-one_member : goal.returns-in_err-one_member
 returns-in_err-one_member c =
-    let p = err_from_is_err_and c.from_residual.result c.from_residual.ensures.1 in
+    let p = err_from_is_err_and c.from_residual-in_err-one_member.result c.from_residual-in_err-one_member.ensures.1 in
     rw (p.1, p.2) (members_end c.in_err-one_member.field-0.0 c.loop.members c.args.count c.loop.counter c.loop.rest.now (members_at c.args.count c.args.rest.now.now) c.loop-test.true c.in_err-one_member.ensures c.loop.invariant)
 
 pub loop-preserved : goal.loop-preserved

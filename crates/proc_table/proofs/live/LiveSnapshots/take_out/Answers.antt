@@ -10,14 +10,14 @@ use Rattle.proc_table.proofs.live.LiveSnapshots.take_out.Goals as goal
 
 pub returns-in-None-clause-none : goal.returns-in-None-clause-none
 returns-in-None-clause-none c =
-    λ ss h.
+    λ _ ss h.
     sym (h.names c.args.session c.args.name.now)
     ∙ kept_at c.args.self.now.sessions.items c.args.session c.index_mut.result.now c.args.name.now c.requires.within
     ∙ ap (xmin_under c.args.name.now) (sym c.index_mut.ensures.value)
     ∙ sym c.in-None.ensures.xmin
 
 pub returns-in-Some-clause-left : goal.returns-in-Some-clause-left
-returns-in-Some-clause-left c = λ ss h.
+returns-in-Some-clause-left c = λ _ ss h.
     let r : LiveSnap = record { session = c.args.session; name = c.args.name.now; xmin = c.in-Some.xmin } in
     let found : live_xmin c.args.session c.args.name.now ss ≡ Some c.in-Some.xmin =
     sym (h.names c.args.session c.args.name.now)

@@ -1,8 +1,8 @@
--- What a snapshot's reply tells, by how it is held.
+-- What a snapshot holds, by how it is held.
 use Rattle.std.specs.Prelude.{[], false}
 use Rattle.tx_events.specs.declared.snapshot.SnapData.{SnapData}
-use Rattle.tx_model.specs.declared.shared_snap.Held.{Held}
-use Rattle.tx_model.specs.declared.shared_snap.Held.TheVariants as helds
+use Rattle.tx_events.specs.declared.shared_snap.Held.{Held}
+use Rattle.tx_events.specs.declared.shared_snap.Held.TheVariants as helds
 
 abbrev pub data_in : Held → SnapData
 data_in (helds.Idle xmin xmax) = record { xmin = xmin; xmax = xmax; xip = []; subxip = []; overflowed = false }

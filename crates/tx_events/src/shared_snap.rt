@@ -1,12 +1,15 @@
-//! What a snapshot's reply tells.
+//! What a snapshot holds, as table, session and reply share it.
 ghost use Rattle.std.specs.Prelude.{◌≡◌, IfOk};
 ghost use Rattle.tx_events.specs.IdLists.{Ascending};
 ghost use Rattle.tx_events.specs.Sights.{sight_by, top_sight_by};
 
+use crate::full_xid::FullXid;
+use crate::sequence::{Copied, Memory};
+use crate::sight::{Sight, sight_of, sight_of_top};
+use crate::snapshot::SnapData;
 use std::alloc::{AllocError, Global};
 use std::marker::Model;
 use std::sync::Arc;
-use tx_events::{Copied, FullXid, Memory, Sight, SnapData, sight_of, sight_of_top};
 
 #[derive(Drop)]
 enum Held {
@@ -16,8 +19,7 @@ enum Held {
     Lists { block: Arc<SnapData> },
 }
 
-/// What a snapshot holds, as a reply tells it: in place where nothing ran, else in a block that copies share. A contract
-/// sees the `SnapData`.
+/// What a snapshot holds: in place where nothing ran, else in a block that copies share. A contract sees the `SnapData`.
 #[derive(Drop)]
 pub struct SharedSnap {
     held: Held,
@@ -27,7 +29,7 @@ const _: () = prove!(size_of::<SharedSnap>() == 24);
 
 impl Model for SharedSnap {
     ghost use Rattle.tx_events.specs.declared.snapshot.SnapData.{SnapData};
-    ghost use Rattle.tx_model.specs.SharedSnaps.{data_in};
+    ghost use Rattle.tx_events.specs.SharedSnaps.{data_in};
 
     ghost Value = { SnapData };
 
@@ -35,7 +37,7 @@ impl Model for SharedSnap {
 }
 
 impl SharedSnap {
-    /// This. Takes no memory where it lists no ids.
+    /// This. Takes no memory where nothing ran.
     pub fn of(alloc: Global, holds: SnapData) -> Result<SharedSnap, Memory>
         ensures { IfOk result (λ s. s ≡ holds) }
     {

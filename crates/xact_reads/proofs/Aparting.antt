@@ -49,13 +49,13 @@ section_apart start v w lock e n name other s =
 
 -- so in every list to which such a step adds nothing
 none_may : (by : By) (May : Kind → Type 0) (es : List Entry) → ((kind : Kind) → May kind → ⊥) → AllByRecursion (λ e. (e.by ≡ by) × May e.kind) es → es ≡ []
-none_may by May [] no a = refl
-none_may by May (e ∷ es) no a = absurd (no e.kind a.0.1)
+none_may by May [] never a = refl
+none_may by May (e ∷ es) never a = absurd (never e.kind a.0.1)
 
 pub own_still : (by : By) (May : ℕ → Kind → Type 0) (lists more : List (List Entry)) (lock : ℕ) → ((kind : Kind) → May lock kind → ⊥) → Adds by May lists more → own session_of by.session (at more lock) ≡ own session_of by.session (at lists lock)
-own_still by May lists more lock no a =
+own_still by May lists more lock never a =
     let t = a.each lock in
-    t.grown ∙ (ap (λ es. own session_of by.session (at lists lock) ++ es) (none_may by (May lock) t.added no t.each) ∙ append-nil (own session_of by.session (at lists lock)))
+    t.grown ∙ (ap (λ es. own session_of by.session (at lists lock) ++ es) (none_may by (May lock) t.added never t.each) ∙ append-nil (own session_of by.session (at lists lock)))
 
 pub nothing_still : (by : By) (lists more : List (List Entry)) (lock : ℕ) → AddsNothing by lists more → own session_of by.session (at more lock) ≡ own session_of by.session (at lists lock)
 nothing_still by lists more lock = own_still by (λ lock kind. ⊥) lists more lock (λ kind no. no)

@@ -4,7 +4,7 @@ ghost use Rattle.tx_events.specs.Base.{IsBase};
 ghost use Rattle.tx_events.specs.declared.record.Rec.TheVariants as records;
 ghost use Rattle.wal_core.specs.LogViews.{log_disk};
 ghost use Rattle.wal_records.specs.Spelling.{AreCounters};
-ghost use Rattle.engine_host.specs.Opening.{HasFirst, IsBegunLog, IsEmptyLog, first_gate, nothing_before};
+ghost use Rattle.engine_host.specs.Opening.{HasFirst, IsBegunLog, IsEmptyLog, nothing_before};
 ghost use Rattle.engine_host.specs.Refused.{IsBeginRefusal};
 
 use crate::cluster::Cluster;
@@ -34,7 +34,7 @@ pub(crate) fn begin_log<L: LogDisk>(
 ) -> Result<(), OpenRefusal>
     requires new { IsEmptyLog log.old }
     requires base { IsBase cluster.now.base }
-    ensures begun { OnOk result (IsBegunLog cluster.now (nothing_before (first_gate cluster.now log.old)) log.new) }
+    ensures begun { OnOk result (IsBegunLog cluster.now nothing_before log.new) }
     ensures count { L.faults (log_disk log.old) ≤ L.faults (log_disk log.new) }
     ensures refused { IfErr result (λ refusal. IsBeginRefusal cluster.now log.old log.new refusal) }
 {
@@ -50,7 +50,7 @@ pub(crate) fn begin_log<L: LogDisk>(
 // Flushes the first checkpoint.
 fn flush_first<L: LogDisk>(log: &mut WalLog<L>, _cluster: &Cluster) -> Result<(), OpenRefusal>
     requires { HasFirst _cluster.now log.old }
-    ensures begun { OnOk result (IsBegunLog _cluster.now (nothing_before (first_gate _cluster.now log.old)) log.new) }
+    ensures begun { OnOk result (IsBegunLog _cluster.now nothing_before log.new) }
     ensures count { L.faults (log_disk log.old) ≤ L.faults (log_disk log.new) }
     ensures refused { IfErr result (λ refusal. IsBeginRefusal _cluster.now log.old log.new refusal) }
 {

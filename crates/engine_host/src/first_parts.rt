@@ -2,7 +2,7 @@
 ghost use Rattle.std.specs.Prelude.{◌≡◌, IfErr, IfOk};
 ghost use Rattle.wal_core.specs.LogViews.{log_disk};
 ghost use Rattle.engine_host.specs.Counted.{AreCounted};
-ghost use Rattle.engine_host.specs.Opening.{AreParts, IsCluster, IsEmptyLog, first_gate, new_life, nothing_before};
+ghost use Rattle.engine_host.specs.Opening.{AreParts, IsCluster, IsEmptyLog, new_life, nothing_before};
 ghost use Rattle.engine_host.specs.Refused.{IsRefusal};
 ghost use Rattle.engine_host.specs.Stores.{HaveEach};
 
@@ -35,7 +35,7 @@ pub fn open_new<L: LogDisk + Drop, P: PageDisk + Drop>(
     requires new { IsEmptyLog log }
     ensures cluster { IfOk result (λ parts. parts.cluster ≡ cluster) }
     ensures parts { IfOk result (λ parts. AreParts parts) }
-    ensures start { IfOk result (λ parts. parts.start.value ≡ new_life cluster (nothing_before (first_gate cluster log)) parts.locks.items) }
+    ensures start { IfOk result (λ parts. parts.start.value ≡ new_life cluster nothing_before parts.locks.items) }
     ensures counted { IfOk result (λ parts. AreCounted L.LogDisk P.PageDisk (log_disk log) volumes parts.start.value.faults) }
     ensures refused { IfErr result (λ e. IsRefusal P.PageDisk cluster log volumes e.0 e.1) }
 {

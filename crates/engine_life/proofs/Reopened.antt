@@ -13,7 +13,7 @@ use Rattle.tx_events.specs.Ids.{IsFullMulti}
 use Rattle.tx_events.specs.declared.record.Counters.{Counters}
 use Rattle.tx_events.specs.declared.record.Rec.{Rec}
 use Rattle.tx_events.specs.declared.record.Rec.TheVariants as records
-use Rattle.wal_core.specs.LogViews.{log_checkpoint, log_end as log_gate, KeepsAll, log_counters, log_disk, log_down, log_first, log_flushed, log_next, log_recs}
+use Rattle.wal_core.specs.LogViews.{log_checkpoint, KeepsAll, log_counters, log_disk, log_down, log_first, log_flushed, log_next, log_recs}
 use Rattle.wal_core.specs.declared.wal_log.WalLog.{WalLog}
 use Rattle.tx_core.specs.declared.entry.Start.{Start}
 use Rattle.tx_core.specs.StoredBytes.{byte_held}
@@ -40,7 +40,7 @@ use Rattle.engine_parts.proofs.Tails.{none_pending}
 use Rattle.engine_host.specs.declared.cluster.Cluster.{Cluster}
 use Rattle.engine_host.specs.Counted.{AreCounted}
 use Rattle.engine_host.specs.declared.cluster.BankVolumes.{BankVolumes}
-use Rattle.engine_host.specs.Opening.{AllOnDisk, AllShow, AllShowNothing, Beginning, IsBegunLog, ShowMembers, ShowOffsets, ShowStates, life_from}
+use Rattle.engine_host.specs.Opening.{AllOnDisk, AllShow, AllShowNothing, Beginning, IsBegunLog, ShowMembers, ShowOffsets, ShowStates, at_gate, life_from}
 use Rattle.engine_host.specs.Stores.{Store, banks_of, of_members, of_offsets, of_subtrans, of_xact, volumes_in}
 use Rattle.engine_host.proofs.Starting.{log_begins}
 use Rattle.engine_life.specs.Reopening.{IsBaseAt, KeepsStart, LeavesLog, banks_in, behind, cluster_over}
@@ -59,11 +59,11 @@ each_store Q a b c d of_offsets = c
 each_store Q a b c d of_members = d
 
 -- the log that a recovery left is begun
-pub settled_begins : {D : Type 0} {g : logs.Ghosts D} (c : Cluster) (b : Beginning) (from : ℕ) (log : WalLog D g) → IsSettled from c.base log → b.number ≡ from → b.gate ≡ log_gate log → (IsTrue g.tells → IsTrue b.told → KeepsStart c b log) → IsBegunLog c b log
-settled_begins {g = g} c b from log s is gate given counts reached =
+pub settled_begins : {D : Type 0} {g : logs.Ghosts D} (c : Cluster) (b : Beginning) (from : ℕ) (log : WalLog D g) → IsSettled from c.base log → b.number ≡ from → (IsTrue g.tells → IsTrue b.told → KeepsStart c b log) → IsBegunLog c b log
+settled_begins {g = g} c b from log s is given counts reached =
     let next : from + 1 ≡ b.number + 1 = omega (arith, is) in
     log_begins c b g.tells (g.faults (log_disk log)) (g.images (log_disk log)) (log_recs log) (log_next log) (log_first log) (log_flushed log) (log_counters log) (log_down log) (log_checkpoint log) (log_tail log) counts
-    (s.recs ∙ ap (λ (n : ℕ). records.Checkpoint n c.base ∷ []) (sym is)) (s.next ∙ next) (s.flushed ∙ next) s.counters_are s.up (s.first ∙ sym is) reached (λ i. record { gate = sym gate i; pending = none_pending log (s.flushed ∙ sym s.next) i })
+    (s.recs ∙ ap (λ (n : ℕ). records.Checkpoint n c.base ∷ []) (sym is)) (s.next ∙ next) (s.flushed ∙ next) s.counters_are s.up (s.first ∙ sym is) reached (none_pending log (s.flushed ∙ sym s.next))
     (λ told. kept_told b.told (λ number past. KeepsAll number past g.images log) (λ number past. GivesStart (life_from c b []) number past) (given told) (s.keeps told))
 
 -- a code and the state that is read of it
@@ -104,13 +104,13 @@ module _ {L P : Type 0} (l : logs.Ghosts L) (p : disks.Ghosts P) where
     members_are = store_as_read members each;
   }
 
-  module _ (old new : L) (xact xact' offsets' members' : List P) (from gate sessions : ℕ) (counters : Counters) (kept : KeptLog) (count : length xact' ≡ length xact) (some : 1 ≤ length xact) (full : IsFullMulti counters.multi)
+  module _ (old new : L) (xact xact' offsets' members' : List P) (from sessions : ℕ) (counters : Counters) (kept : KeptLog) (count : length xact' ≡ length xact) (some : 1 ≤ length xact) (full : IsFullMulti counters.multi)
       (reads : l.images new (l.reads new)) (each : (disk : P) → p.images disk (p.pages disk)) (r : Recovers l p old xact new xact' offsets' members' from counters kept) where
     abbrev cluster : Cluster
     cluster = cluster_over counters (length xact') sessions
 
     abbrev begins : Beginning
-    begins = behind true kept from gate
+    begins = behind true kept from
 
     abbrev start : Start
     start = life_from cluster begins []
@@ -146,8 +146,8 @@ module _ {L P : Type 0} (l : logs.Ghosts L) (p : disks.Ghosts P) where
     given_before = clean.right.base.committed
 
     -- whatever the volumes' counts are
-    pub began_right : (counts : List ℕ) → BeganRight (life_from cluster begins counts)
-    began_right counts = record { told = clean.right.told; full = clean.right.full; base = clean.right.base }
+    pub began_right : (gate : ℕ) (counts : List ℕ) → BeganRight (life_from cluster (at_gate begins gate) counts)
+    began_right gate counts = record { told = clean.right.told; full = clean.right.full; base = clean.right.base }
 
     -- a page of a bank, as it is read
     same_page : (volumes : List P) (banks place n q : ℕ) (disk : P) → slice_get volumes n ≡ Some disk → place % banks ≡ 0 + n → pages_of (on_banks volumes) (place % banks) q ≡ page_bytes (p.pages disk q)
@@ -252,8 +252,8 @@ same_left {L} {P} l p old r back kept log banks left =
     (subst (λ (xs : List P). LeavesFit l p old.xact.items (log_disk r.log) r.xact.items r.offsets.items xs kept) (sym (banks of_members)) left)))
 
 -- over volumes that don't tell nothing is committed
-pub none_before : (kept : KeptLog) (from gate sessions banks : ℕ) (counters : Counters) → AreGivenBefore (life_from (cluster_over counters banks sessions) (behind false kept from gate) [])
-none_before kept from gate sessions banks counters x k = absurd (contains_has [] x k)
+pub none_before : (kept : KeptLog) (from sessions banks : ℕ) (counters : Counters) → AreGivenBefore (life_from (cluster_over counters banks sessions) (behind false kept from) [])
+none_before kept from sessions banks counters x k = absurd (contains_has [] x k)
 
 -- empty pages show nothing
 pub empty_shown : {P : Type 0} (p : disks.Ghosts P) (volumes : List P) → ((disk : P) → p.images disk (p.pages disk)) → AreEmpty p volumes → AllShowNothing p false volumes
@@ -263,7 +263,7 @@ empty_shown p volumes each empty n disk at q small = (empty n disk at).zeros (p.
 pub empty_durable : {P : Type 0} (p : disks.Ghosts P) (volumes : List P) → AreEmpty p volumes → AllOnDisk p volumes
 empty_durable p volumes empty n disk at = (empty n disk at).on_disk
 
-pub before_any : (tells : Bool) (kept : KeptLog) (from gate sessions banks : ℕ) (counters : Counters)
-    → (IsTrue tells → AreGivenBefore (life_from (cluster_over counters banks sessions) (behind true kept from gate) [])) → AreGivenBefore (life_from (cluster_over counters banks sessions) (behind tells kept from gate) [])
-before_any true kept from gate sessions banks counters told = told refl
-before_any false kept from gate sessions banks counters told = none_before kept from gate sessions banks counters
+pub before_any : (tells : Bool) (kept : KeptLog) (from sessions banks : ℕ) (counters : Counters)
+    → (IsTrue tells → AreGivenBefore (life_from (cluster_over counters banks sessions) (behind true kept from) [])) → AreGivenBefore (life_from (cluster_over counters banks sessions) (behind tells kept from) [])
+before_any true kept from sessions banks counters told = told refl
+before_any false kept from sessions banks counters told = none_before kept from sessions banks counters

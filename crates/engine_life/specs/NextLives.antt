@@ -8,7 +8,7 @@ use Rattle.recoverable.specs.Fit.{KeptLog}
 use Rattle.recoverable.specs.Whole.{BeganRight}
 use Rattle.engine_host.specs.declared.cluster.Cluster.{Cluster}
 use Rattle.engine_host.specs.Counted.{AreCounted}
-use Rattle.engine_host.specs.Opening.{life_from}
+use Rattle.engine_host.specs.Opening.{at_gate, life_from}
 use Rattle.engine_host.specs.Stores.{banks_of}
 use Rattle.engine_life.specs.declared.life.OpenLife.{OpenLife}
 use Rattle.engine_life.specs.declared.refusal.NoLife.{NoLife}
@@ -53,5 +53,5 @@ module _ {L P : Type 0} {l : logs.Ghosts L} {p : disks.Ghosts P} where
     pub gate : ℕ
     pub faults : List ℕ
     pub counted : AreCounted l p volumes.log (banks_of volumes) faults
-    pub begun : IsBegun cluster (life_from cluster (behind p.tells kept number gate) faults) life
-    pub right : IsTrue p.tells → BeganRight (life_from cluster (behind p.tells kept number gate) faults)
+    pub begun : IsBegun cluster (life_from cluster (at_gate (behind p.tells kept number) gate) faults) life
+    pub right : IsTrue p.tells → BeganRight (life_from cluster (at_gate (behind p.tells kept number) gate) faults)

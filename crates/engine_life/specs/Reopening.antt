@@ -17,12 +17,12 @@ use Rattle.engine_host.specs.declared.cluster.BankVolumes.{BankVolumes}
 use Rattle.engine_host.specs.declared.cluster.Cluster.{Cluster}
 use Rattle.engine_host.specs.Opening.{Beginning, life_from}
 
--- What a life begins with whose checkpoint has this number, behind the records below it, and whose batch ends at this
--- gate. Where the volumes tell nothing, nothing is known of what was before.
-abbrev pub behind : Bool → KeptLog → ℕ → ℕ → Beginning
-behind tells kept number gate = record {
+-- What a life begins with whose checkpoint has this number, behind the records below it. Where the volumes tell nothing,
+-- nothing is known of it.
+abbrev pub behind : Bool → KeptLog → ℕ → Beginning
+behind tells kept number = record {
   number = number;
-  gate = gate;
+  gate = 0;
   committed = cond tells (base_at kept number).committed [];
   recorded = cond tells (base_at kept number).recorded [];
   told = tells;

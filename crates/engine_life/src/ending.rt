@@ -51,7 +51,7 @@ fn log_end<R: Threads + Sync, L: LogDisk>(
     Ok(out)
 }
 
-// The events go before those of multixacts are printed.
+// The events go as they are printed, before those of multixacts are.
 fn put_histories<R: Threads + Sync>(
     rt: &R,
     out: &mut Pieces,
@@ -62,8 +62,7 @@ fn put_histories<R: Threads + Sync>(
 ) -> Result<(), Memory>
     ensures ok { OnOk result (out.new ≡ out.old ++ (history_text names.now events ++ multis_text names.now multis.now)) }
 {
-    out.put_history(rt, names, events.items(), threads)?;
-    drop(events);
+    out.put_history(rt, names, events.into_vec(), threads)?;
     out.put_multis(rt, names, multis, threads)
 }
 

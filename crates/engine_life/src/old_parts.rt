@@ -2,7 +2,7 @@
 ghost use Rattle.std.specs.Prelude.{◌≡◌, ◌≤◌, [], false, IfErr, IfOk, IsTrue, length};
 ghost use Rattle.recoverable.specs.Fit.{KeptLog};
 ghost use Rattle.recoverable.specs.Whole.{BeganRight};
-ghost use Rattle.wal_core.specs.LogViews.{log_disk, log_end, log_next};
+ghost use Rattle.wal_core.specs.LogViews.{log_disk, log_next};
 ghost use Rattle.replay_core.specs.Begun.{IsSettled};
 ghost use Rattle.replay_core.specs.Opened.{IsFound};
 ghost use Rattle.replay_core.specs.Refused.{IsRefusal};
@@ -35,7 +35,7 @@ fn open_recovered<L: LogDisk + Drop, P: PageDisk + Drop>(
         × (length recovered.members.items ≡ length recovered.xact.items) }
     requires sessions { sessions ≤ 64 }
     requires log { IsSettled recovered.from recovered.base recovered.log }
-    requires number { (begins.number ≡ recovered.from) × (begins.gate ≡ log_end recovered.log) }
+    requires number { begins.number ≡ recovered.from }
     requires before { AreGivenBefore (life_from (cluster_over recovered.base (length recovered.xact.items) sessions) begins []) }
     requires shown { IsTrue P.tells → ShowBeginning P.PageDisk (cluster_over recovered.base (length recovered.xact.items) sessions) begins false 0 (banks_in recovered) }
     requires past { IsTrue L.tells → IsTrue begins.told → KeepsStart (cluster_over recovered.base (length recovered.xact.items) sessions) begins recovered.log }
@@ -98,7 +98,7 @@ pub fn open_old<L: LogDisk + Drop, P: PageDisk + Drop>(
     requires fits { (log : L) × IsFound log found × MayGoOn L.LogDisk P.PageDisk kept (volumes_over log volumes) }
     ensures cluster { IfOk result (λ parts. (parts.cluster.banks ≡ length volumes.xact.items) × (parts.cluster.sessions ≡ sessions)) }
     ensures parts { IfOk result (λ parts. AreParts parts) }
-    ensures start { IfOk result (λ parts. (parts.start.value ≡ new_life parts.cluster (behind P.tells kept (log_next found.log) parts.start.value.gate) parts.locks.items)
+    ensures start { IfOk result (λ parts. (parts.start.value ≡ new_life parts.cluster (behind P.tells kept (log_next found.log)) parts.locks.items)
         × (parts.cluster.base ≡ found.base) × (IsTrue P.tells → IsBaseAt kept (log_next found.log) parts.cluster.base)) }
     ensures counted { (log : L) → IsFound log found → IfOk result (λ parts. AreCounted L.LogDisk P.PageDisk log volumes
         parts.start.value.faults) }

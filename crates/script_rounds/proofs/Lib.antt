@@ -7,3 +7,4 @@ mod StreamLemmas
 mod RunLemmas
 mod Fronts
 mod Weaving
+mod Spreading

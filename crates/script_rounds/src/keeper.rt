@@ -46,9 +46,10 @@ pub trait LineKeeper {
     fn add_step(&mut self, names: &NameList, step: &Step) -> Result<(), Memory>
         ensures { OnOk result (self.new ≡ with_step names.now self.old step.now) };
 
-    /// Keeps what the other kept, too. That may be moved, so it isn't said what the other keeps then.
+    /// Keeps what the other kept, which then keeps nothing.
     fn join(&mut self, other: &mut Self) -> Result<(), Memory>
-        ensures { OnOk result (self.new ≡ joined self.old other.old) };
+        ensures kept { OnOk result (self.new ≡ joined self.old other.old) }
+        ensures gone { OnOk result (other.new ≡ nothing) };
 
     /// With no lines more it keeps the same.
     ghost no_lines: { (names : List (List ℕ)) (kept : Self) → with_lines names kept [] ≡ kept };

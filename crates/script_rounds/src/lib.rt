@@ -8,6 +8,7 @@ mod life_text;
 mod pieces;
 mod places;
 mod plan;
+mod repeated;
 mod round_threads;
 mod script;
 mod source;

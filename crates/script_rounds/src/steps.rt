@@ -12,7 +12,10 @@ use std::mem;
 use tx_io::{Failed, Sink};
 use tx_model::{By, Command, Memory, NameList, Reply, Step};
 
-/// The text of steps. A snapshot's line shares its long end with the ones before that had the same.
+// So many bytes are copied when a text is joined to another one: a text of its own takes some hundred bytes more.
+const SHORT: usize = 4_096;
+
+/// The text of steps. The end of a snapshot's line stands once where lines with the same follow one another.
 #[derive(Drop)]
 pub struct Steps {
     alloc: Global,
@@ -75,7 +78,7 @@ impl LineKeeper for Steps {
         reply: &Reply,
     ) -> Result<(), Memory> {
         match reply {
-            Reply::Snapped { .. } => self.last.add_again(names, by, command, reply),
+            Reply::Snapped { lists } => self.last.add_snapped(names, by, command, lists),
             _ => self.last.add_line(names, by, command, reply),
         }
     }
@@ -85,10 +88,12 @@ impl LineKeeper for Steps {
     }
 
     fn join(&mut self, other: &mut Steps) -> Result<(), Memory> {
-        if other.front.is_empty() && other.last.is_short() {
-            return self.last.join(&other.last);
+        match other.plain() {
+            Some(text) if text.len() <= SHORT => self.last.put(text)?,
+            _ => self.take(other)?,
         }
-        self.take(other)
+        *other = Steps::none(self.alloc);
+        Ok(())
     }
 }
 

@@ -1,5 +1,5 @@
 //! How many lines a run has.
-ghost use Rattle.std.specs.Prelude.{◌≡◌, ◌<◌, ◌^◌, length};
+ghost use Rattle.std.specs.Prelude.{◌≡◌, ◌<◌, ◌^◌, [], length};
 ghost use Rattle.script_rounds.specs.Counted.{verdict_count, verdicts_in};
 
 use crate::keeper::LineKeeper;
@@ -36,6 +36,17 @@ fn verdict_count(reply: &Reply) -> u64
     match reply {
         Reply::Seen { .. } => 1,
         _ => 0,
+    }
+}
+
+/// No lines.
+fn no_lines() -> Tally
+    ensures { result ≡ [] }
+{
+    Tally {
+        commands: 0,
+        verdicts: 0,
+        lines: ToldLines::none(),
     }
 }
 
@@ -76,11 +87,7 @@ impl LineKeeper for Tally {
     ghost join_lines = { λ names kept lines. refl };
 
     fn none(_alloc: Global) -> Tally {
-        Tally {
-            commands: 0,
-            verdicts: 0,
-            lines: ToldLines::none(),
-        }
+        no_lines()
     }
 
     fn add_round(&mut self, _number: u64) -> Result<(), Memory> {
@@ -108,6 +115,7 @@ impl LineKeeper for Tally {
         self.lines.add_all(&other.lines);
         self.commands = self.commands.saturating_add(other.commands);
         self.verdicts = self.verdicts.saturating_add(other.verdicts);
+        *other = no_lines();
         Ok(())
     }
 }

@@ -1,140 +1,121 @@
-//! A text in which a long end of a line that comes again and again stands once.
-ghost use Rattle.std.specs.Prelude.{◌≡◌, ℕ, ◌+◌, ◌≤◌, List, [], ◌∷◌, ◌++◌, IfNone, IfSome, OnErr, OnOk, length, take};
+//! A text in which the long end of a line that comes again and again stands once.
+ghost use Rattle.std.specs.Prelude.{◌≡◌, ℕ, ◌≤◌, List, [], ◌++◌, IfSome, IsTrue, OnErr, OnOk, Some, cond, length, take};
 ghost use Rattle.std.specs.Io.KnownBytes.{Appends};
 ghost use Rattle.tx_io.specs.Causes.{HasCause};
-ghost use Rattle.report_text.specs.ReportText.{command_line, round_line, step_text};
-ghost use Rattle.script_rounds.specs.Woven.{own_before, woven};
+ghost use Rattle.report_text.specs.ReportText.{command_line, round_line, snapshot_end, step_text};
+ghost use Rattle.script_rounds.specs.Woven.{own_before, pieces_in, woven};
+ghost use Rattle.tx_model.specs.declared.reply.Reply.TheVariants as replies;
 
-use crate::pieces::{hand_both, pass};
-use report_text::{Text, put_command_line, put_round_line, put_step};
+use crate::pieces::pass;
+use crate::repeated::Repeated;
+use report_text::{
+    Text, is_same_snapshot, put_command_line, put_line_front, put_round_line, put_snapshot_end,
+    put_step,
+};
 use std::alloc::Global;
 use std::marker::Model;
-use std::sync::Arc;
+use tx_events::SharedSnap;
 use tx_io::{Failed, Sink};
 use tx_model::{By, Command, Memory, NameList, Reply, Step};
 
-// A shared piece's place takes 16 bytes, so a shorter end isn't worth one.
-const LONG: usize = 64;
+// An end that is kept apart takes some hundred bytes more, so it is once so many were printed of it one after another.
+const ENOUGH: usize = 128;
 
-// So many own bytes are copied when a text is joined to another one: a text of its own takes some hundred bytes more.
-const SHORT: usize = 4_096;
-
-/// A piece that others may share.
-type Piece = Arc<Vec<u8>>;
-
-/// A shared piece, and how many bytes of the text's own stand between it and the shared piece before it.
+/// A snapshot, and how many bytes the ends of its lines take that were printed one after another.
 #[derive(Drop)]
-pub struct Shared {
-    behind: usize,
-    bytes: Piece,
+struct Seen {
+    lists: SharedSnap,
+    bytes: usize,
 }
 
-/// A text of own bytes with shared pieces between them. A contract sees the text.
+/// A text of own bytes, between which ends of lines stand that are kept once each. A contract sees the text.
 #[derive(Drop)]
 pub struct Woven {
     alloc: Global,
     own: Text,
-    shared: Vec<Shared>,
-    /// How many own bytes stand before the last shared piece.
+    runs: Vec<Repeated>,
+    /// How many own bytes stand before the last piece.
     before: usize,
-    /// The end of the long line that was put last, where it was kept.
-    last: Option<Piece>,
+    /// The snapshot whose end was printed last.
+    seen: Option<Seen>,
 }
 
 impl Model for Woven {
     ghost use Rattle.std.specs.Prelude.{◌≡◌, ◌≤◌, ℕ, List, length};
-    ghost use Rattle.script_rounds.specs.Woven.{own_before, woven};
+    ghost use Rattle.script_rounds.specs.Woven.{own_before, pieces_in, woven};
 
     ghost Value = { List ℕ };
 
-    ghost view = { λ w. woven w.shared.items w.own };
+    ghost view = { λ w. woven (pieces_in w.runs.items) w.own };
 
-    ghost invariant = { λ w. (w.before ≡ own_before w.shared.items) × (w.before ≤ length w.own) };
+    ghost invariant = { λ w. (w.before ≡ own_before (pieces_in w.runs.items)) × (w.before ≤ length w.own) };
 }
 
-/// Where a line's reply begins, behind the arrow's dash.
-fn reply_at(line: &[u8]) -> usize
-    ensures { result ≤ length line.now }
+/// Whether ends of this snapshot's lines were printed one after another, and enough of them.
+fn comes_again(seen: &Option<Seen>, lists: &SharedSnap) -> bool
+    ensures { IsTrue result → (s : Seen) × (seen.now ≡ Some s) × (s.lists ≡ lists.now) × (ENOUGH ≤ s.bytes) }
 {
-    let mut at = 0;
-    while at < line.len() && line[at] != b'>' {
-        at += 1;
+    match seen {
+        Some(last) => last.bytes >= ENOUGH && is_same_snapshot(&last.lists, lists),
+        None => false,
     }
-    at
 }
 
-/// The piece that was kept, where it is this end of a line. Else this end is kept, if it is long.
-fn again(alloc: Global, last: &mut Option<Piece>, end: &[u8]) -> Option<Piece>
-    ensures { IfSome result (λ piece. piece.value.items ≡ end.now) }
+/// Notes that an end of this snapshot's line was printed, in so many bytes. Without memory none is.
+fn note(seen: &mut Option<Seen>, lists: &SharedSnap, bytes: usize)
+    ensures { IfSome seen.new (λ s. s.lists ≡ lists.now) }
 {
-    if end.len() < LONG {
-        return None;
-    }
-    if let Some(kept) = last {
-        if kept.as_slice() == end {
-            return Arc::try_clone(kept).ok();
+    if let Some(last) = seen {
+        if is_same_snapshot(&last.lists, lists) {
+            last.bytes = last.bytes.saturating_add(bytes);
+            return;
         }
     }
-    let mut bytes = Vec::new(alloc);
-    *last = match bytes.extend_from_slice(end) {
-        Ok(()) => Arc::new(alloc, bytes).ok(),
+    *seen = match lists.clone() {
+        Ok(lists) => Some(Seen { lists, bytes }),
         Err(_) => None,
     };
-    None
 }
 
-/// Cuts the end off what stands from this place on, from its arrow on, where it is that of the line before.
-fn cut_end(alloc: Global, own: &mut Text, last: &mut Option<Piece>, start: usize) -> Option<Piece>
-    requires { start ≤ length own.old }
-    ensures some { IfSome result (λ piece. own.new ++ piece.value.items ≡ own.old) }
-    ensures none { IfNone result (own.new ≡ own.old) }
-    ensures front { start ≤ length own.new }
+/// The last end that was kept apart doesn't come again.
+fn end_last(runs: &mut [Repeated])
+    ensures { runs.new ≡ runs.old }
 {
-    let line = &own.bytes()[start..];
-    if line.len() < LONG {
-        return None;
-    }
-    let at = start + reply_at(line);
-    match again(alloc, last, &own.bytes()[at..]) {
-        Some(piece) => {
-            own.cut(at);
-            Some(piece)
-        }
-        None => None,
+    if let Some(last) = runs.last_mut() {
+        last.end();
     }
 }
 
-/// Writes own bytes with their shared pieces, or a front of that. The memory that it takes it can do without.
+/// Writes own bytes with the pieces between them, or a front of that. The memory that it takes it can do without.
 fn write_woven<K: Sink>(
     alloc: Global,
     sink: &mut K,
     own: &[u8],
-    shared: &[Shared],
+    runs: &[Repeated],
 ) -> Result<(), Failed>
-    requires { own_before shared.now ≤ length own.now }
-    ensures ok { OnOk result (Appends (K.held sink.old) (K.held sink.new) (woven shared.now own.now)) }
-    ensures front { OnErr result ((n : ℕ) × Appends (K.held sink.old) (K.held sink.new) (take n (woven shared.now own.now))) }
+    requires { own_before (pieces_in runs.now) ≤ length own.now }
+    ensures ok { OnOk result (Appends (K.held sink.old) (K.held sink.new) (woven (pieces_in runs.now) own.now)) }
+    ensures front { OnErr result ((n : ℕ)
+        × Appends (K.held sink.old) (K.held sink.new) (take n (woven (pieces_in runs.now) own.now))) }
     ensures cause { HasCause (K.faults sink.old) (K.faults sink.new) result }
 {
     let mut kept = Vec::new(alloc);
     let mut rest = own;
-    for piece in shared {
-        let (before, behind) = rest.split_at(piece.behind);
-        hand_both(sink, &mut kept, before, piece.bytes.as_slice())?;
-        rest = behind;
+    for run in runs {
+        rest = run.hand(sink, &mut kept, rest)?;
     }
     pass(sink, &mut kept, rest)
 }
 
 /// Takes a whole text off. Its room stays. Where memory was wanting, nothing is known of the own bytes, among which the
 /// pieces have their places.
-fn take_off(own: &mut Text, shared: &mut Vec<Shared>, before: &mut usize)
+fn take_off(own: &mut Text, runs: &mut Vec<Repeated>, before: &mut usize)
     ensures own { own.new ≡ [] }
-    ensures shared { shared.new.items ≡ [] }
+    ensures runs { runs.new.items ≡ [] }
     ensures before { before.new ≡ 0 }
 {
     own.clear();
-    shared.clear();
+    runs.clear();
     *before = 0;
 }
 
@@ -146,9 +127,9 @@ impl Woven {
         Woven {
             alloc,
             own: Text::new(alloc),
-            shared: Vec::new(alloc),
+            runs: Vec::new(alloc),
             before: 0,
-            last: None,
+            seen: None,
         }
     }
 
@@ -159,7 +140,7 @@ impl Woven {
         match put_round_line(&mut self.own, number) {
             Ok(()) => Ok(()),
             Err(Memory) => {
-                take_off(&mut self.own, &mut self.shared, &mut self.before);
+                take_off(&mut self.own, &mut self.runs, &mut self.before);
                 Err(Memory)
             }
         }
@@ -179,7 +160,7 @@ impl Woven {
         match put_command_line(&mut self.own, names, by, command, reply) {
             Ok(()) => Ok(()),
             Err(Memory) => {
-                take_off(&mut self.own, &mut self.shared, &mut self.before);
+                take_off(&mut self.own, &mut self.runs, &mut self.before);
                 Err(Memory)
             }
         }
@@ -192,85 +173,118 @@ impl Woven {
         match put_step(&mut self.own, names, step) {
             Ok(()) => Ok(()),
             Err(Memory) => {
-                take_off(&mut self.own, &mut self.shared, &mut self.before);
+                take_off(&mut self.own, &mut self.runs, &mut self.before);
                 Err(Memory)
             }
         }
     }
 
-    // Adds own bytes.
-    fn put(&mut self, piece: &[u8]) -> Result<(), Memory>
+    /// Adds own bytes. Where there is no memory the text is taken off.
+    pub fn put(&mut self, piece: &[u8]) -> Result<(), Memory>
         ensures { OnOk result (self.new ≡ self.old ++ piece.now) }
     {
         match self.own.put(piece) {
             Ok(()) => Ok(()),
             Err(Memory) => {
-                take_off(&mut self.own, &mut self.shared, &mut self.before);
+                take_off(&mut self.own, &mut self.runs, &mut self.before);
                 Err(Memory)
             }
         }
     }
 
-    // Adds a piece that is shared.
-    fn share(&mut self, bytes: Piece) -> Result<(), Memory>
-        ensures { OnOk result (self.new ≡ self.old ++ bytes.value.items) }
+    // Adds the end of a snapshot's line, if that before it was the same and is kept apart.
+    fn repeat(&mut self, lists: &SharedSnap) -> bool
+        ensures { self.new ≡ cond result (self.old ++ snapshot_end lists.now) self.old }
     {
         let length = self.own.bytes().len();
         let behind = length - self.before;
-        let Ok(()) = self.shared.push(Shared { behind, bytes }) else {
-            return Err(Memory);
+        let Some(last) = self.runs.last_mut() else {
+            return false;
         };
+        if !last.add(lists, behind) {
+            return false;
+        }
         self.before = length;
-        Ok(())
+        true
     }
 
-    /// Adds the line of a command with its reply. Its end, from its arrow on, is shared where it is that of the line which
-    /// was added so before. Where there is no memory it isn't known what the text is.
-    pub fn add_again(
+    // Keeps the end of a snapshot's line apart, for this place and others. Without memory it isn't added.
+    fn keep_apart(&mut self, lists: &SharedSnap) -> bool
+        ensures { self.new ≡ cond result (self.old ++ snapshot_end lists.now) self.old }
+    {
+        let length = self.own.bytes().len();
+        let Ok(mut end) = Repeated::new(self.alloc, lists) else {
+            return false;
+        };
+        if !end.add(lists, length - self.before) {
+            return false;
+        }
+        end_last(&mut self.runs);
+        if self.runs.push(end).is_err() {
+            return false;
+        }
+        self.before = length;
+        true
+    }
+
+    // Prints the end of a snapshot's line.
+    fn print_end(&mut self, lists: &SharedSnap) -> Result<(), Memory>
+        ensures { OnOk result (self.new ≡ self.old ++ snapshot_end lists.now) }
+    {
+        let start = self.own.bytes().len();
+        match put_snapshot_end(&mut self.own, lists) {
+            Ok(()) => {
+                let bytes = self.own.bytes().len() - start;
+                note(&mut self.seen, lists, bytes);
+                Ok(())
+            }
+            Err(Memory) => {
+                take_off(&mut self.own, &mut self.runs, &mut self.before);
+                Err(Memory)
+            }
+        }
+    }
+
+    // Adds the end of a snapshot's line.
+    fn add_end(&mut self, lists: &SharedSnap) -> Result<(), Memory>
+        ensures { OnOk result (self.new ≡ self.old ++ snapshot_end lists.now) }
+    {
+        if self.repeat(lists) {
+            return Ok(());
+        }
+        if comes_again(&self.seen, lists) && self.keep_apart(lists) {
+            return Ok(());
+        }
+        self.print_end(lists)
+    }
+
+    /// Adds the line of a command that is told what a snapshot holds. Where that is the same again and again, the end of the
+    /// line is neither printed nor kept again. Where there is no memory the text is taken off.
+    pub fn add_snapped(
         &mut self,
         names: &NameList,
         by: By,
         command: &Command,
-        reply: &Reply,
+        lists: &SharedSnap,
     ) -> Result<(), Memory>
-        ensures { OnOk result (self.new ≡ self.old ++ command_line names.now (record { by = by; command = command.now; reply = reply.now })) }
+        ensures { OnOk result (self.new ≡ self.old ++ command_line names.now
+            (record { by = by; command = command.now; reply = replies.Snapped lists.now })) }
     {
-        let start = self.own.bytes().len();
-        match put_command_line(&mut self.own, names, by, command, reply) {
-            Ok(()) => match cut_end(self.alloc, &mut self.own, &mut self.last, start) {
-                Some(piece) => self.share(piece),
-                None => Ok(()),
-            },
+        match put_line_front(&mut self.own, names, by, command) {
+            Ok(()) => self.add_end(lists),
             Err(Memory) => {
-                take_off(&mut self.own, &mut self.shared, &mut self.before);
+                take_off(&mut self.own, &mut self.runs, &mut self.before);
                 Err(Memory)
             }
         }
     }
 
-    /// Adds the whole of another text.
-    pub fn join(&mut self, other: &Woven) -> Result<(), Memory>
-        ensures { OnOk result (self.new ≡ self.old ++ other.now) }
-    {
-        let mut rest = other.own.bytes();
-        for shared in other.shared.as_slice() {
-            let (own, behind) = rest.split_at(shared.behind);
-            self.put(own)?;
-            match Arc::try_clone(&shared.bytes) {
-                Ok(bytes) => self.share(bytes)?,
-                Err(_) => return Err(Memory),
-            }
-            rest = behind;
-        }
-        self.put(rest)
-    }
-
-    /// The text, where no piece of it is shared.
+    /// The text, where it stands in one piece.
     #[tactic(auto, unfolding(crate::specs::Woven::woven))]
     pub fn plain(&self) -> Option<&[u8]>
         ensures { IfSome result (λ text. text.now ≡ self.now) }
     {
-        if !self.shared.is_empty() {
+        if !self.runs.is_empty() {
             return None;
         }
         Some(self.own.bytes())
@@ -282,7 +296,7 @@ impl Woven {
         ensures front { OnErr result ((n : ℕ) × Appends (K.held sink.old) (K.held sink.new) (take n self.now)) }
         ensures cause { HasCause (K.faults sink.old) (K.faults sink.new) result }
     {
-        write_woven(self.alloc, sink, self.own.bytes(), self.shared.as_slice())
+        write_woven(self.alloc, sink, self.own.bytes(), self.runs.as_slice())
     }
 
     /// The same text, which grows no more.
@@ -292,38 +306,33 @@ impl Woven {
         let Woven {
             alloc: _,
             own,
-            shared,
+            runs,
             before: _,
-            last: _,
+            seen: _,
         } = self;
         Finished {
             own: own.into_bytes(),
-            shared,
+            runs,
         }
-    }
-
-    /// Whether it has few bytes of its own.
-    pub fn is_short(&self) -> bool {
-        self.own.bytes().len() <= SHORT
     }
 }
 
-/// A text of own bytes with shared pieces between them that grows no more. A contract sees the text.
+/// The same where the text grows no more.
 #[derive(Drop)]
 pub struct Finished {
     own: Vec<u8>,
-    shared: Vec<Shared>,
+    runs: Vec<Repeated>,
 }
 
 impl Model for Finished {
     ghost use Rattle.std.specs.Prelude.{◌≤◌, ℕ, List, length};
-    ghost use Rattle.script_rounds.specs.Woven.{own_before, woven};
+    ghost use Rattle.script_rounds.specs.Woven.{own_before, pieces_in, woven};
 
     ghost Value = { List ℕ };
 
-    ghost view = { λ f. woven f.shared.items f.own.items };
+    ghost view = { λ f. woven (pieces_in f.runs.items) f.own.items };
 
-    ghost invariant = { λ f. own_before f.shared.items ≤ length f.own.items };
+    ghost invariant = { λ f. own_before (pieces_in f.runs.items) ≤ length f.own.items };
 }
 
 impl Finished {
@@ -333,6 +342,6 @@ impl Finished {
         ensures front { OnErr result ((n : ℕ) × Appends (K.held sink.old) (K.held sink.new) (take n self.now)) }
         ensures cause { HasCause (K.faults sink.old) (K.faults sink.new) result }
     {
-        write_woven(alloc, sink, self.own.as_slice(), self.shared.as_slice())
+        write_woven(alloc, sink, self.own.as_slice(), self.runs.as_slice())
     }
 }

@@ -13,7 +13,7 @@ use Rattle.recoverable.specs.Fit.{KeptLog, base_at, log_end}
 use Rattle.session_lang.specs.declared.script.Script.{Script}
 use Rattle.run_law.specs.Lives.{RunStart}
 use Rattle.engine_host.specs.declared.cluster.Cluster.{Cluster}
-use Rattle.engine_host.specs.Opening.{Beginning, nothing_before}
+use Rattle.engine_host.specs.Opening.{Beginning, at_gate, nothing_before}
 use Rattle.engine_life.specs.declared.life.OpenLife.{OpenLife}
 use Rattle.engine_life.specs.FirstLives.{BeginsNew, IsFirstLife, MayBeginOver, MayMount, with_banks}
 use Rattle.engine_life.specs.Lives.{FitsLog, IsNewLife}
@@ -34,9 +34,9 @@ abbrev pub start_so : Cluster → Beginning → RunStart
 start_so c b = record { number = b.number; base = base_so c.base b }
 
 -- where the volumes tell, that is what their log gives
-pub told_base : (told : Bool) (kept : KeptLog) (n gate : ℕ) (counters : Counters) → IsTrue told → (base_at kept n).counters ≡ counters → base_at kept n ≡ base_so counters (behind told kept n gate)
-told_base true kept n gate counters tells same = ap (λ (c : Counters). base_so c (behind true kept n gate)) same
-told_base false kept n gate counters tells same = absurd (false≢true tells)
+pub told_base : (told : Bool) (kept : KeptLog) (n : ℕ) (counters : Counters) → IsTrue told → (base_at kept n).counters ≡ counters → base_at kept n ≡ base_so counters (behind told kept n)
+told_base true kept n counters tells same = ap (λ (c : Counters). base_so c (behind true kept n)) same
+told_base false kept n counters tells same = absurd (false≢true tells)
 
 -- where volumes tell, what this log gives at a number from the flushed one to its end
 pub record IsBehind (kept : KeptLog) (c : Cluster) (b : Beginning) : Type 0 where
@@ -45,7 +45,7 @@ pub record IsBehind (kept : KeptLog) (c : Cluster) (b : Beginning) : Type 0 wher
   pub base : base_at kept b.number ≡ base_so c.base b
 
 module _ {L P : Type 0} {l : logs.Ghosts L} {p : disks.Ghosts P} where
-  new_is_opened : (c : Cluster) (volumes : Volumes L P) (life : OpenLife L P l p) → (new : IsNewLife c volumes life) → IsOpened c (nothing_before new.gate) new.faults volumes life
+  new_is_opened : (c : Cluster) (volumes : Volumes L P) (life : OpenLife L P l p) → (new : IsNewLife c volumes life) → IsOpened c (at_gate nothing_before new.gate) new.faults volumes life
   new_is_opened c volumes life new = record {
     banks = new.banks;
     counted = new.counted;
@@ -55,7 +55,7 @@ module _ {L P : Type 0} {l : logs.Ghosts L} {p : disks.Ghosts P} where
   }
 
   next_is_opened : (kept : KeptLog) (banks sessions : ℕ) (volumes : Volumes L P) (life : OpenLife L P l p) → HasBanks banks volumes → (goes : GoesOnLife kept sessions volumes life)
-      → IsOpened goes.cluster (behind p.tells kept goes.number goes.gate) goes.faults volumes life
+      → IsOpened goes.cluster (at_gate (behind p.tells kept goes.number) goes.gate) goes.faults volumes life
   next_is_opened kept banks sessions volumes life has goes = record {
     banks = subst (λ n. HasBanks n volumes) (sym (goes.banks ∙ has.xact)) has;
     counted = goes.counted;
@@ -79,20 +79,20 @@ module _ {L P : Type 0} {l : logs.Ghosts L} {p : disks.Ghosts P} where
   opened_new : (kept : KeptLog) (c : Cluster) (volumes : Volumes L P) (life : OpenLife L P l p) → BeginsNew c volumes life → IsOpenedSo kept c volumes life
   opened_new kept c volumes life first = record {
     cluster = c;
-    begins = nothing_before first.new.gate;
+    begins = at_gate nothing_before first.new.gate;
     faults = first.new.faults;
     banks = refl;
     sessions = refl;
     opened = new_is_opened c volumes life first.new;
     opens = λ told. inl (first.opens told, refl);
-    starts = λ s n same. inl (first.opens, ap (λ (d : Cluster). start_so d (nothing_before first.new.gate)) same);
+    starts = λ s n same. inl (first.opens, ap (λ (d : Cluster). start_so d nothing_before) same);
     behind = λ told fits. absurd (first.unfit told kept fits);
   }
 
   opened_next : (kept : KeptLog) (c : Cluster) (volumes : Volumes L P) (life : OpenLife L P l p) → HasBanks c.banks volumes → GoesOnLife kept c.sessions volumes life → IsOpenedSo kept c volumes life
   opened_next kept c volumes life has goes = record {
     cluster = goes.cluster;
-    begins = behind p.tells kept goes.number goes.gate;
+    begins = at_gate (behind p.tells kept goes.number) goes.gate;
     faults = goes.faults;
     banks = goes.banks ∙ has.xact;
     sessions = goes.sessions_are;
@@ -100,14 +100,14 @@ module _ {L P : Type 0} {l : logs.Ghosts L} {p : disks.Ghosts P} where
     opens = λ told. inr (goes.opened_to told);
     starts = λ s n same. inr (record {
       opens = goes.opened_to;
-      base = λ told. told_base p.tells kept goes.number goes.gate goes.cluster.base told (goes.base told).counters_are;
+      base = λ told. told_base p.tells kept goes.number goes.cluster.base told (goes.base told).counters_are;
       flushed = λ told. (goes.base told).flushed;
       upto = λ told. (goes.base told).upto;
     });
     behind = λ told fits. record {
       flushed = (goes.base told).flushed;
       upto = (goes.base told).upto;
-      base = told_base p.tells kept goes.number goes.gate goes.cluster.base told (goes.base told).counters_are;
+      base = told_base p.tells kept goes.number goes.cluster.base told (goes.base told).counters_are;
     };
   }
 

@@ -142,20 +142,8 @@ fn run_members<K: LineKeeper + Send, L: LogDisk + Send + Sync, P: PageDisk + Sen
     );
 }
 
-/// Lets what a member keeps go.
-fn let_lines_go<K: LineKeeper + Drop, L: LogDisk, P: PageDisk>(
-    alloc: Global,
-    member: &mut Member<K, L, P>,
-)
-    ensures { member.new.caller ≡ member.old.caller }
-{
-    member.kept = K::none(alloc);
-}
-
-/// Keeps what the members kept, one member behind another. A long text is moved. What isn't is let go as soon as it is
-/// kept here, so that no more than one member's lines are held twice.
-fn join_members<K: LineKeeper + Drop, L: LogDisk, P: PageDisk>(
-    alloc: Global,
+/// Keeps what the members kept, one member behind another, so that no more than one member's lines are held twice.
+fn join_members<K: LineKeeper, L: LogDisk, P: PageDisk>(
     members: &mut Vec<Member<K, L, P>>,
     kept: &mut K,
 ) -> Result<(), Memory>
@@ -168,7 +156,6 @@ fn join_members<K: LineKeeper + Drop, L: LogDisk, P: PageDisk>(
             return Err(Memory);
         }
         kept.join(&mut member.kept)?;
-        let_lines_go(alloc, member);
     }
     Ok(())
 }
@@ -249,7 +236,7 @@ pub fn run_round<K: LineKeeper + Send + Drop, L: LogDisk + Send + Sync, P: PageD
     run_members(
         rt, hall, &mut sent, kept, banks, alloc, names, plan, round, threads, gate,
     );
-    let joined = join_members(alloc, &mut sent, kept);
+    let joined = join_members(&mut sent, kept);
     take_back(hall, host, &mut sent, sessions);
     sent.destroy_empty();
     joined

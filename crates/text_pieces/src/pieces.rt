@@ -5,7 +5,7 @@ ghost use Rattle.std.specs.Fmt.{decimal};
 ghost use Rattle.report_text.specs.Words.{line_text};
 ghost use Rattle.report_text.specs.RecordText.{records_text};
 ghost use Rattle.report_text.specs.ReportText.{crash_text, history_text, multis_text};
-ghost use Rattle.text_pieces.specs.Lines.{lines_text, piece_text};
+ghost use Rattle.text_pieces.specs.Lines.{events_text, lines_text, piece_text};
 
 use crate::beside::print_beside;
 use crate::lines::{Listed, put_lines};
@@ -18,6 +18,9 @@ use tx_model::{Event, How, Memory, MultiEvent, NameList, Rec};
 
 // A shorter list isn't worth its threads.
 const FEW: usize = 4_096;
+
+// So many events are printed before they go.
+const AT_ONCE: usize = 65_536;
 
 /// A text that stands in pieces, so that they can be made side by side and need not be copied together. A contract sees the
 /// whole text. After want of memory it isn't said what that is.
@@ -111,18 +114,62 @@ impl Pieces {
         put_crash(&mut self.last, crash)
     }
 
-    /// A history.
+    // Takes what the other has. No text is copied.
+    fn take(&mut self, other: Pieces) -> Result<(), Memory>
+        ensures { OnOk result (self.new ≡ self.old ++ other) }
+    {
+        let Pieces {
+            alloc: _,
+            front,
+            last,
+        } = other;
+        let before = mem::replace(&mut self.last, last);
+        self.front.push(before)?;
+        for text in front {
+            self.front.push(text)?;
+        }
+        Ok(())
+    }
+
+    // A line for each event, from the last ones on. They go as soon as they are printed.
+    fn put_events<R: Threads + Sync>(
+        &mut self,
+        rt: &R,
+        names: &NameList,
+        events: Vec<Event>,
+        threads: usize,
+    ) -> Result<(), Memory>
+        ensures { OnOk result (self.new ≡ self.old ++ events_text names.now events.items) }
+    {
+        let mut rest = events;
+        let mut behind = Vec::new(self.alloc);
+        while rest.len() > AT_ONCE {
+            let from = rest.len() - AT_ONCE;
+            let mut last = Pieces::new(self.alloc);
+            last.put_list(rt, names, &rest[from..], threads)?;
+            behind.push(last)?;
+            rest.truncate(from);
+            rest.shrink_to_fit();
+        }
+        self.put_list(rt, names, &rest, threads)?;
+        while let Some(next) = behind.pop() {
+            self.take(next)?;
+        }
+        Ok(())
+    }
+
+    /// A history. Its events go as they are printed, so that they and their text don't stand whole beside one another.
     pub fn put_history<R: Threads + Sync>(
         &mut self,
         rt: &R,
         names: &NameList,
-        events: &[Event],
+        events: Vec<Event>,
         threads: usize,
     ) -> Result<(), Memory>
-        ensures { OnOk result (self.new ≡ self.old ++ history_text names.now events.now) }
+        ensures { OnOk result (self.new ≡ self.old ++ history_text names.now events.items) }
     {
         self.put_word(b"history")?;
-        self.put_list(rt, names, events, threads)
+        self.put_events(rt, names, events, threads)
     }
 
     /// A history of multixacts.

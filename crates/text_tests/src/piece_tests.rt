@@ -59,7 +59,7 @@ fn printed<R: Threads + Abort + AllocGlobal + Sync>(rt: &R, threads: usize) -> S
     let names = two_sessions(rt);
     let mut pieces = Pieces::new(rt.alloc());
     pieces
-        .put_history(rt, &names, events(rt).as_slice(), threads)
+        .put_history(rt, &names, events(rt), threads)
         .expect(rt, "memory");
     pieces
         .put_multis(rt, &names, multis(rt).as_slice(), threads)

@@ -3,7 +3,7 @@ use Rattle.wal_core.specs.LogViews.{log_disk}
 use Rattle.tx_core.specs.declared.entry.Start.{Start}
 use Rattle.tx_events.proofs.Membership.{contains_has}
 use Rattle.engine_parts.specs.Sessions.{AreGivenBefore}
-use Rattle.engine_host.specs.Opening.{IsBegunLog, IsEmptyLog, ShowBeginning, first_gate, life_from, nothing_before}
+use Rattle.engine_host.specs.Opening.{IsEmptyLog, ShowBeginning, life_from, nothing_before}
 use Rattle.engine_host.specs.Refused.{IsRefusal}
 use Rattle.engine_host.proofs.Counting.{all_counted}
 use Rattle.engine_host.proofs.Multis.{zeros_show_members, zeros_show_offsets}
@@ -26,11 +26,11 @@ add_banks-requires g c =
     let disks = l.disks in
     let room = l.room in
     let stand = l.stand in
-    let shown : IsTrue p.tells → ShowBeginning p c.args.cluster (nothing_before (first_gate c.args.cluster c.args.log)) true 0 c.args.volumes = λ told. record {
-      states = λ bank disk at. zeros_show c.args.cluster (nothing_before (first_gate c.args.cluster c.args.log)) (0 + bank) c.requires.cluster.base refl;
+    let shown : IsTrue p.tells → ShowBeginning p c.args.cluster nothing_before true 0 c.args.volumes = λ told. record {
+      states = λ bank disk at. zeros_show c.args.cluster nothing_before (0 + bank) c.requires.cluster.base refl;
       parents = λ bank disk at q small. refl;
-      offsets = λ bank disk at. zeros_show_offsets c.args.cluster (nothing_before (first_gate c.args.cluster c.args.log)) refl (0 + bank) refl;
-      members = λ bank disk at. zeros_show_members c.args.cluster (nothing_before (first_gate c.args.cluster c.args.log)) refl (0 + bank);
+      offsets = λ bank disk at. zeros_show_offsets c.args.cluster nothing_before refl (0 + bank) refl;
+      members = λ bank disk at. zeros_show_members c.args.cluster nothing_before refl (0 + bank);
       durable = λ kept. absurd cc;
     } in
     search (rules, cluster, volumes, count, disks, room, stand, shown)
@@ -49,8 +49,8 @@ pub gather-requires : goal.gather-requires
 gather-requires g c =
     let l = c.in-Ok-first_locks.ensures in let added = c.in_default.ensures in
     let cluster = c.requires.cluster in
-    let before : AreGivenBefore (life_from c.args.cluster (nothing_before (first_gate c.args.cluster c.args.log)) []) = λ x k. absurd (contains_has [] x k) in
-    let log = subst (λ l. IsBegunLog c.args.cluster (nothing_before (first_gate c.args.cluster l)) c.begin_log.new.log) (c.deref_mut-fresh.ensures.value ∙ c.in-Ok.ensures.ok) c.in_default-begin_log.ensures.begun in
+    let before : AreGivenBefore (life_from c.args.cluster nothing_before []) = λ x k. absurd (contains_has [] x k) in
+    let log = c.in_default-begin_log.ensures.begun in
     let count = added.count in
     let room = l.room in
     let same_room = added.room in

@@ -6,8 +6,8 @@ use Rattle.proc_table.specs.Table.{Table}
 use Rattle.recoverable.specs.Whole.{MembersLeft, OffsetsLeft}
 use Rattle.tx_core.specs.Locks.{log_lock, members_lock, offsets_lock}
 use Rattle.tx_events.specs.Base.{IsBase}
-use Rattle.engine_parts.specs.LogTail.{log_tail}
 use Rattle.engine_parts.specs.declared.part.Part.TheVariants as parts
+use Rattle.engine_parts.specs.LogTail.{log_tail}
 use Rattle.engine_parts.proofs.Beginning.{log_begins}
 use Rattle.engine_parts.specs.Parts.{IsLogOf}
 use Rattle.engine_host.specs.Stores.{Store, of_members, of_offsets, of_subtrans, of_xact, volumes_in}

@@ -20,7 +20,7 @@ open_begun-requires g c =
     let each = each_store (λ k. length (volumes_in k (banks_in r)).items ≡ c.len.result) (sym banks) (many.0 ∙ sym banks) (many.1 ∙ sym banks) (many.2 ∙ sym banks) in
     let before = subst (λ n. AreGivenBefore (life_from (cluster_over r.base n c.args.sessions) g.begins [])) (sym banks) c.requires.1.1.1.1.1.1.1.1.0 in
     let past = subst (λ n. IsTrue g.L.LogDisk.tells → IsTrue g.begins.told → KeepsStart (cluster_over r.base n c.args.sessions) g.begins r.log) (sym banks) c.requires.1.1.1.1.1.1.1.1.1.1 in
-    let log = settled_begins (cluster_over r.base c.len.result c.args.sessions) g.begins r.from r.log settled c.requires.1.1.1.1.1.1.1.0.0 c.requires.1.1.1.1.1.1.1.0.1 past in
+    let log = settled_begins (cluster_over r.base c.len.result c.args.sessions) g.begins r.from r.log settled c.requires.1.1.1.1.1.1.1.0 past in
     let shown = subst (λ n. IsTrue p.tells → ShowBeginning p (cluster_over r.base n c.args.sessions) g.begins false 0 (banks_in r)) (sym banks) c.requires.1.1.1.1.1.1.1.1.1.0 in
     search (rules, cluster, each, before, log, shown)
 

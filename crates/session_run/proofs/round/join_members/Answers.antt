@@ -19,13 +19,14 @@ loop-member-preserved g c =
     let m = get_or ys k d in
     let here = here_same xs ys k d i.rest in
     let more : take (k + 1) xs ≡ take k xs ++ m ∷ [] = take_more xs k d c.loop-member-test.true ∙ ap (λ (x : Member _ _ _ _ _). take k xs ++ x ∷ []) (sym here) in
+    let joined : Member _ _ _ _ _ = record { caller = m.caller; kept = c.join.new.other; lines = m.lines; lost = m.lost } in
     record {
       sufficed = subst (All (λ (x : Member _ _ _ _ _). x.lost ≡ false)) (sym more) (All-push (λ (x : Member _ _ _ _ _). x.lost ≡ false) (take k xs) m i.sufficed c.if-member.false);
       kept =
-          c.in_ok-join.ensures ∙ ap (λ z. keep.joined z m.kept) i.kept
+          c.in_ok-join.ensures.kept ∙ ap (λ z. keep.joined z m.kept) i.kept
           ∙ sym (members_push keep c.args.kept.now (take k xs) m) ∙ ap (with_members keep c.args.kept.now) (sym more);
-      callers = callers_set xs ys k d c.let_lines_go.new.member c.let_lines_go.ensures i.callers;
-      rest = rest_same xs ys k c.let_lines_go.new.member i.rest;
+      callers = callers_set xs ys k d joined refl i.callers;
+      rest = rest_same xs ys k joined i.rest;
     }
 
 pub returns-in_err-join-clause-callers : goal.returns-in_err-join-clause-callers

@@ -1,13 +1,14 @@
 use Rattle.std.proofs.Common.{ℕ, List, ◌++◌, ◌∙◌, ap}
 use Rattle.report_text.specs.ReportText.{command_line}
 use Rattle.script_rounds.proofs.Weaving.{none_stands, told_then}
+use Rattle.script_rounds.specs.Woven.{pieces_in}
 use Rattle.script_rounds.proofs.woven.Woven.add_line.Goals as goal
 
 pub invariant_of-self-in-Err : goal.invariant_of-self-in-Err
-invariant_of-self-in-Err c = none_stands c.take_off.new.before c.take_off.new.shared.items c.take_off.new.own c.take_off.ensures.before c.take_off.ensures.shared
+invariant_of-self-in-Err c = none_stands c.take_off.new.before c.take_off.new.runs.items c.take_off.new.own c.take_off.ensures.before c.take_off.ensures.runs
 
 pub returns-in-Ok : goal.returns-in-Ok
 returns-in-Ok c =
     let more = command_line c.args.names.now (record { by = c.args.by; command = c.args.command.now; reply = c.args.reply.now }) in
-    told_then c.self.inside.before c.self.inside.shared.items c.self.inside.own more c.put_command_line.new.out c.self.invariant c.in-Ok.ensures.ok
+    told_then c.self.inside.before (pieces_in c.self.inside.runs.items) c.self.inside.own more c.put_command_line.new.out c.self.invariant c.in-Ok.ensures.ok
     ∙ ap (λ (t : List ℕ). t ++ more) c.self.view_is

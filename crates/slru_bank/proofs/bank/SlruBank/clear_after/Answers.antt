@@ -30,8 +30,8 @@ returns-clause-bank g c =
     let m : ℕ → List ℕ = pages_of c.args.self.now in
     let m1 : ℕ → List ℕ = pages_of c.remove.new.self in
     record {
-      sweeps = record { last = c.load.ensures.last ∙ c.remove.ensures.last; fault = λ is. search rules; count = search rules };
-      cutoff = c.load.ensures.cutoff ∙ c.remove.ensures.cutoff;
+      sweeps = record { last = ap (λ (r : Room). r.last) c.deref_mut.ensures.value ∙ (c.load.ensures.last ∙ c.remove.ensures.last); fault = λ is. search rules; count = search rules };
+      cutoff = ap (λ (r : Room). r.cutoff) c.deref_mut.ensures.value ∙ (c.load.ensures.cutoff ∙ c.remove.ensures.cutoff);
       err = λ told. tt;
       crash = λ told. gone_crash d.images d.moment d.left_at gone m m1 c.args.self.now.disk c.remove.new.self.disk c.load.new.self.disk (c.remove.ensures.any told) (c.remove.ensures.crash told) (c.load.ensures.crash told);
     }

@@ -58,13 +58,13 @@ own_still by May lists more lock never a =
     t.grown ∙ (ap (λ es. own session_of by.session (at lists lock) ++ es) (none_may by (May lock) t.added never t.each) ∙ append-nil (own session_of by.session (at lists lock)))
 
 pub nothing_still : (by : By) (lists more : List (List Entry)) (lock : ℕ) → AddsNothing by lists more → own session_of by.session (at more lock) ≡ own session_of by.session (at lists lock)
-nothing_still by lists more lock = own_still by (λ lock kind. ⊥) lists more lock (λ kind no. no)
+nothing_still by lists more lock = own_still by (λ lock kind. ⊥) lists more lock (λ kind never. never)
 
 -- a look into the ProcArray adds nothing to the list of a bank
 look_still : (start : Start) (u w : Knowledge) (n : ℕ) (s : Session) (bank : ℕ) → bank < start.banks → IsAt start u n s → ProcSection start (look_by n s) u w → own session_of n (at w.seen (xact_lock bank)) ≡ own session_of n (at u.seen (xact_lock bank))
 look_still start u w n s bank inside a section =
     let elsewhere : ℕ → Kind → Type 0 = λ lock kind. lock ≢ xact_lock bank in
-    own_still (by_at n s.levels.commands) elsewhere u.seen w.seen (xact_lock bank) (λ kind no. no refl) (look_adds start u w n s elsewhere a (λ number q. omega (arith, q, inside)) (λ q. omega (arith, q)) section)
+    own_still (by_at n s.levels.commands) elsewhere u.seen w.seen (xact_lock bank) (λ kind never. never refl) (look_adds start u w n s elsewhere a (λ number q. omega (arith, q, inside)) (λ q. omega (arith, q)) section)
 
 -- a critical section adds its entry to the session's own of that list
 section_own : (start : Start) (v w : Knowledge) (lock : ℕ) (e : Entry) → v.name ≡ session_of e → lock < length v.seen → Section start lock e v w → own session_of (session_of e) (at w.seen lock) ≡ own session_of (session_of e) (at v.seen lock) ++ e ∷ []

@@ -17,6 +17,7 @@ use Rattle.recoverable.specs.Whole.{BeganRight, IsShort, MembersLeft, OffsetsLef
 use Rattle.recoverable.proofs.LifeBases.{list_fits}
 use Rattle.recoverable.proofs.Whole.{image_fits}
 use Rattle.bank_follows.specs.Holding.{LogHolds}
+use Rattle.engine_parts.specs.LogTail.{log_tail}
 use Rattle.engine_parts.specs.declared.part.Part.{Part}
 use Rattle.engine_parts.specs.declared.part.Part.TheVariants as parts
 use Rattle.engine_parts.specs.BankCourse.{MembersCame, OffsetsCame}
@@ -31,7 +32,7 @@ module _ {L P : Type 0} (l : logs.Ghosts L) (p : disks.Ghosts P) (only_now : (d 
   -- what the log's value holds
   pub log_so_far : (log : WalLog L l) → IsLogOf start log (at lists log_lock)
       → (so_far : KeptLog) × LogHolds start (at lists log_lock) so_far (log_recs log) (log_next log) (log_first log) (l.images (log_disk log)) × (so_far.flushed ≡ flushed_to start (at lists log_lock))
-  log_so_far log s = log_held start lists l.tells (l.faults (log_disk log)) (l.images (log_disk log)) (log_recs log) (log_next log) (log_first log) (log_flushed log) (log_counters log) (log_down log) (log_checkpoint log) kept s tells right.told
+  log_so_far log s = log_held start lists l.tells (l.faults (log_disk log)) (l.images (log_disk log)) (log_recs log) (log_next log) (log_first log) (log_flushed log) (log_counters log) (log_down log) (log_checkpoint log) (log_tail log) kept s tells right.told
 
   -- ---- each image of a part's volume follows its list
 

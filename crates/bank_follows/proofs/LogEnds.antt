@@ -23,6 +23,7 @@ use Rattle.recoverable.specs.Laws.{IsBeginningOf, LogOf}
 use Rattle.recoverable.specs.LogSteps.{log_behind}
 use Rattle.recoverable.proofs.LogEnds.{log_ends}
 use Rattle.bank_follows.specs.Holding.{LogHolds}
+use Rattle.engine_parts.specs.LogTail.{LogTail}
 use Rattle.engine_parts.specs.Stand.{GivesStart, IsFirstKept, LogStands}
 
 module _ (start : Start) (number : ℕ) (past : List Rec) (g : GivesStart start number past) where
@@ -57,10 +58,10 @@ may_begin start es n kept = ⊎_elim inl (λ (later : ((by : By) × Contains es 
     inr (⊎_elim inl (λ (failed : (count : ℕ) × (by : By) × Contains es (record { by = by; kind = kinds.LogFault (calls.Forget n) count })). inr (failed.0, (failed.1, failed.2))) later)) kept.one
 
 -- what the log's value holds when the life ends
-pub log_held : (start : Start) (lists : List (List Entry)) (tells : Bool) (faults : ℕ) (images : Volume → Type 0) (recs : List Rec) (next first flushed : ℕ) (counters : Option Counters) (down : Option ℕ) (checkpoint : Option LastCheckpoint) → EngineInvariant start lists
-    → LogStands start tells faults images recs next first flushed counters down checkpoint (at lists log_lock) → IsTrue tells → IsTrue start.told
+pub log_held : (start : Start) (lists : List (List Entry)) (tells : Bool) (faults : ℕ) (images : Volume → Type 0) (recs : List Rec) (next first flushed : ℕ) (counters : Option Counters) (down : Option ℕ) (checkpoint : Option LastCheckpoint) (tail : LogTail) → EngineInvariant start lists
+    → LogStands start tells faults images recs next first flushed counters down checkpoint tail (at lists log_lock) → IsTrue tells → IsTrue start.told
     → (kept : KeptLog) × LogHolds start (at lists log_lock) kept recs next first images × (kept.flushed ≡ flushed_to start (at lists log_lock))
-log_held start lists tells faults images recs next first flushed counters down checkpoint k s tells_it told =
+log_held start lists tells faults images recs next first flushed counters down checkpoint tail k s tells_it told =
     let held = s.kept tells_it in
     let g = held.3 told in (
       log_behind start lists (before start held.0 held.1 g),

@@ -119,7 +119,8 @@ fn note_reached(
     note_checkpoint(checkpoints, &counters, reply)
 }
 
-/// Notes a step. The column is read where the step is a checkpoint. After want of memory nothing is known of the checkpoints.
+/// Notes a step. The column is read where the step is a checkpoint. After want of memory nothing is known of the
+/// checkpoints.
 pub fn pass_step(
     places: &HistoryPlaces,
     column: &[Counters],

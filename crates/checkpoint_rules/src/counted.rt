@@ -37,7 +37,7 @@ fn count_record(counts: &mut CounterCounts, rec: &Rec) -> Result<(), Memory>
         Rec::Commit { .. } => Ok(()),
         Rec::Abort { .. } => Ok(()),
         Rec::Multi { .. } => Ok(()),
-        Rec::Checkpoint { counters, .. } => count_one(counts, counters),
+        Rec::Checkpoint { counters, .. } => count_one(counts, counters.get()),
         Rec::Truncate { .. } => Ok(()),
     }
 }

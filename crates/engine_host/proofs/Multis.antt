@@ -23,7 +23,7 @@ use Rattle.engine_parts.specs.BankCourse.{HasNoParents, IsMemberOn, IsOffsetOn, 
 use Rattle.engine_parts.specs.Shelves.{MembersStands, OffsetsStands, word_held}
 use Rattle.engine_parts.specs.Stand.{SubtransStands}
 use Rattle.engine_host.specs.declared.cluster.Cluster.{Cluster}
-use Rattle.engine_host.specs.Opening.{Beginning, ShowMembers, ShowNothing, ShowOffsets, life_from}
+use Rattle.engine_host.specs.Opening.{Beginning, ShowMembers, ShowNothing, ShowOffsets, at_gate, life_from}
 use Rattle.engine_host.proofs.Starting.{zero_number}
 
 small_word : (n : ℕ) → word_page_of n < 2 ^ 32
@@ -33,11 +33,11 @@ small_member : (n : ℕ) → member_page_of n < 2 ^ 32
 small_member n = omega arith
 
 -- a clean start doesn't go by the counts of faults
-module _ (c : Cluster) (b : Beginning) (counts : List ℕ) where
-  offsets_any : {shown : ℕ → Option StoredBytes} → CleanOffsets (life_from c b []) shown → CleanOffsets (life_from c b counts) shown
+module _ (c : Cluster) (b : Beginning) (gate : ℕ) (counts : List ℕ) where
+  offsets_any : {shown : ℕ → Option StoredBytes} → CleanOffsets (life_from c b []) shown → CleanOffsets (life_from c (at_gate b gate) counts) shown
   offsets_any k = record { told = k.told; full = k.full; before = k.before; in_order = k.in_order; recorded = k.recorded; other = k.other; clean = k.clean }
 
-  members_any : {shown : ℕ → Option StoredBytes} → CleanMembers (life_from c b []) shown → CleanMembers (life_from c b counts) shown
+  members_any : {shown : ℕ → Option StoredBytes} → CleanMembers (life_from c b []) shown → CleanMembers (life_from c (at_gate b gate) counts) shown
   members_any k = record { before = k.before; in_order = k.in_order; recorded = k.recorded; gap = k.gap; clean = k.clean; behind = k.behind }
 
 -- the course of a bank that was just opened
@@ -67,11 +67,11 @@ before_near n = grind arith
 stop_tight : (oldest : ℕ) → stop_limit oldest + 2999990 ≤ oldest + 2 ^ 31
 stop_tight oldest = grind arith
 
-pub subtrans_begins : (c : Cluster) (b : Beginning) (bank faults last cutoff : ℕ) (tells : Bool) (bytes : ℕ → List ℕ) (led : List Entry → Type 0) (counts : List ℕ) → IsBase c.base → bank < c.banks
+pub subtrans_begins : (c : Cluster) (b : Beginning) (bank faults last cutoff : ℕ) (tells : Bool) (bytes : ℕ → List ℕ) (led : List Entry → Type 0) (gate : ℕ) (counts : List ℕ) → IsBase c.base → bank < c.banks
     → get_or counts (subtrans_lock bank) 0 ≤ faults → last ≡ subtrans_page (low_half c.base.next) → cutoff ≡ subtrans_page (low_half (id_before c.base.next))
     → (IsTrue tells → ShowNothing bytes) → (IsTrue tells → led [])
-    → SubtransStands (life_from c b counts) bank tells faults last cutoff bytes led []
-subtrans_begins c b bank faults last cutoff tells bytes led counts base inside count last_is cutoff_is zeros begun = record {
+    → SubtransStands (life_from c (at_gate b gate) counts) bank tells faults last cutoff bytes led []
+subtrans_begins c b bank faults last cutoff tells bytes led gate counts base inside count last_is cutoff_is zeros begun = record {
   inside = inside;
   count = count;
   last_is = λ near. last_is ∙ low_page c.base.next;
@@ -90,10 +90,10 @@ subtrans_begins c b bank faults last cutoff tells bytes led counts base inside c
     low_page : (n : ℕ) → subtrans_page (low_half n) ≡ subtrans_page n % 2 ^ 21
     low_page n = omega arith
 
-pub parents_came : {P O : Type 0} {g : disks.Ghosts P} {r : rules.Ghosts O} (c : Cluster) (b : Beginning) (bank : ℕ) (store : SlruBank P O g r) (counts : List ℕ) → ShowNothing (pages_of store) → IsDurable store
-    → last_page store ≡ subtrans_page (low_half c.base.next) → cutoff_of store ≡ subtrans_page (low_half (id_before c.base.next)) → ParentsCame (life_from c b counts) bank store []
-parents_came c b bank store counts zeros durable last cutoff =
-    came (parent_rack (life_from c b counts)) (IsParentOn (life_from c b counts) bank) HasNoParents (λ m. Unit {0}) store (λ x. None) (λ x. refl)
+pub parents_came : {P O : Type 0} {g : disks.Ghosts P} {r : rules.Ghosts O} (c : Cluster) (b : Beginning) (bank : ℕ) (store : SlruBank P O g r) (gate : ℕ) (counts : List ℕ) → ShowNothing (pages_of store) → IsDurable store
+    → last_page store ≡ subtrans_page (low_half c.base.next) → cutoff_of store ≡ subtrans_page (low_half (id_before c.base.next)) → ParentsCame (life_from c (at_gate b gate) counts) bank store []
+parents_came c b bank store gate counts zeros durable last cutoff =
+    came (parent_rack (life_from c (at_gate b gate) counts)) (IsParentOn (life_from c (at_gate b gate) counts) bank) HasNoParents (λ m. Unit {0}) store (λ x. None) (λ x. refl)
     (λ x i asked lt. ap (λ page. number_in page (word_place_of x)) (zeros (word_page_of x) (small_word x)) ∙ zero_number (word_place_of x)) tt durable
     (last ∙ low_page c.base.next) (cutoff ∙ low_page (id_before c.base.next))
   where
@@ -119,16 +119,16 @@ word_is bytes place o each =
 same_bank : (from n m : ℕ) → from + 4 * n ≡ from + 4 * m → n ≡ m
 same_bank from n m e = omega (arith, e)
 
-module _ (c : Cluster) (b : Beginning) (bank : ℕ) (counts : List ℕ) where
+module _ (c : Cluster) (b : Beginning) (bank : ℕ) (gate : ℕ) (counts : List ℕ) where
   module _ (left : ℕ → List ℕ) (shows : ShowOffsets c b bank left) where
     -- what a number on such a page reads
     offset_reads : (bytes : ℕ → List ℕ) → ((q : ℕ) → q < 2 ^ 32 → bytes q ≡ left q) → (x : ℕ) → word_page_of x % c.banks ≡ bank → number_in (bytes (word_page_of x)) (word_place_of x) ≡ word_held (shows.shown x)
     offset_reads bytes same x on = ap (λ page. number_in page (word_place_of x)) (same (word_page_of x) (small_word x)) ∙ word_is (left (word_page_of x)) (word_place_of x) (shows.shown x) (λ i lt. shows.each x i lt on)
 
     pub offsets_came : {P O : Type 0} {g : disks.Ghosts P} {r : rules.Ghosts O} (store : SlruBank P O g r) → ((q : ℕ) → q < 2 ^ 32 → pages_of store q ≡ left q) → IsDurable store
-        → last_page store ≡ offset_page c.base.multi % 2 ^ 21 → cutoff_of store ≡ offset_page (multi_before c.base.oldest_multi) % 2 ^ 21 → OffsetsCame (life_from c b counts) bank store []
+        → last_page store ≡ offset_page c.base.multi % 2 ^ 21 → cutoff_of store ≡ offset_page (multi_before c.base.oldest_multi) % 2 ^ 21 → OffsetsCame (life_from c (at_gate b gate) counts) bank store []
     offsets_came store same durable last cutoff =
-        came (offset_rack (life_from c b counts)) (IsOffsetOn (life_from c b counts) bank) (CleanOffsets (life_from c b counts)) (λ m. Unit {0}) store shows.shown (offsets_any c b counts shows.clean)
+        came (offset_rack (life_from c (at_gate b gate) counts)) (IsOffsetOn (life_from c (at_gate b gate) counts) bank) (CleanOffsets (life_from c (at_gate b gate) counts)) (λ m. Unit {0}) store shows.shown (offsets_any c b gate counts shows.clean)
         (λ x i asked lt. ap (λ page. slice_index page (word_place_of x + i)) (same (word_page_of x) (small_word x)) ∙ shows.each x i lt (same_bank 5 (word_page_of x % c.banks) bank asked.on)) tt durable last cutoff
 
   module _ (left : ℕ → List ℕ) (shows : ShowMembers c b bank left) where
@@ -142,15 +142,15 @@ module _ (c : Cluster) (b : Beginning) (bank : ℕ) (counts : List ℕ) where
         ∙ word_is page (member_place_of x) (shows.shown x) (λ i lt. subst (λ four. slice_index page (cond four (mode_place_of x) (member_place_of x + i)) ≡ byte_held (shows.shown x) i) (in_id i lt) (shows.each x i (omega (arith, lt)) on))
 
     pub members_came : {P O : Type 0} {g : disks.Ghosts P} {r : rules.Ghosts O} (store : SlruBank P O g r) → ((q : ℕ) → q < 2 ^ 32 → pages_of store q ≡ left q) → IsDurable store
-        → last_page store ≡ member_page_in_full c.base.offset % 2625286 → cutoff_of store ≡ member_page_in_full c.base.oldest_offset % 2625286 → MembersCame (life_from c b counts) bank store []
+        → last_page store ≡ member_page_in_full c.base.offset % 2625286 → cutoff_of store ≡ member_page_in_full c.base.oldest_offset % 2625286 → MembersCame (life_from c (at_gate b gate) counts) bank store []
     members_came store same durable last cutoff =
-        came (member_rack (life_from c b counts)) (IsMemberOn (life_from c b counts) bank) (CleanMembers (life_from c b counts)) HasZeroTails store shows.shown (members_any c b counts shows.clean)
+        came (member_rack (life_from c (at_gate b gate) counts)) (IsMemberOn (life_from c (at_gate b gate) counts) bank) (CleanMembers (life_from c (at_gate b gate) counts)) HasZeroTails store shows.shown (members_any c b gate counts shows.clean)
         (λ x i asked lt. ap (λ page. slice_index page (slot_place_of x i)) (same (member_page_of x) (small_member x)) ∙ shows.each x i lt (same_bank 6 (member_page_of x % c.banks) bank asked.on))
         (λ q i small past. ap (λ page. slice_index page i) (same q small) ∙ shows.tails q i small past) durable last cutoff
 
-module _ (c : Cluster) (b : Beginning) (bank faults last cutoff : ℕ) (tells : Bool) (bytes left : ℕ → List ℕ) (counts : List ℕ) (inside : bank < c.banks) (same : IsTrue tells → (q : ℕ) → q < 2 ^ 32 → bytes q ≡ left q) where
+module _ (c : Cluster) (b : Beginning) (bank faults last cutoff : ℕ) (tells : Bool) (bytes left : ℕ → List ℕ) (gate : ℕ) (counts : List ℕ) (inside : bank < c.banks) (same : IsTrue tells → (q : ℕ) → q < 2 ^ 32 → bytes q ≡ left q) where
   pub offsets_begin : (IsTrue tells → ShowOffsets c b bank left) → get_or counts (offsets_lock bank) 0 ≤ faults → last ≡ offset_page c.base.multi % 2 ^ 21 → cutoff ≡ offset_page (multi_before c.base.oldest_multi) % 2 ^ 21
-      → OffsetsStands (life_from c b counts) bank tells faults last cutoff bytes []
+      → OffsetsStands (life_from c (at_gate b gate) counts) bank tells faults last cutoff bytes []
   offsets_begin shows count last_is cutoff_is = record {
     inside = inside;
     count = count;
@@ -158,13 +158,13 @@ module _ (c : Cluster) (b : Beginning) (bank faults last cutoff : ℕ) (tells : 
     cutoff_is = (offset_page (multi_before c.base.oldest_multi), inl refl, cutoff_is);
     shown = λ told near. let s = shows told in (
       s.shown,
-      offsets_any c b counts s.clean,
-      record { each = λ x room on. inl (offset_reads c b bank counts left s bytes (same told) x on) },
+      offsets_any c b gate counts s.clean,
+      record { each = λ x room on. inl (offset_reads c b bank gate counts left s bytes (same told) x on) },
     );
   }
 
   pub members_begin : (IsTrue tells → ShowMembers c b bank left) → get_or counts (members_lock bank) 0 ≤ faults → last ≡ member_page_in_full c.base.offset % 2625286 → cutoff ≡ member_page_in_full c.base.oldest_offset % 2625286
-      → MembersStands (life_from c b counts) bank tells faults last cutoff bytes []
+      → MembersStands (life_from c (at_gate b gate) counts) bank tells faults last cutoff bytes []
   members_begin shows count last_is cutoff_is = record {
     inside = inside;
     count = count;
@@ -172,9 +172,9 @@ module _ (c : Cluster) (b : Beginning) (bank faults last cutoff : ℕ) (tells : 
     cutoff_is = (member_page_in_full c.base.oldest_offset, inl refl, cutoff_is);
     shown = λ told near. let s = shows told in (
       s.shown,
-      members_any c b counts s.clean,
+      members_any c b gate counts s.clean,
       record {
-        each = λ x room on. inl (λ j. (mode_reads c b bank counts left s bytes (same told) x on j, id_reads c b bank counts left s bytes (same told) x on j));
+        each = λ x room on. inl (λ j. (mode_reads c b bank gate counts left s bytes (same told) x on j, id_reads c b bank gate counts left s bytes (same told) x on j));
       },
     );
   }

@@ -31,13 +31,16 @@ use Rattle.tx_core.specs.declared.entry.State.TheVariants as states
 use Rattle.tx_core.specs.Locks.{log_lock, members_lock, offsets_lock, subtrans_lock, xact_lock, xact_page}
 use Rattle.multi_store.specs.Generator.{Generator}
 use Rattle.multi_store.specs.declared.generator.MultiGen.{MultiGen}
+use Rattle.wal_core.specs.LogViews.{log_end}
+use Rattle.wal_core.specs.declared.wal_log.WalLog.{WalLog}
 use Rattle.engine_parts.specs.declared.part.Part.{Part}
 use Rattle.engine_parts.specs.declared.part.Part.TheVariants as parts
 use Rattle.engine_parts.specs.Course.{HasCourse, IsOpened}
+use Rattle.engine_parts.specs.LogTail.{LogTail}
 use Rattle.engine_parts.specs.Parts.{PartStands}
 use Rattle.engine_parts.specs.Stand.{GivesStart, LogStands, XactStands}
 use Rattle.engine_host.specs.declared.cluster.Cluster.{Cluster}
-use Rattle.engine_host.specs.Opening.{AllOnDisk, AllShow, AllShowNothing, AreNew, Beginning, IsNewPart, IsOnDisk, ShowBeginning, ShowMembers, ShowOffsets, ShowStates, bytes_left, faults_behind, life_from, life_of, new_life}
+use Rattle.engine_host.specs.Opening.{AllOnDisk, AllShow, AllShowNothing, AreNew, Beginning, IsNewPart, IsOnDisk, ShowBeginning, ShowMembers, ShowOffsets, ShowStates, bytes_left, EndsAt, at_gate, faults_behind, gate_behind, life_from, new_life, nothing_before}
 use Rattle.engine_host.specs.Stores.{Store, of_members, of_offsets, of_subtrans, of_xact, volumes_in}
 use Rattle.engine_host.specs.declared.cluster.BankVolumes.{BankVolumes}
 
@@ -54,11 +57,11 @@ none_more : (n : ℕ) → n ≡ n + 0
 none_more n = omega arith
 
 -- what was given doesn't go by the counts of faults
-gives_any : (c : Cluster) (b : Beginning) (counts : List ℕ) (number : ℕ) (past : List Rec) → GivesStart (life_from c b []) number past → GivesStart (life_from c b counts) number past
-gives_any c b counts number past g = record { base = g.base; below = g.below; gives = g.gives; place = g.place; some = g.some; whole = g.whole }
+gives_any : (c : Cluster) (b : Beginning) (gate : ℕ) (counts : List ℕ) (number : ℕ) (past : List Rec) → GivesStart (life_from c b []) number past → GivesStart (life_from c (at_gate b gate) counts) number past
+gives_any c b gate counts number past g = record { base = g.base; below = g.below; gives = g.gives; place = g.place; some = g.some; whole = g.whole }
 
 -- the first checkpoint gives the begin of a new cluster's life
-pub first_gives : (c : Cluster) → GivesStart (life_of c []) 0 (records.Checkpoint 0 c.base ∷ [])
+pub first_gives : (c : Cluster) → GivesStart (life_from c nothing_before []) 0 (records.Checkpoint 0 c.base ∷ [])
 first_gives c = record {
   base = none;
   below = λ multi offset members k. absurd (contains_has [] (records.Multi multi offset members) k);
@@ -80,11 +83,11 @@ first_gives c = record {
     whole (suc n) counters at = absurd cc
 
 -- one record, which is the checkpoint, and is on disk
-pub log_begins : (c : Cluster) (b : Beginning) (tells : Bool) (faults : ℕ) (images : Volume → Type 0) (recs : List Rec) (next first flushed : ℕ) (counters : Option Counters) (down : Option ℕ) (checkpoint : Option LastCheckpoint) (counts : List ℕ)
-    → recs ≡ records.Checkpoint b.number c.base ∷ [] → next ≡ b.number + 1 → flushed ≡ b.number + 1 → counters ≡ Some c.base → down ≡ None → first ≡ b.number → get_or counts log_lock 0 ≤ faults
+pub log_begins : (c : Cluster) (b : Beginning) (tells : Bool) (faults : ℕ) (images : Volume → Type 0) (recs : List Rec) (next first flushed : ℕ) (counters : Option Counters) (down : Option ℕ) (checkpoint : Option LastCheckpoint) (tail : LogTail) (counts : List ℕ)
+    → recs ≡ records.Checkpoint b.number c.base ∷ [] → next ≡ b.number + 1 → flushed ≡ b.number + 1 → counters ≡ Some c.base → down ≡ None → first ≡ b.number → get_or counts log_lock 0 ≤ faults → tail.pending ≡ []
     → (IsTrue tells → (number : ℕ) × (all : List Rec) × KeepsRecords number all recs next first flushed images × (IsTrue b.told → GivesStart (life_from c b []) number all))
-    → LogStands (life_from c b counts) tells faults images recs next first flushed counters down checkpoint []
-log_begins c b tells faults images recs next first flushed counters down checkpoint counts recs_are next_is flushed_is counters_are up low count keeps = record {
+    → LogStands (life_from c (at_gate b tail.gate) counts) tells faults images recs next first flushed counters down checkpoint tail []
+log_begins c b tells faults images recs next first flushed counters down checkpoint tail counts recs_are next_is flushed_is counters_are up low count none keeps = record {
   recs_are = recs_are;
   next_is = next_is ∙ none_more (b.number + 1);
   flushed_is = flushed_is;
@@ -94,10 +97,12 @@ log_begins c b tells faults images recs next first flushed counters down checkpo
   count = count;
   kept = λ told.
       let k = keeps told in
-      (k.0, k.1, subst (λ (t : List Rec). KeepsRecords k.0 t recs next first flushed images) (sym (append-nil k.1)) k.2, λ t. gives_any c b counts k.0 k.1 (k.3 t));
+      (k.0, k.1, subst (λ (t : List Rec). KeepsRecords k.0 t recs next first flushed images) (sym (append-nil k.1)) k.2, λ t. gives_any c b tail.gate counts k.0 k.1 (k.3 t));
   first_is = record { exact = let same : b.number + 1 - 1 ≡ b.number = omega arith in low ∙ sym same; one = inl (let here : first < b.number + 1 = omega (arith, low) in here); behind = λ up. omega arith };
   others = λ told. let k = keeps told in (k.2.other, k.2.begins);
   alone = λ number ends. absurd (let long = ap (λ (t : List Entry). length t) ends.split in let more = length-append ends.before (record { by = ends.appender; kind = kinds.Append (records.Checkpoint number ends.counters) } ∷ record { by = ends.flusher; kind = kinds.Flush (number + 1) } ∷ []) in omega (arith, long, more));
+  tail_is = λ i. record { gate = tail.gate; pending = none i };
+  room = tt;
 }
 
 -- ---- the banks
@@ -113,8 +118,8 @@ pub zero_number : (n : ℕ) → number_in zero_page n ≡ 0
 zero_number n = rw (zero_byte n, zero_byte (n + 1), zero_byte (n + 2), zero_byte (n + 3)) refl
 
 -- a clean start goes by the base and what is committed alone
-clean_any : (c : Cluster) (b : Beginning) (counts : List ℕ) (shown : ℕ → Option State) → CleanStart (life_from c b []) shown → CleanStart (life_from c b counts) shown
-clean_any c b counts shown k = record {
+clean_any : (c : Cluster) (b : Beginning) (gate : ℕ) (counts : List ℕ) (shown : ℕ → Option State) → CleanStart (life_from c b []) shown → CleanStart (life_from c (at_gate b gate) counts) shown
+clean_any c b gate counts shown k = record {
   base = k.base;
   before = k.before;
   committed = k.committed;
@@ -144,11 +149,11 @@ zeros_show c b bank base none = record {
     unshown : (None ≡ Some states.Committed) ⊎ (None ≡ Some states.SubCommitted) → ⊥
     unshown shown = ⊎_elim (λ (e : None ≡ Some states.Committed). absurd cc) (λ (e : None ≡ Some states.SubCommitted). absurd cc) shown
 
-pub xact_begins : (c : Cluster) (b : Beginning) (bank faults last cutoff : ℕ) (tells : Bool) (bytes left : ℕ → List ℕ) (led : List Entry → Type 0) (counts : List ℕ) → bank < c.banks
+pub xact_begins : (c : Cluster) (b : Beginning) (bank faults last cutoff : ℕ) (tells : Bool) (bytes left : ℕ → List ℕ) (led : List Entry → Type 0) (gate : ℕ) (counts : List ℕ) → bank < c.banks
     → get_or counts (xact_lock bank) 0 ≤ faults → last ≡ xact_page (low_half c.base.next) → cutoff ≡ xact_page (low_half c.base.oldest)
     → (IsTrue tells → ShowStates c b bank left) → (IsTrue tells → (q : ℕ) → q < 2 ^ 32 → bytes q ≡ left q) → (IsTrue tells → led [])
-    → XactStands (life_from c b counts) bank tells faults last cutoff bytes led []
-xact_begins c b bank faults last cutoff tells bytes left led counts inside count last_is cutoff_is shows same begun = record {
+    → XactStands (life_from c (at_gate b gate) counts) bank tells faults last cutoff bytes led []
+xact_begins c b bank faults last cutoff tells bytes left led gate counts inside count last_is cutoff_is shows same begun = record {
   inside = inside;
   count = count;
   last_is = λ near. last_is ∙ low_page c.base.next;
@@ -156,7 +161,7 @@ xact_begins c b bank faults last cutoff tells bytes left led counts inside count
   near = (xact_page c.base.oldest, cutoff_is ∙ low_page c.base.oldest, (omega arith, omega arith));
   shown = λ told near. let s = shows told in (
     s.shown,
-    clean_any c b counts s.shown s.clean,
+    clean_any c b gate counts s.shown s.clean,
     record {
       each = λ x used here kept. ap (λ page. state_in page (xact_place_of x)) (same told (xact_page_of x) (small x)) ∙ s.each x here;
     },
@@ -171,14 +176,14 @@ xact_begins c b bank faults last cutoff tells bytes left led counts inside count
     small n = omega arith
 
 -- its course begins with pages that show this, as a crash leaves them too
-pub course_begins : {P O : Type 0} {g : disks.Ghosts P} {r : rules.Ghosts O} (c : Cluster) (b : Beginning) (bank : ℕ) (store : SlruBank P O g r) (left : ℕ → List ℕ) (counts : List ℕ)
+pub course_begins : {P O : Type 0} {g : disks.Ghosts P} {r : rules.Ghosts O} (c : Cluster) (b : Beginning) (bank : ℕ) (store : SlruBank P O g r) (left : ℕ → List ℕ) (gate : ℕ) (counts : List ℕ)
     → last_page store ≡ xact_page (low_half c.base.next) → cutoff_of store ≡ xact_page (low_half c.base.oldest)
     → ShowStates c b bank left → ((q : ℕ) → q < 2 ^ 32 → pages_of store q ≡ left q) → IsDurable store
-    → HasCourse (life_from c b counts) bank store []
-course_begins {P} {O} {g} {r} c b bank store left counts last cutoff shows same durable =
-    let opened : IsOpened (life_from c b counts) bank store = record {
+    → HasCourse (life_from c (at_gate b gate) counts) bank store []
+course_begins {P} {O} {g} {r} c b bank store left gate counts last cutoff shows same durable =
+    let opened : IsOpened (life_from c (at_gate b gate) counts) bank store = record {
       before = shows.shown;
-      clean = clean_any c b counts shows.shown shows.clean;
+      clean = clean_any c b gate counts shows.shown shows.clean;
       shown = λ x near on. ap (λ page. state_in page (xact_place_of x)) (same (xact_page_of x) (small x)) ∙ shows.each x (same_bank (xact_page_of x % c.banks) bank on);
       durable = durable;
       last = last ∙ low_page c.base.next;
@@ -254,7 +259,7 @@ rest_begin {P} p c b removed n all rest is may = record {
 table_new : (L P : Type 0) (l : logs.Ghosts L) (p : disks.Ghosts P) (c : Cluster) (b : Beginning) (table : Box Table Global)
     → table.value ≡ record { base = c.base; sessions = c.sessions; initialised_up_to = page_of c.base.next; events = [] }
     → IsNewPart {L = L} {P = P} {l = l} {p = p} c b 1 (parts.Proc table)
-table_new L P l p c b table is counts reached = (
+table_new L P l p c b table is gate counts ends reached = (
   refl,
   record {
     base = ap (λ (t : Table). t.base) is;
@@ -267,7 +272,7 @@ table_new L P l p c b table is counts reached = (
 -- and its generator of multixacts
 multis_new : (L P : Type 0) (l : logs.Ghosts L) (p : disks.Ghosts P) (c : Cluster) (b : Beginning) (gen : Box MultiGen Global)
     → ◌≡◌ {A = Generator} gen.value (record { base = c.base; events = [] }) → IsNewPart {L = L} {P = P} {l = l} {p = p} c b 2 (parts.Multi gen)
-multis_new L P l p c b gen is counts reached = (
+multis_new L P l p c b gen is gate counts ends reached = (
   refl,
   record {
     base = ap (λ (g : Generator). g.base) is;
@@ -329,10 +334,25 @@ module _ {L P : Type 0} {l : logs.Ghosts L} {p : disks.Ghosts P} where
       let same : 1 + n ≡ 0 + suc n = omega arith in
       subst (λ k. IsNewPart c b k part) same (are n part at)
 
-  -- each stands for its list in the life that begins with their counts
+  -- the log lies behind the first lock, so each part fits where the log ends
+  ends_first : (xs : List (Part L P l p)) (lock : ℕ) (log : Box (WalLog L l) Global) → 0 + lock ≡ log_lock → slice_get xs lock ≡ Some (parts.Log log) → gate_behind xs ≡ log_end log.value
+  ends_first [] lock log first at = absurd cc
+  ends_first (x ∷ xs) zero log first at = ap (λ (y : Part L P l p). gate_behind (y ∷ xs)) (some_same x (parts.Log log) at)
+  ends_first (x ∷ xs) (suc n) log first at = absurd (omega (arith, first))
+
+  ends : (c : Cluster) (b : Beginning) (xs : List (Part L P l p)) → AreNew c b 0 xs → (lock : ℕ) (part : Part L P l p) → slice_get xs lock ≡ Some part → EndsAt (gate_behind xs) part
+  ends c b xs are lock (parts.Log log) at = ends_first xs lock log (are lock (parts.Log log) at (log_end log.value) [] refl (omega arith)).0 at
+  ends c b xs are lock (parts.Proc table) at = tt
+  ends c b xs are lock (parts.Multi gen) at = tt
+  ends c b xs are lock (parts.Xact store) at = tt
+  ends c b xs are lock (parts.Subtrans store) at = tt
+  ends c b xs are lock (parts.Offsets store) at = tt
+  ends c b xs are lock (parts.Members store) at = tt
+
+  -- each stands for its list in the life that begins with their counts, and with the log's end
   pub all_stand : (c : Cluster) (b : Beginning) (xs : List (Part L P l p)) → AreNew c b 0 xs → (lock : ℕ) (part : Part L P l p) → slice_get xs lock ≡ Some part → PartStands (new_life c b xs) lock part []
   all_stand c b xs are lock part at =
       let counted : get_or (map faults_behind xs) lock 0 ≡ faults_behind part =
       get_or_from_slice_get (map faults_behind xs) lock (faults_behind part) 0 (slice_get-map faults_behind xs lock ∙ ap (option_map faults_behind) at) in
       let same : 0 + lock ≡ lock = omega arith in
-      subst (λ k. IsNewPart c b k part) same (are lock part at) (map faults_behind xs) (omega (arith, counted))
+      subst (λ k. IsNewPart c b k part) same (are lock part at) (gate_behind xs) (map faults_behind xs) (ends c b xs are lock part at) (omega (arith, counted))

@@ -7,7 +7,7 @@ use Rattle.tx_events.specs.Base.{IsBase}
 use Rattle.tx_events.specs.declared.record.Rec.{Rec}
 use Rattle.tx_events.specs.declared.record.Rec.TheVariants as records
 use Rattle.wal_core.specs.declared.wal_log.WalLog.{WalLog}
-use Rattle.wal_core.specs.LogViews.{KeepsAll, log_counters, log_disk, log_down, log_first, log_flushed, log_next, log_recs}
+use Rattle.wal_core.specs.LogViews.{KeepsAll, log_counters, log_disk, log_down, log_end, log_first, log_flushed, log_next, log_recs}
 use Rattle.slru_bank.specs.Calls.{faults_of}
 use Rattle.slru_bank.specs.declared.bank.SlruBank.{SlruBank}
 use Rattle.store_pages.specs.Layouts.{member_page_of, state_in, word_page_of, word_place_of, xact_page_of, xact_place_of}
@@ -34,10 +34,12 @@ pub record IsCluster (c : Cluster) : Type 0 where
   pub banks : (1 ≤ c.banks) × (c.banks ≤ 16)
   pub sessions : c.sessions ≤ 64
 
--- What a life begins with beside its cluster: the number of the checkpoint that the log has last, the ids that are
--- committed and the multixacts that were recorded before it, and whether the volumes told that.
+-- What a life begins with beside its cluster: the number of the checkpoint that the log has last and the place where
+-- its batches end, the ids that are committed and the multixacts that were recorded before it, and whether the volumes
+-- told that.
 pub record Beginning : Type 0 where
   pub number : ℕ
+  pub gate : ℕ
   pub committed : List ℕ
   pub recorded : List Rec
   pub told : Bool
@@ -52,16 +54,21 @@ life_from c b faults = record {
   committed = b.committed;
   recorded = b.recorded;
   logged = records.Checkpoint b.number c.base ∷ [];
+  gate = b.gate;
   told = b.told;
   faults = faults;
 }
 
+-- so where the log's batches end here
+abbrev pub at_gate : Beginning → ℕ → Beginning
+at_gate b gate = record { number = b.number; gate = gate; committed = b.committed; recorded = b.recorded; told = b.told }
+
 -- over a new log, which has one record: nothing is committed, and no multixact was recorded, whatever the volumes tell
 abbrev pub nothing_before : Beginning
-nothing_before = record { number = 0; committed = []; recorded = []; told = true }
+nothing_before = record { number = 0; gate = 0; committed = []; recorded = []; told = true }
 
-abbrev pub life_of : Cluster → List ℕ → Start
-life_of c faults = life_from c nothing_before faults
+abbrev pub life_of : Cluster → ℕ → List ℕ → Start
+life_of c gate faults = life_from c (at_gate nothing_before gate) faults
 
 -- a log without a record
 pub record IsEmptyLog {D : Type 0} {g : logs.Ghosts D} (log : WalLog D g) : Type 0 where
@@ -85,7 +92,8 @@ pub record HasFirst {D : Type 0} {g : logs.Ghosts D} (c : Cluster) (log : WalLog
 -- a log that stands for a list without entries, with the checkpoint on disk
 abbrev pub IsBegunLog : {D : Type 0} → {g : logs.Ghosts D} → Cluster → Beginning → WalLog D g → Type 0
 IsBegunLog {g = g} c b log =
-    (faults : List ℕ) → get_or faults log_lock 0 ≤ g.faults (log_disk log) → IsLogOf (life_from c b faults) log []
+    (faults : List ℕ) → get_or faults log_lock 0 ≤ g.faults (log_disk log)
+    → IsLogOf (life_from c (at_gate b (log_end log)) faults) log []
 
 -- The bytes of a bank's pages show states of a clean start: of each id of the bank its own.
 pub record ShowStates (c : Cluster) (b : Beginning) (bank : ℕ) (bytes : ℕ → List ℕ) : Type 0 where
@@ -148,23 +156,23 @@ module _ {P O : Type 0} {g : disks.Ghosts P} {r : rules.Ghosts O} where
   -- banks that stand for lists without entries
   abbrev pub IsNewXact : Cluster → Beginning → ℕ → SlruBank P O g r → Type 0
   IsNewXact c b bank store =
-      (faults : List ℕ) → get_or faults (xact_lock bank) 0 ≤ faults_of store
-      → IsXactOf (life_from c b faults) bank store []
+      (gate : ℕ) (faults : List ℕ) → get_or faults (xact_lock bank) 0 ≤ faults_of store
+      → IsXactOf (life_from c (at_gate b gate) faults) bank store []
 
   abbrev pub IsNewSubtrans : Cluster → Beginning → ℕ → SlruBank P O g r → Type 0
   IsNewSubtrans c b bank store =
-      (faults : List ℕ) → get_or faults (subtrans_lock bank) 0 ≤ faults_of store
-      → IsSubtransOf (life_from c b faults) bank store []
+      (gate : ℕ) (faults : List ℕ) → get_or faults (subtrans_lock bank) 0 ≤ faults_of store
+      → IsSubtransOf (life_from c (at_gate b gate) faults) bank store []
 
   abbrev pub IsNewOffsets : Cluster → Beginning → ℕ → SlruBank P O g r → Type 0
   IsNewOffsets c b bank store =
-      (faults : List ℕ) → get_or faults (offsets_lock bank) 0 ≤ faults_of store
-      → IsOffsetsOf (life_from c b faults) bank store []
+      (gate : ℕ) (faults : List ℕ) → get_or faults (offsets_lock bank) 0 ≤ faults_of store
+      → IsOffsetsOf (life_from c (at_gate b gate) faults) bank store []
 
   abbrev pub IsNewMembers : Cluster → Beginning → ℕ → SlruBank P O g r → Type 0
   IsNewMembers c b bank store =
-      (faults : List ℕ) → get_or faults (members_lock bank) 0 ≤ faults_of store
-      → IsMembersOf (life_from c b faults) bank store []
+      (gate : ℕ) (faults : List ℕ) → get_or faults (members_lock bank) 0 ≤ faults_of store
+      → IsMembersOf (life_from c (at_gate b gate) faults) bank store []
 
 module _ {L P : Type 0} {l : logs.Ghosts L} {p : disks.Ghosts P} where
   -- how often the volume of a part has failed
@@ -176,10 +184,16 @@ module _ {L P : Type 0} {l : logs.Ghosts L} {p : disks.Ghosts P} where
   faults_behind (parts.Members store) = faults_of store.value
   faults_behind part = 0
 
-  -- the part stands for a list without entries, whatever counts the life begins with that its volume has reached
+  -- the part stands for a list without entries, whatever counts the life begins with that its volume has reached, where
+  -- the life's log ends as the log does, if it is that
+  abbrev pub EndsAt : ℕ → Part L P l p → Type 0
+  EndsAt gate (parts.Log log) = gate ≡ log_end log.value
+  EndsAt gate part = Unit {0}
+
   abbrev pub IsNewPart : Cluster → Beginning → ℕ → Part L P l p → Type 0
   IsNewPart c b lock part =
-      (faults : List ℕ) → get_or faults lock 0 ≤ faults_behind part → PartStands (life_from c b faults) lock part []
+      (gate : ℕ) (faults : List ℕ) → EndsAt gate part → get_or faults lock 0 ≤ faults_behind part
+      → PartStands (life_from c (at_gate b gate) faults) lock part []
 
   -- so each of these, the first of which lies behind this lock
   abbrev pub AreNew : Cluster → Beginning → ℕ → List (Part L P l p) → Type 0
@@ -197,6 +211,11 @@ module _ {L P : Type 0} {l : logs.Ghosts L} {p : disks.Ghosts P} where
     pub stand : (lock : ℕ) (part : Part L P l p) → slice_get parts.locks.items lock ≡ Some part
         → PartStands parts.start.value lock part []
 
-  -- what a new engine starts from
+  -- where the log's batches end that lies behind the first lock
+  abbrev pub gate_behind : List (Part L P l p) → ℕ
+  gate_behind (parts.Log log ∷ locks) = log_end log.value
+  gate_behind locks = 0
+
+  -- what a new engine starts from, whose log ends there
   abbrev pub new_life : Cluster → Beginning → List (Part L P l p) → Start
-  new_life cluster begins locks = life_from cluster begins (map faults_behind locks)
+  new_life cluster begins locks = life_from cluster (at_gate begins (gate_behind locks)) (map faults_behind locks)

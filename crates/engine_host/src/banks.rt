@@ -14,8 +14,8 @@ ghost use Rattle.engine_host.specs.Opening.{Beginning, IsNewMembers, IsNewOffset
 use crate::cluster::Cluster;
 use crate::refusal::OpenRefusal;
 use disk_core::PageDisk;
+use engine_parts::InPlace;
 use slru_bank::{BankRefusal, BankRooms, SlruBank};
-use std::alloc::Global;
 use store_pages::{
     MemberPages, OFFSETS_PER_PAGE, OffsetPages, PageRule, SubtransPages, XactPages,
     member_page_in_full, offset_page_in_full, subtrans_page, xact_page,
@@ -51,14 +51,13 @@ fn empty<P: PageDisk, O: PageRule>(
 // A bank over a volume, with this last page and this cutoff. In a new cluster the pages that the volume has are removed
 // first.
 fn open_bank<P: PageDisk + Drop, O: PageRule>(
-    alloc: Global,
     rooms: &mut BankRooms,
     disk: P,
     last: u32,
     cutoff: u32,
     lock: Lock,
     removes: bool,
-) -> Result<Box<SlruBank<P, O>>, (P, OpenRefusal)>
+) -> Result<InPlace<SlruBank<P, O>>, (P, OpenRefusal)>
     ensures pages { IsTrue P.tells → IfOk result (λ store. (q : ℕ) → q < 2 ^ 32 → pages_of store.value q ≡ bytes_left P.PageDisk removes disk q) }
     ensures durable { IsTrue P.tells → (removes ≡ false → IsOnDisk P.PageDisk disk) → IfOk result (λ store. IsDurable store.value) }
     ensures last { IfOk result (λ store. last_page store.value ≡ last) }
@@ -73,23 +72,19 @@ fn open_bank<P: PageDisk + Drop, O: PageRule>(
         Err((disk, _)) => return Err((disk, OpenRefusal::Memory)),
     };
     match empty(&mut store, removes) {
-        Ok(()) => match Box::new(alloc, store) {
-            Ok(store) => Ok(store),
-            Err(lacking) => Err((lacking.value.into_disk(), OpenRefusal::Memory)),
-        },
+        Ok(()) => Ok(InPlace { value: store }),
         Err(_) => Err((store.into_disk(), OpenRefusal::DiskFault { lock })),
     }
 }
 
 // A bank of pg_xact. The page of the next id counts as made.
 pub(crate) fn open_xact<P: PageDisk + Drop>(
-    alloc: Global,
     rooms: &mut BankRooms,
     disk: P,
     cluster: &Cluster,
     bank: u32,
     removes: bool,
-) -> Result<Box<SlruBank<P, XactPages>>, (P, OpenRefusal)>
+) -> Result<InPlace<SlruBank<P, XactPages>>, (P, OpenRefusal)>
     ghost begins: { Beginning }
     requires base { IsBase cluster.now.base }
     requires inside { bank < cluster.now.banks }
@@ -104,18 +99,17 @@ pub(crate) fn open_xact<P: PageDisk + Drop>(
 {
     let last = xact_page(cluster.base.next.low());
     let cutoff = xact_page(cluster.base.oldest.low());
-    open_bank(alloc, rooms, disk, last, cutoff, Lock::Xact(bank), removes)
+    open_bank(rooms, disk, last, cutoff, Lock::Xact(bank), removes)
 }
 
 // So a bank of pg_subtrans.
 pub(crate) fn open_subtrans<P: PageDisk + Drop>(
-    alloc: Global,
     rooms: &mut BankRooms,
     disk: P,
     cluster: &Cluster,
     bank: u32,
     removes: bool,
-) -> Result<Box<SlruBank<P, SubtransPages>>, (P, OpenRefusal)>
+) -> Result<InPlace<SlruBank<P, SubtransPages>>, (P, OpenRefusal)>
     ghost begins: { Beginning }
     requires base { IsBase cluster.now.base }
     requires inside { bank < cluster.now.banks }
@@ -130,15 +124,7 @@ pub(crate) fn open_subtrans<P: PageDisk + Drop>(
 {
     let last = subtrans_page(cluster.base.next.low());
     let cutoff = subtrans_page(cluster.base.next.retreat().low());
-    open_bank(
-        alloc,
-        rooms,
-        disk,
-        last,
-        cutoff,
-        Lock::Subtrans(bank),
-        removes,
-    )
+    open_bank(rooms, disk, last, cutoff, Lock::Subtrans(bank), removes)
 }
 
 // The page as it is stored from which on offsets are kept: that of the multixact before the oldest one.
@@ -156,13 +142,12 @@ fn first_offset_page(oldest: FullMulti) -> u32
 
 // A bank of the offsets of multixacts. The page of the next one counts as made.
 pub(crate) fn open_offsets<P: PageDisk + Drop>(
-    alloc: Global,
     rooms: &mut BankRooms,
     disk: P,
     cluster: &Cluster,
     bank: u32,
     removes: bool,
-) -> Result<Box<SlruBank<P, OffsetPages>>, (P, OpenRefusal)>
+) -> Result<InPlace<SlruBank<P, OffsetPages>>, (P, OpenRefusal)>
     ghost begins: { Beginning }
     requires inside { bank < cluster.now.banks }
     requires shows { IsTrue P.tells → ShowOffsets cluster.now begins bank (bytes_left P.PageDisk removes disk) }
@@ -176,26 +161,17 @@ pub(crate) fn open_offsets<P: PageDisk + Drop>(
 {
     let last = (offset_page_in_full(cluster.base.multi) % OFFSET_PAGES) as u32;
     let cutoff = first_offset_page(cluster.base.oldest_multi);
-    open_bank(
-        alloc,
-        rooms,
-        disk,
-        last,
-        cutoff,
-        Lock::Offsets(bank),
-        removes,
-    )
+    open_bank(rooms, disk, last, cutoff, Lock::Offsets(bank), removes)
 }
 
 // And one of their members.
 pub(crate) fn open_members<P: PageDisk + Drop>(
-    alloc: Global,
     rooms: &mut BankRooms,
     disk: P,
     cluster: &Cluster,
     bank: u32,
     removes: bool,
-) -> Result<Box<SlruBank<P, MemberPages>>, (P, OpenRefusal)>
+) -> Result<InPlace<SlruBank<P, MemberPages>>, (P, OpenRefusal)>
     ghost begins: { Beginning }
     requires inside { bank < cluster.now.banks }
     requires shows { IsTrue P.tells → ShowMembers cluster.now begins bank (bytes_left P.PageDisk removes disk) }
@@ -209,13 +185,5 @@ pub(crate) fn open_members<P: PageDisk + Drop>(
 {
     let last = (member_page_in_full(cluster.base.offset) % MEMBER_PAGES) as u32;
     let cutoff = (member_page_in_full(cluster.base.oldest_offset) % MEMBER_PAGES) as u32;
-    open_bank(
-        alloc,
-        rooms,
-        disk,
-        last,
-        cutoff,
-        Lock::Members(bank),
-        removes,
-    )
+    open_bank(rooms, disk, last, cutoff, Lock::Members(bank), removes)
 }

@@ -46,14 +46,7 @@ pub fn open_begun<L: LogDisk + Drop, P: PageDisk + Drop>(
         Ok(locks) => locks,
         Err(_) => return Err(with_log(Box::into_inner(log).into_disk(), volumes)),
     };
-    if let Err(_) = add_banks(
-        alloc,
-        &mut rooms.banks,
-        &mut locks,
-        &mut volumes,
-        &cluster,
-        false,
-    ) {
+    if let Err(_) = add_banks(&mut rooms.banks, &mut locks, &mut volumes, &cluster, false) {
         return Err(taken_apart(&mut rooms.banks, log, locks, volumes));
     }
     rooms.keep_vectors(volumes);

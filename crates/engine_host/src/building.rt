@@ -55,7 +55,6 @@ pub(crate) fn first_locks<L: LogDisk, P: PageDisk>(
 // Adds the parts of one bank, over the first volumes that are left. In a new cluster their pages are removed. After an
 // error these are back in their place.
 fn add_bank<L: LogDisk, P: PageDisk + Drop>(
-    alloc: Global,
     rooms: &mut BankRooms,
     locks: &mut Vec<Part<L, P>>,
     volumes: &mut BankVolumes<P>,
@@ -87,7 +86,6 @@ fn add_bank<L: LogDisk, P: PageDisk + Drop>(
     ensures refused { IfErr result (λ refusal. IsBankRefusal P.PageDisk bank (λ k. (volumes_in k volumes.old).items) (λ k. (volumes_in k volumes.new).items) refusal) }
 {
     let (states, parents) = match open_states(
-        alloc,
         rooms,
         &mut volumes.xact,
         &mut volumes.subtrans,
@@ -99,7 +97,6 @@ fn add_bank<L: LogDisk, P: PageDisk + Drop>(
         Err(refusal) => return Err(refusal),
     };
     match open_multis(
-        alloc,
         rooms,
         &mut volumes.offsets,
         &mut volumes.members,
@@ -115,8 +112,8 @@ fn add_bank<L: LogDisk, P: PageDisk + Drop>(
             Ok(())
         }
         Err(refusal) => {
-            put_back(&mut volumes.subtrans, Box::into_inner(parents).into_disk());
-            put_back(&mut volumes.xact, Box::into_inner(states).into_disk());
+            put_back(&mut volumes.subtrans, parents.into_inner().into_disk());
+            put_back(&mut volumes.xact, states.into_inner().into_disk());
             Err(refusal)
         }
     }
@@ -125,7 +122,6 @@ fn add_bank<L: LogDisk, P: PageDisk + Drop>(
 // Adds those of all banks. In a new cluster their pages are removed. After an error the volumes of the banks that weren't
 // added are left.
 pub(crate) fn add_banks<L: LogDisk, P: PageDisk + Drop>(
-    alloc: Global,
     rooms: &mut BankRooms,
     locks: &mut Vec<Part<L, P>>,
     volumes: &mut BankVolumes<P>,
@@ -152,7 +148,7 @@ pub(crate) fn add_banks<L: LogDisk, P: PageDisk + Drop>(
         × IsBankRefusal P.PageDisk bank (λ k. drop bank (volumes_in k volumes.old).items) (λ k. (volumes_in k volumes.new).items) refusal) }
 {
     for bank in 0..cluster.banks {
-        add_bank(alloc, rooms, locks, volumes, cluster, bank, removes)?;
+        add_bank(rooms, locks, volumes, cluster, bank, removes)?;
     }
     Ok(())
 }

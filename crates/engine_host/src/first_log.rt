@@ -1,5 +1,5 @@
 //! The log of a new cluster (`BootStrapXLOG` of `src/backend/access/transam/xlog.c`).
-ghost use Rattle.std.specs.Prelude.{◌≡◌, ◌≤◌, IfErr, OnOk};
+ghost use Rattle.std.specs.Prelude.{◌≡◌, ◌≤◌, IfErr, IfOk, OnOk};
 ghost use Rattle.tx_events.specs.Base.{IsBase};
 ghost use Rattle.tx_events.specs.declared.record.Rec.TheVariants as records;
 ghost use Rattle.wal_core.specs.LogViews.{log_disk};
@@ -10,23 +10,25 @@ ghost use Rattle.engine_host.specs.Refused.{IsBeginRefusal};
 use crate::cluster::Cluster;
 use crate::refusal::{OpenRefusal, refusal_of};
 use disk_core::LogDisk;
-use tx_events::{Counters, Rec};
+use std::alloc::Global;
+use tx_events::{Counters, Memory, Rec, SharedCounters};
 use wal_core::WalLog;
 
 // The first checkpoint.
-fn first_record(base: Counters) -> Rec
+fn first_record(alloc: Global, base: Counters) -> Result<Rec, Memory>
     requires { IsBase base }
-    ensures rec { result ≡ records.Checkpoint 0 base }
+    ensures rec { IfOk result (λ rec. rec ≡ records.Checkpoint 0 base) }
     ensures lawful { AreCounters base }
 {
-    Rec::Checkpoint {
+    Ok(Rec::Checkpoint {
         number: 0,
-        counters: base,
-    }
+        counters: SharedCounters::of(alloc, base)?,
+    })
 }
 
 // Puts the first checkpoint on disk, which has the number 0.
 pub(crate) fn begin_log<L: LogDisk>(
+    alloc: Global,
     log: &mut WalLog<L>,
     cluster: &Cluster,
 ) -> Result<(), OpenRefusal>
@@ -36,7 +38,9 @@ pub(crate) fn begin_log<L: LogDisk>(
     ensures count { L.faults (log_disk log.old) ≤ L.faults (log_disk log.new) }
     ensures refused { IfErr result (λ refusal. IsBeginRefusal cluster.now log.old log.new refusal) }
 {
-    let first = first_record(cluster.base);
+    let Ok(first) = first_record(alloc, cluster.base) else {
+        return Err(OpenRefusal::Memory);
+    };
     match log.append(&first) {
         Ok(_) => flush_first(log, cluster),
         Err(refusal) => Err(refusal_of(refusal)),

@@ -51,18 +51,11 @@ pub fn open_new<L: LogDisk + Drop, P: PageDisk + Drop>(
         Ok(locks) => locks,
         Err(refusal) => return Err((with_log(Box::into_inner(log).into_disk(), volumes), refusal)),
     };
-    if let Err(refusal) = add_banks(
-        alloc,
-        &mut rooms.banks,
-        &mut locks,
-        &mut volumes,
-        &cluster,
-        true,
-    ) {
+    if let Err(refusal) = add_banks(&mut rooms.banks, &mut locks, &mut volumes, &cluster, true) {
         return Err((taken_apart(&mut rooms.banks, log, locks, volumes), refusal));
     }
     let fresh = &mut *log;
-    if let Err(refusal) = begin_log(fresh, &cluster) {
+    if let Err(refusal) = begin_log(alloc, fresh, &cluster) {
         return Err((taken_apart(&mut rooms.banks, log, locks, volumes), refusal));
     }
     rooms.keep_vectors(volumes);

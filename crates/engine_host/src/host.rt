@@ -62,6 +62,8 @@ pub fn make_table<L: LogDisk, P: PageDisk>(
     ensures parked { IfOk result (λ r. (n : ℕ) (s : Session) → n < parts.cluster.sessions → IsNewSession s
         → IsParked r.0 r.1 n s) }
     ensures refused { IfErr result (λ back. AreParts back) }
+    ensures given { IfErr result (λ back. (back.cluster ≡ parts.cluster) × (back.start ≡ parts.start)
+        × (back.locks.items ≡ parts.locks.items)) }
 {
     let Parts {
         cluster,

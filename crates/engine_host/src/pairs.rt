@@ -10,20 +10,25 @@ use crate::cluster::Cluster;
 use crate::refusal::OpenRefusal;
 use crate::volumes::put_back;
 use disk_core::PageDisk;
+use engine_parts::InPlace;
 use slru_bank::{BankRooms, SlruBank};
-use std::alloc::Global;
 use store_pages::{MemberPages, OffsetPages, SubtransPages, XactPages};
 
 // Those of pg_xact and of pg_subtrans, over the first volumes that are left. After an error these are back in their place.
 pub(crate) fn open_states<P: PageDisk + Drop>(
-    alloc: Global,
     rooms: &mut BankRooms,
     xact: &mut Vec<P>,
     subtrans: &mut Vec<P>,
     cluster: &Cluster,
     bank: u32,
     removes: bool,
-) -> Result<(Box<SlruBank<P, XactPages>>, Box<SlruBank<P, SubtransPages>>), OpenRefusal>
+) -> Result<
+    (
+        InPlace<SlruBank<P, XactPages>>,
+        InPlace<SlruBank<P, SubtransPages>>,
+    ),
+    OpenRefusal,
+>
     ghost begins: { Beginning }
     requires base { IsBase cluster.now.base }
     requires inside { bank < cluster.now.banks }
@@ -40,18 +45,18 @@ pub(crate) fn open_states<P: PageDisk + Drop>(
     ensures refused { IfErr result (λ refusal. IsFailed P.PageDisk (locks.Xact bank) xact.old.items xact.new.items refusal
         ⊎ IsFailed P.PageDisk (locks.Subtrans bank) subtrans.old.items subtrans.new.items refusal) }
 {
-    let states = match open_xact(alloc, rooms, xact.remove(0), cluster, bank, removes) {
+    let states = match open_xact(rooms, xact.remove(0), cluster, bank, removes) {
         Ok(store) => store,
         Err((disk, refusal)) => {
             put_back(xact, disk);
             return Err(refusal);
         }
     };
-    match open_subtrans(alloc, rooms, subtrans.remove(0), cluster, bank, removes) {
+    match open_subtrans(rooms, subtrans.remove(0), cluster, bank, removes) {
         Ok(parents) => Ok((states, parents)),
         Err((disk, refusal)) => {
             put_back(subtrans, disk);
-            put_back(xact, Box::into_inner(states).into_disk());
+            put_back(xact, states.into_inner().into_disk());
             Err(refusal)
         }
     }
@@ -59,14 +64,19 @@ pub(crate) fn open_states<P: PageDisk + Drop>(
 
 // And those of the offsets and of the members.
 pub(crate) fn open_multis<P: PageDisk + Drop>(
-    alloc: Global,
     rooms: &mut BankRooms,
     offsets: &mut Vec<P>,
     members: &mut Vec<P>,
     cluster: &Cluster,
     bank: u32,
     removes: bool,
-) -> Result<(Box<SlruBank<P, OffsetPages>>, Box<SlruBank<P, MemberPages>>), OpenRefusal>
+) -> Result<
+    (
+        InPlace<SlruBank<P, OffsetPages>>,
+        InPlace<SlruBank<P, MemberPages>>,
+    ),
+    OpenRefusal,
+>
     ghost begins: { Beginning }
     requires inside { bank < cluster.now.banks }
     requires volumes { (0 < length offsets.old.items) × (0 < length members.old.items) }
@@ -82,18 +92,18 @@ pub(crate) fn open_multis<P: PageDisk + Drop>(
     ensures refused { IfErr result (λ refusal. IsFailed P.PageDisk (locks.Offsets bank) offsets.old.items offsets.new.items refusal
         ⊎ IsFailed P.PageDisk (locks.Members bank) members.old.items members.new.items refusal) }
 {
-    let first = match open_offsets(alloc, rooms, offsets.remove(0), cluster, bank, removes) {
+    let first = match open_offsets(rooms, offsets.remove(0), cluster, bank, removes) {
         Ok(store) => store,
         Err((disk, refusal)) => {
             put_back(offsets, disk);
             return Err(refusal);
         }
     };
-    match open_members(alloc, rooms, members.remove(0), cluster, bank, removes) {
+    match open_members(rooms, members.remove(0), cluster, bank, removes) {
         Ok(second) => Ok((first, second)),
         Err((disk, refusal)) => {
             put_back(members, disk);
-            put_back(offsets, Box::into_inner(first).into_disk());
+            put_back(offsets, first.into_inner().into_disk());
             Err(refusal)
         }
     }

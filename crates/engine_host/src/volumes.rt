@@ -1,5 +1,5 @@
 //! The volumes of parts that are taken apart.
-ghost use Rattle.std.specs.Prelude.{◌≡◌, ℕ, ◌+◌, ◌<◌, ◌≤◌, ◌++◌, ◌∷◌, [], Some, length, slice_get, vec_capacity};
+ghost use Rattle.std.specs.Prelude.{◌≡◌, ℕ, ◌+◌, ◌<◌, ◌≤◌, ◌++◌, ◌∷◌, [], Some, length, reverse, slice_get, vec_capacity};
 ghost use Rattle.engine_parts.specs.declared.part.Part.TheVariants as parts;
 ghost use Rattle.engine_host.specs.Refused.{AreInPlace};
 ghost use Rattle.engine_host.specs.Stores.{Store, disks_in, volumes_in};
@@ -32,7 +32,29 @@ pub(crate) fn put_back<P: PageDisk + Drop>(volumes: &mut Vec<P>, disk: P)
     let Ok(()) = inserted else { unreachable!() };
 }
 
-// Takes parts apart, and puts the volumes of their banks, in their order, before these. The volume of a log is dropped.
+// Puts a volume behind the others, which lie the other way round.
+fn put_behind<P: PageDisk + Drop>(volumes: &mut Vec<P>, disk: P)
+    requires room { length volumes.old.items < vec_capacity volumes.old }
+    ensures items { reverse volumes.new.items ≡ disk ∷ reverse volumes.old.items }
+    ensures count { length volumes.new.items ≡ length volumes.old.items + 1 }
+    ensures capacity { vec_capacity volumes.new ≡ vec_capacity volumes.old }
+{
+    volumes.push_reserved(disk);
+}
+
+// Turns the volumes of each store round.
+fn turn_round<P: PageDisk>(volumes: &mut BankVolumes<P>)
+    ensures items { (k : Store) → (volumes_in k volumes.new).items ≡ reverse (volumes_in k volumes.old).items }
+    ensures capacity { (k : Store) → vec_capacity (volumes_in k volumes.new) ≡ vec_capacity (volumes_in k volumes.old) }
+{
+    volumes.xact.reverse();
+    volumes.subtrans.reverse();
+    volumes.offsets.reverse();
+    volumes.members.reverse();
+}
+
+// Takes parts apart, and puts the volumes of their banks, in their order, before these. The volume of a log is dropped. The
+// last part comes first, so the volumes lie the other way round meanwhile.
 pub(crate) fn bank_volumes<L: LogDisk + Drop, P: PageDisk + Drop>(
     rooms: &mut BankRooms,
     locks: Vec<Part<L, P>>,
@@ -43,24 +65,29 @@ pub(crate) fn bank_volumes<L: LogDisk + Drop, P: PageDisk + Drop>(
 {
     let mut volumes = volumes;
     let mut locks = locks;
+    turn_round(&mut volumes);
     while let Some(part) = locks.pop() {
         match part {
-            Part::Xact(store) => put_back(&mut volumes.xact, rooms.keep(Box::into_inner(store))),
-            Part::Subtrans(store) => {
-                put_back(&mut volumes.subtrans, rooms.keep(Box::into_inner(store)))
-            }
-            Part::Offsets(store) => {
-                put_back(&mut volumes.offsets, rooms.keep(Box::into_inner(store)))
-            }
-            Part::Members(store) => {
-                put_back(&mut volumes.members, rooms.keep(Box::into_inner(store)))
-            }
+            Part::Xact(store) => put_behind(&mut volumes.xact, rooms.keep(store.into_inner())),
+            Part::Subtrans(store) => put_behind(
+                &mut volumes.subtrans,
+                rooms.keep(store.into_inner()),
+            ),
+            Part::Offsets(store) => put_behind(
+                &mut volumes.offsets,
+                rooms.keep(store.into_inner()),
+            ),
+            Part::Members(store) => put_behind(
+                &mut volumes.members,
+                rooms.keep(store.into_inner()),
+            ),
             Part::Log(_log) => {}
             Part::Proc(_table) => {}
             Part::Multi(_gen) => {}
         }
     }
     locks.destroy_empty();
+    turn_round(&mut volumes);
     volumes
 }
 

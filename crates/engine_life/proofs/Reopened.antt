@@ -33,12 +33,14 @@ use Rattle.recoverable.specs.Clusters.{AreLeft, IsLeft}
 use Rattle.replay_core.specs.Volumes.{LeavesFit, Recovers}
 use Rattle.replay_core.specs.declared.cluster.Recovered.{Recovered}
 use Rattle.replay_core.proofs.Rows.{had}
+use Rattle.engine_parts.specs.LogTail.{log_tail}
 use Rattle.engine_parts.specs.Sessions.{AreGivenBefore}
 use Rattle.engine_parts.specs.Stand.{GivesStart, number_of_state}
+use Rattle.engine_parts.proofs.Tails.{none_pending}
 use Rattle.engine_host.specs.declared.cluster.Cluster.{Cluster}
 use Rattle.engine_host.specs.Counted.{AreCounted}
 use Rattle.engine_host.specs.declared.cluster.BankVolumes.{BankVolumes}
-use Rattle.engine_host.specs.Opening.{AllOnDisk, AllShow, AllShowNothing, Beginning, IsBegunLog, ShowMembers, ShowOffsets, ShowStates, life_from}
+use Rattle.engine_host.specs.Opening.{AllOnDisk, AllShow, AllShowNothing, Beginning, IsBegunLog, ShowMembers, ShowOffsets, ShowStates, at_gate, life_from}
 use Rattle.engine_host.specs.Stores.{Store, banks_of, of_members, of_offsets, of_subtrans, of_xact, volumes_in}
 use Rattle.engine_host.proofs.Starting.{log_begins}
 use Rattle.engine_life.specs.Reopening.{IsBaseAt, KeepsStart, LeavesLog, banks_in, behind, cluster_over}
@@ -60,8 +62,8 @@ each_store Q a b c d of_members = d
 pub settled_begins : {D : Type 0} {g : logs.Ghosts D} (c : Cluster) (b : Beginning) (from : ℕ) (log : WalLog D g) → IsSettled from c.base log → b.number ≡ from → (IsTrue g.tells → IsTrue b.told → KeepsStart c b log) → IsBegunLog c b log
 settled_begins {g = g} c b from log s is given counts reached =
     let next : from + 1 ≡ b.number + 1 = omega (arith, is) in
-    log_begins c b g.tells (g.faults (log_disk log)) (g.images (log_disk log)) (log_recs log) (log_next log) (log_first log) (log_flushed log) (log_counters log) (log_down log) (log_checkpoint log) counts
-    (s.recs ∙ ap (λ (n : ℕ). records.Checkpoint n c.base ∷ []) (sym is)) (s.next ∙ next) (s.flushed ∙ next) s.counters_are s.up (s.first ∙ sym is) reached
+    log_begins c b g.tells (g.faults (log_disk log)) (g.images (log_disk log)) (log_recs log) (log_next log) (log_first log) (log_flushed log) (log_counters log) (log_down log) (log_checkpoint log) (log_tail log) counts
+    (s.recs ∙ ap (λ (n : ℕ). records.Checkpoint n c.base ∷ []) (sym is)) (s.next ∙ next) (s.flushed ∙ next) s.counters_are s.up (s.first ∙ sym is) reached (none_pending log (s.flushed ∙ sym s.next))
     (λ told. kept_told b.told (λ number past. KeepsAll number past g.images log) (λ number past. GivesStart (life_from c b []) number past) (given told) (s.keeps told))
 
 -- a code and the state that is read of it
@@ -144,8 +146,8 @@ module _ {L P : Type 0} (l : logs.Ghosts L) (p : disks.Ghosts P) where
     given_before = clean.right.base.committed
 
     -- whatever the volumes' counts are
-    pub began_right : (counts : List ℕ) → BeganRight (life_from cluster begins counts)
-    began_right counts = record { told = clean.right.told; full = clean.right.full; base = clean.right.base }
+    pub began_right : (gate : ℕ) (counts : List ℕ) → BeganRight (life_from cluster (at_gate begins gate) counts)
+    began_right gate counts = record { told = clean.right.told; full = clean.right.full; base = clean.right.base }
 
     -- a page of a bank, as it is read
     same_page : (volumes : List P) (banks place n q : ℕ) (disk : P) → slice_get volumes n ≡ Some disk → place % banks ≡ 0 + n → pages_of (on_banks volumes) (place % banks) q ≡ page_bytes (p.pages disk q)

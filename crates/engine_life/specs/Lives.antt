@@ -47,10 +47,11 @@ module _ {L P : Type 0} {l : logs.Ghosts L} {p : disks.Ghosts P} where
   -- these volumes.
   pub record IsNewLife (c : Cluster) (volumes : Volumes L P) (life : OpenLife L P l p) : Type 0 where
     pub banks : HasBanks c.banks volumes
+    pub gate : ℕ
     pub faults : List ℕ
     pub counted : AreCounted l p volumes.log (banks_of volumes) faults
-    pub begun : IsBegun c (life_of c faults) life
-    pub right : BeganRight (life_of c faults)
+    pub begun : IsBegun c (life_of c gate faults) life
+    pub right : BeganRight (life_of c gate faults)
 
 -- the volumes of a life that is over, each in its place
 abbrev pub volumes_left : {L P : Type 0} → {l : logs.Ghosts L} → ClosedLife L P l → Volumes L P

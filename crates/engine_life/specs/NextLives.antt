@@ -8,7 +8,7 @@ use Rattle.recoverable.specs.Fit.{KeptLog}
 use Rattle.recoverable.specs.Whole.{BeganRight}
 use Rattle.engine_host.specs.declared.cluster.Cluster.{Cluster}
 use Rattle.engine_host.specs.Counted.{AreCounted}
-use Rattle.engine_host.specs.Opening.{life_from}
+use Rattle.engine_host.specs.Opening.{at_gate, life_from}
 use Rattle.engine_host.specs.Stores.{banks_of}
 use Rattle.engine_life.specs.declared.life.OpenLife.{OpenLife}
 use Rattle.engine_life.specs.declared.refusal.NoLife.{NoLife}
@@ -50,7 +50,8 @@ module _ {L P : Type 0} {l : logs.Ghosts L} {p : disks.Ghosts P} where
     pub sessions_are : cluster.sessions ≡ sessions
     pub base : IsTrue p.tells → IsBaseAt kept number cluster.base
     pub opened_to : IsTrue l.tells → OpensUpTo number cluster.base (l.reads volumes.log)
+    pub gate : ℕ
     pub faults : List ℕ
     pub counted : AreCounted l p volumes.log (banks_of volumes) faults
-    pub begun : IsBegun cluster (life_from cluster (behind p.tells kept number) faults) life
-    pub right : IsTrue p.tells → BeganRight (life_from cluster (behind p.tells kept number) faults)
+    pub begun : IsBegun cluster (life_from cluster (at_gate (behind p.tells kept number) gate) faults) life
+    pub right : IsTrue p.tells → BeganRight (life_from cluster (at_gate (behind p.tells kept number) gate) faults)

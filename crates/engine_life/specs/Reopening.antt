@@ -22,6 +22,7 @@ use Rattle.engine_host.specs.Opening.{Beginning, life_from}
 abbrev pub behind : Bool → KeptLog → ℕ → Beginning
 behind tells kept number = record {
   number = number;
+  gate = 0;
   committed = cond tells (base_at kept number).committed [];
   recorded = cond tells (base_at kept number).recorded [];
   told = tells;

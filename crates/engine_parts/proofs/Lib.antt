@@ -6,6 +6,7 @@ pub mod Adding
 pub mod May
 pub mod Tabling
 pub mod Multing
+pub mod Tails
 pub mod Logging
 pub mod Beginning
 pub mod Cutoffs

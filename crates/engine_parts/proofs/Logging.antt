@@ -34,6 +34,8 @@ use Rattle.tx_core.proofs.LastNumbers.{number_push, number_same}
 use Rattle.wal_core.specs.Checkpoint.{IsLastCheckpoint}
 use Rattle.wal_core.specs.declared.checkpoint.LastCheckpoint.{LastCheckpoint}
 use Rattle.tx_events.specs.declared.record.Rec.TheVariants as records
+use Rattle.engine_parts.specs.LogTail.{LacksRoom, LogTail, log_tail, tail_after, tail_of}
+use Rattle.engine_parts.proofs.Tails.{no_room_needed, room_push, tail_push}
 use Rattle.engine_parts.specs.Stand.{EndsInCheckpoint, IsDownAt, IsFirstKept, LogStands, MayForgetThere, begin_asked, begin_asked_in, begin_other, forgotten_in, other_from}
 
 -- one entry more
@@ -168,13 +170,13 @@ pub unflushed : (start : Start) (es : List Entry) (e : Entry) (checkpoint : Opti
 unflushed start es e checkpoint none number k =
     let z : None ≡ Some (number + 1) = sym none ∙ ap (λ (f : Entry). flushed_in f.kind) (ends_flushed start es e number k).1 in absurd cc
 
-module _ (start : Start) (tells : Bool) (faults faults' : ℕ) (images images' : Volume → Type 0) (recs recs' : List Rec) (next next' first first' flushed flushed' : ℕ) (counters counters' : Option Counters) (down down' : Option ℕ) (checkpoint checkpoint' : Option LastCheckpoint) (es : List Entry) (by : By) (s : LogStands start tells faults images recs next first flushed counters down checkpoint es) where
+module _ (start : Start) (tells : Bool) (faults faults' : ℕ) (images images' : Volume → Type 0) (recs recs' : List Rec) (next next' first first' flushed flushed' : ℕ) (counters counters' : Option Counters) (down down' : Option ℕ) (checkpoint checkpoint' : Option LastCheckpoint) (tail tail' : LogTail) (es : List Entry) (by : By) (s : LogStands start tells faults images recs next first flushed counters down checkpoint tail es) where
   -- an append
-  pub appends : (rec : Rec) → recs' ≡ recs ++ rec ∷ [] → next' ≡ next + 1 → flushed' ≡ flushed → counters' ≡ Some (after_record (counters_after start es) rec) → down' ≡ down → faults' ≡ faults → first' ≡ first
+  pub appends : (rec : Rec) → tail' ≡ tail_after tail (kinds.Append rec) → (LacksRoom tail rec → ⊥) → recs' ≡ recs ++ rec ∷ [] → next' ≡ next + 1 → flushed' ≡ flushed → counters' ≡ Some (after_record (counters_after start es) rec) → down' ≡ down → faults' ≡ faults → first' ≡ first
       → (IsTrue tells → (number : ℕ) (all : List Rec) → KeepsRecords number all recs next first flushed images → KeepsRecords number (all ++ rec ∷ []) recs' next' first' flushed' images')
       → (IsTrue tells → (other : ℕ) → BeginWith first other images → BeginWith first' other images')
-      → LogStands start tells faults' images' recs' next' first' flushed' counters' down' checkpoint' (es ++ record { by = by; kind = kinds.Append rec } ∷ [])
-  appends rec r n f c d u low k begin =
+      → LogStands start tells faults' images' recs' next' first' flushed' counters' down' checkpoint' tail' (es ++ record { by = by; kind = kinds.Append rec } ∷ [])
+  appends rec t fits r n f c d u low k begin =
       let e : Entry = record { by = by; kind = kinds.Append rec } in
       let more : recs_in (es ++ e ∷ []) ≡ recs_in es ++ rec ∷ [] = recs_push es e rec refl in record {
         recs_are = r ∙ (ap (λ (l : List Rec). l ++ rec ∷ []) s.recs_are ∙ (append_assoc start.logged (recs_in es) (rec ∷ []) ∙ ap (λ (l : List Rec). start.logged ++ l) (sym more)));
@@ -190,16 +192,18 @@ module _ (start : Start) (tells : Bool) (faults faults' : ℕ) (images images' :
         first_is = first_same start es e first first' low refl s.first_is;
         others = others_same start es e tells images images' first first' refl s.others begin;
         alone = unflushed start es e checkpoint' refl;
+        tail_is = t ∙ (ap (λ z. tail_after z (kinds.Append rec)) s.tail_is ∙ sym (tail_push start es e));
+        room = room_push start es e s.room (subst (λ z. LacksRoom z rec → ⊥) s.tail_is fits);
       }
 
   -- a call that appended nothing: what it says of flushes, faults and first records comes with the entry
-  pub goes_with : (kind : Kind) → appended (record { by = by; kind = kind }) ≡ None → recs' ≡ recs → next' ≡ next → counters' ≡ counters → flushed' ≡ flushed_to start (es ++ record { by = by; kind = kind } ∷ [])
+  pub goes_with : (kind : Kind) → appended (record { by = by; kind = kind }) ≡ None → tail' ≡ tail_after tail kind → recs' ≡ recs → next' ≡ next → counters' ≡ counters → flushed' ≡ flushed_to start (es ++ record { by = by; kind = kind } ∷ [])
       → faults_told start log_lock (es ++ record { by = by; kind = kind } ∷ []) ≤ faults' → ((m : ℕ) → down' ≡ Some m → IsDownAt start (es ++ record { by = by; kind = kind } ∷ []) m × (m ≤ flushed')) → (down' ≡ None → IsUp (es ++ record { by = by; kind = kind } ∷ []))
       → IsFirstKept start (es ++ record { by = by; kind = kind } ∷ []) first' → MayForgetThere start (es ++ record { by = by; kind = kind } ∷ []) checkpoint'
       → (IsTrue tells → (number : ℕ) (all : List Rec) → KeepsRecords number all recs next first flushed images → KeepsRecords number all recs' next' first' flushed' images')
       → (IsTrue tells → (before : ℕ) × BeginWith first' (begin_other before start (es ++ record { by = by; kind = kind } ∷ [])) images')
-      → LogStands start tells faults' images' recs' next' first' flushed' counters' down' checkpoint' (es ++ record { by = by; kind = kind } ∷ [])
-  goes_with kind none r n c f u d up low alone k begin =
+      → LogStands start tells faults' images' recs' next' first' flushed' counters' down' checkpoint' tail' (es ++ record { by = by; kind = kind } ∷ [])
+  goes_with kind none t r n c f u d up low alone k begin =
       let e : Entry = record { by = by; kind = kind } in
       let same : recs_in (es ++ e ∷ []) ≡ recs_in es = recs_same es e none in record {
         recs_are = r ∙ (s.recs_are ∙ ap (λ (l : List Rec). start.logged ++ l) (sym same));
@@ -215,23 +219,25 @@ module _ (start : Start) (tells : Bool) (faults faults' : ℕ) (images images' :
         first_is = low;
         others = begin;
         alone = alone;
+        tail_is = t ∙ (ap (λ z. tail_after z kind) s.tail_is ∙ sym (tail_push start es e));
+        room = room_push start es e s.room (no_room_needed (tail_of start es) by kind none);
       }
 
   -- and that was to forget nothing
-  pub goes_on : (kind : Kind) → appended (record { by = by; kind = kind }) ≡ None → recs' ≡ recs → next' ≡ next → counters' ≡ counters → flushed' ≡ flushed_to start (es ++ record { by = by; kind = kind } ∷ [])
+  pub goes_on : (kind : Kind) → appended (record { by = by; kind = kind }) ≡ None → tail' ≡ tail_after tail kind → recs' ≡ recs → next' ≡ next → counters' ≡ counters → flushed' ≡ flushed_to start (es ++ record { by = by; kind = kind } ∷ [])
       → faults_told start log_lock (es ++ record { by = by; kind = kind } ∷ []) ≤ faults' → ((m : ℕ) → down' ≡ Some m → IsDownAt start (es ++ record { by = by; kind = kind } ∷ []) m × (m ≤ flushed')) → (down' ≡ None → IsUp (es ++ record { by = by; kind = kind } ∷ []))
       → IsFirstKept start (es ++ record { by = by; kind = kind } ∷ []) first' → MayForgetThere start (es ++ record { by = by; kind = kind } ∷ []) checkpoint'
       → (IsTrue tells → (number : ℕ) (all : List Rec) → KeepsRecords number all recs next first flushed images → KeepsRecords number all recs' next' first' flushed' images')
       → begin_asked_in kind ≡ None → (IsTrue tells → (other : ℕ) → BeginWith first other images → BeginWith first' other images')
-      → LogStands start tells faults' images' recs' next' first' flushed' counters' down' checkpoint' (es ++ record { by = by; kind = kind } ∷ [])
-  goes_on kind none r n c f u d up low alone k none_asked same =
-      goes_with kind none r n c f u d up low alone k (others_same start es (record { by = by; kind = kind }) tells images images' first first' none_asked s.others same)
+      → LogStands start tells faults' images' recs' next' first' flushed' counters' down' checkpoint' tail' (es ++ record { by = by; kind = kind } ∷ [])
+  goes_on kind none t r n c f u d up low alone k none_asked same =
+      goes_with kind none t r n c f u d up low alone k (others_same start es (record { by = by; kind = kind }) tells images images' first first' none_asked s.others same)
 
 -- a log of which nothing changed stands for the list with the look too
 pub log_looks : {D : Type 0} {g : logs.Ghosts D} (start : Start) (log : WalLog D g) (es : List Entry) (by : By) → IsLogOf start log es → IsLogOf start log (es ++ record { by = by; kind = kinds.Look } ∷ [])
 log_looks {g = g} start log es by s =
     let e : Entry = record { by = by; kind = kinds.Look } in
-    goes_on start g.tells (g.faults (log_disk log)) (g.faults (log_disk log)) (g.images (log_disk log)) (g.images (log_disk log)) (log_recs log) (log_recs log) (log_next log) (log_next log) (log_first log) (log_first log) (log_flushed log) (log_flushed log) (log_counters log) (log_counters log) (log_down log) (log_down log) (log_checkpoint log) (log_checkpoint log) es by s kinds.Look refl refl refl refl
+    goes_on start g.tells (g.faults (log_disk log)) (g.faults (log_disk log)) (g.images (log_disk log)) (g.images (log_disk log)) (log_recs log) (log_recs log) (log_next log) (log_next log) (log_first log) (log_first log) (log_flushed log) (log_flushed log) (log_counters log) (log_counters log) (log_down log) (log_down log) (log_checkpoint log) (log_checkpoint log) (log_tail log) (log_tail log) es by s kinds.Look refl refl refl refl refl
     (s.flushed_is ∙ sym (number_same flushed_in start.from es e refl))
     (let same : faults_told start log_lock (es ++ e ∷ []) ≡ faults_told start log_lock es = number_same count_in (faults_at start log_lock) es e refl in let before = s.count in omega arith)
     (λ m is. let before = s.failed m is in (failed_more start es e m before.0, before.1)) (λ none. up_more es e refl (s.up none)) (first_more start es e (log_first log) refl s.first_is) (unflushed start es e (log_checkpoint log) refl) (λ told number all k. k) refl (λ told other begins. begins)

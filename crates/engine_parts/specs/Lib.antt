@@ -1,9 +1,11 @@
+pub mod LogTail
 pub mod Stand
 pub mod Course
 pub mod Shelf
 pub mod Shelves
 pub mod ShelfLaws
 pub mod BankCourse
+pub mod InPlace
 pub mod Parts
 pub mod Begins
 pub mod Law

@@ -14,6 +14,7 @@ use Rattle.engine_parts.specs.declared.part.Part.{Part}
 use Rattle.engine_parts.specs.declared.part.Part.TheVariants as parts
 use Rattle.engine_parts.specs.BankCourse.{MembersCame, OffsetsCame, ParentsCame}
 use Rattle.engine_parts.specs.Course.{HasCourse}
+use Rattle.engine_parts.specs.LogTail.{log_tail}
 use Rattle.engine_parts.specs.Shelves.{MembersStands, OffsetsStands}
 use Rattle.engine_parts.specs.Stand.{LogStands, MultiStands, ProcStands, SubtransStands, XactStands}
 
@@ -22,7 +23,7 @@ module _ {D : Type 0} {g : logs.Ghosts D} where
   abbrev pub IsLogOf : Start → WalLog D g → List Entry → Type 0
   IsLogOf start log es =
       LogStands start g.tells (g.faults (log_disk log)) (g.images (log_disk log)) (log_recs log) (log_next log)
-      (log_first log) (log_flushed log) (log_counters log) (log_down log) (log_checkpoint log) es
+      (log_first log) (log_flushed log) (log_counters log) (log_down log) (log_checkpoint log) (log_tail log) es
 
 module _ {P O : Type 0} {g : disks.Ghosts P} {r : rules.Ghosts O} where
   -- a bank of pg_xact stands for the list of its lock

@@ -31,6 +31,7 @@ use Rattle.tx_core.specs.Pages.{Pages, pages_after, subtrans_store, xact_store}
 use Rattle.tx_core.specs.FaultsRise.{faults_told}
 use Rattle.tx_core.specs.StaysDown.{IsUp, puts_down}
 use Rattle.tx_core.specs.RecordsFollow.{counters_after}
+use Rattle.engine_parts.specs.LogTail.{HadRoom, LogTail, tail_of}
 
 -- ---- the log
 
@@ -114,10 +115,11 @@ MayForgetThere start es checkpoint = (number : ℕ) → EndsInCheckpoint start e
 -- The log has the records from before and those that were appended. Its flushed number is that of the last flush. It
 -- is down exactly where its list says so, from what was flushed then on. Each image of its volume opens to the records
 -- that are flushed, behind those that gave the life's begin, where the volumes told it. What was forgotten the list says:
--- each image begins there, or where it was to begin before.
+-- each image begins there, or where it was to begin before. Where its batches end, and what is pending, the list says
+-- too, and each record of it had room.
 pub record LogStands (start : Start) (tells : Bool) (faults : ℕ) (images : Volume → Type 0) (recs : List Rec)
     (next first flushed : ℕ) (counters : Option Counters) (down : Option ℕ) (checkpoint : Option LastCheckpoint)
-    (es : List Entry) : Type 0 where
+    (tail : LogTail) (es : List Entry) : Type 0 where
   pub recs_are : recs ≡ start.logged ++ recs_in es
   pub next_is : next ≡ start.from + length (recs_in es)
   pub flushed_is : flushed ≡ flushed_to start es
@@ -131,6 +133,8 @@ pub record LogStands (start : Start) (tells : Bool) (faults : ℕ) (images : Vol
   pub first_is : IsFirstKept start es first
   pub others : IsTrue tells → (before : ℕ) × BeginWith first (begin_other before start es) images
   pub alone : MayForgetThere start es checkpoint
+  pub tail_is : tail ≡ tail_of start es
+  pub room : HadRoom start es
 
 -- ---- the ProcArray
 

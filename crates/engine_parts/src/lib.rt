@@ -5,6 +5,7 @@
 mod fault_notes;
 mod gate;
 mod hold;
+mod in_place;
 mod law;
 /// What holds of the promises of all calls. The functions do nothing; their contracts are the laws.
 pub mod laws;
@@ -23,6 +24,7 @@ mod xact_hold;
 pub use fault_notes::{fault_note, flush_fault_note};
 pub use gate::{Gate, Gated, OpenGate, Passing};
 pub use hold::{enter, leave};
+pub use in_place::InPlace;
 pub use law::EngineLaw;
 pub use log_hold::{enter_log, leave_log};
 pub use members_hold::{enter_members, leave_members};

@@ -13,6 +13,7 @@ ghost use Rattle.engine_parts.specs.Sessions.{IsAt, IsReady};
 
 use crate::gate::Passing;
 use crate::hold::{enter, leave};
+use crate::in_place::InPlace;
 use crate::law::EngineLaw;
 use crate::part::Part;
 use crate::session::{Caller, knock};
@@ -28,7 +29,7 @@ pub fn enter_members<R: Passing, L: LogDisk, P: PageDisk>(
     hall: &Hall<EngineLaw<L, P>>,
     caller: &mut Caller<L, P>,
     bank: u32,
-) -> Box<SlruBank<P, MemberPages>>
+) -> InPlace<SlruBank<P, MemberPages>>
     requires own { IsOf hall.now caller.old.pass }
     requires laid { hall.now.cells ≡ 3 + 4 * (start_of hall.now).banks }
     requires bank { (bank < (start_of hall.now).banks) × ((start_of hall.now).banks ≤ 16) }
@@ -53,7 +54,7 @@ pub fn leave_members<L: LogDisk, P: PageDisk>(
     hall: &Hall<EngineLaw<L, P>>,
     caller: &mut Caller<L, P>,
     _bank: u32,
-    store: Box<SlruBank<P, MemberPages>>,
+    store: InPlace<SlruBank<P, MemberPages>>,
     entry: Note<Entry>,
 )
     requires own { IsOf hall.now caller.old.pass }

@@ -13,6 +13,7 @@ ghost use Rattle.engine_parts.specs.Sessions.{IsAt, IsReady};
 
 use crate::gate::Passing;
 use crate::hold::{enter, leave};
+use crate::in_place::InPlace;
 use crate::law::EngineLaw;
 use crate::part::Part;
 use crate::session::{Caller, knock};
@@ -28,7 +29,7 @@ pub fn enter_offsets<R: Passing, L: LogDisk, P: PageDisk>(
     hall: &Hall<EngineLaw<L, P>>,
     caller: &mut Caller<L, P>,
     bank: u32,
-) -> Box<SlruBank<P, OffsetPages>>
+) -> InPlace<SlruBank<P, OffsetPages>>
     requires own { IsOf hall.now caller.old.pass }
     requires laid { hall.now.cells ≡ 3 + 4 * (start_of hall.now).banks }
     requires bank { (bank < (start_of hall.now).banks) × ((start_of hall.now).banks ≤ 16) }
@@ -53,7 +54,7 @@ pub fn leave_offsets<L: LogDisk, P: PageDisk>(
     hall: &Hall<EngineLaw<L, P>>,
     caller: &mut Caller<L, P>,
     _bank: u32,
-    store: Box<SlruBank<P, OffsetPages>>,
+    store: InPlace<SlruBank<P, OffsetPages>>,
     entry: Note<Entry>,
 )
     requires own { IsOf hall.now caller.old.pass }

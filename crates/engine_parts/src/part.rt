@@ -1,4 +1,5 @@
 //! The parts of an engine.
+use crate::in_place::InPlace;
 use disk_core::{LogDisk, PageDisk};
 use multi_store::MultiGen;
 use proc_table::ProcTable;
@@ -7,7 +8,7 @@ use store_pages::{MemberPages, OffsetPages, SubtransPages, XactPages};
 use wal_core::WalLog;
 
 /// What lies behind a lock of an engine's lock table (the locks by their numbers: `docs/ENGINE.md`). It is moved at each
-/// critical section, so it lies behind a box.
+/// critical section, so what is large lies behind a box.
 pub enum Part<L: LogDisk, P: PageDisk> {
     /// The write-ahead log (WALInsertLock and WALWriteLock of `xlog.c`).
     Log(Box<WalLog<L>>),
@@ -16,11 +17,11 @@ pub enum Part<L: LogDisk, P: PageDisk> {
     /// The generator of multixacts with their pins (MultiXactGenLock of `multixact.c`).
     Multi(Box<MultiGen>),
     /// A bank of pg_xact (XactSLRULock of `clog.c`).
-    Xact(Box<SlruBank<P, XactPages>>),
+    Xact(InPlace<SlruBank<P, XactPages>>),
     /// A bank of pg_subtrans (SubtransSLRULock of `subtrans.c`).
-    Subtrans(Box<SlruBank<P, SubtransPages>>),
+    Subtrans(InPlace<SlruBank<P, SubtransPages>>),
     /// A bank of the offsets of multixacts (MultiXactOffsetSLRULock of `multixact.c`).
-    Offsets(Box<SlruBank<P, OffsetPages>>),
+    Offsets(InPlace<SlruBank<P, OffsetPages>>),
     /// A bank of the members of multixacts (MultiXactMemberSLRULock of `multixact.c`).
-    Members(Box<SlruBank<P, MemberPages>>),
+    Members(InPlace<SlruBank<P, MemberPages>>),
 }

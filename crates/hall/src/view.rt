@@ -47,10 +47,11 @@ pub struct Merged<E> {
 
 /// What a slot holds: a value, with the entry that it was returned with.
 pub struct Held<V, E> {
+    // Never read, and written once: a cache line between this value and the last lock's. It stands first, so that it is
+    // laid out by whole words when a slot is moved.
+    pub(crate) gap: [u64; LINE],
     pub value: Option<V>,
     pub note: Option<Note<E>>,
-    // Never read, and written once: a cache line between this value and the next lock's.
-    pub(crate) gap: [u64; LINE],
 }
 
 impl<V, E> Held<V, E> {

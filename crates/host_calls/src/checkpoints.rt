@@ -18,6 +18,7 @@ use disk_core::{LogDisk, PageDisk};
 use engine_host::Host;
 use engine_parts::{EngineLaw, Session};
 use hall::Hall;
+use std::alloc::Global;
 use std::sync::Wait;
 use tx_events::{By, Refusal};
 use tx_model::Reply;
@@ -30,6 +31,7 @@ use tx_model::Reply;
 /// the log's did, after which the log is down, with `LogDown` where it was, or with `Full` or `Memory`.
 pub fn checkpoint<R: Wait, L: LogDisk, P: PageDisk>(
     rt: &R,
+    alloc: Global,
     hall: &Hall<EngineLaw<L, P>>,
     host: &mut Host<L, P>,
     sessions: &[Session],
@@ -70,7 +72,7 @@ pub fn checkpoint<R: Wait, L: LogDisk, P: PageDisk>(
                     command: 0,
                 };
                 let cluster = host.cluster;
-                make_checkpoint(rt, hall, &mut host.pass, by, cluster)
+                make_checkpoint(rt, alloc, hall, &mut host.pass, by, cluster)
             }
         },
     }

@@ -20,6 +20,7 @@ use engine_parts::EngineLaw;
 use hall::{Hall, Pass};
 use host_sections::flush_records;
 use log_sections::refusal_of;
+use std::alloc::Global;
 use std::sync::Wait;
 use tx_events::{By, Refusal};
 use tx_model::Reply;
@@ -28,6 +29,7 @@ use tx_model::Reply;
 /// checkpoint is written.
 pub(crate) fn make_checkpoint<R: Wait, L: LogDisk, P: PageDisk>(
     rt: &R,
+    alloc: Global,
     hall: &Hall<EngineLaw<L, P>>,
     pass: &mut Pass<EngineLaw<L, P>>,
     by: By,
@@ -55,7 +57,7 @@ pub(crate) fn make_checkpoint<R: Wait, L: LogDisk, P: PageDisk>(
 {
     match flush_records(rt, hall, pass, by) {
         Ok(()) => match sync_all(rt, hall, pass, by, cluster.banks) {
-            Ok(()) => match write_checkpoint(rt, hall, pass, by) {
+            Ok(()) => match write_checkpoint(rt, alloc, hall, pass, by) {
                 Ok(()) => Reply::Done,
                 Err(refusal) => Reply::Refused {
                     refusal: refusal_of(refusal),

@@ -18,14 +18,16 @@ use disk_core::{LogDisk, PageDisk};
 use engine_parts::EngineLaw;
 use hall::{Hall, Pass};
 use host_sections::{append_checkpoint, flush_records, forget_log, read_counters};
+use std::alloc::Global;
 use std::sync::Wait;
-use tx_events::By;
+use tx_events::{By, SharedCounters};
 use wal_core::LogRefusal;
 
 /// Appends a checkpoint of the counters as they stand, puts it on disk, and forgets the log before it, where all records
 /// are on disk and all that they would restore. Refused with `LogFault`, or before the append with `Full` or `Memory`.
 pub(crate) fn write_checkpoint<R: Wait, L: LogDisk, P: PageDisk>(
     rt: &R,
+    alloc: Global,
     hall: &Hall<EngineLaw<L, P>>,
     pass: &mut Pass<EngineLaw<L, P>>,
     by: By,
@@ -45,7 +47,10 @@ pub(crate) fn write_checkpoint<R: Wait, L: LogDisk, P: PageDisk>(
     ensures adds { WritesCheckpoint (start_of hall.now) by (view pass.old).seen (view pass.new).seen result }
 {
     let counters = read_counters(rt, hall, pass);
-    match append_checkpoint(rt, hall, pass, by, &counters) {
+    let Ok(shared) = SharedCounters::of(alloc, counters) else {
+        return Err(LogRefusal::Memory);
+    };
+    match append_checkpoint(rt, hall, pass, by, shared) {
         Ok(number) => match flush_records(rt, hall, pass, by) {
             Ok(()) => forget_log(rt, hall, pass, by, number),
             Err(refusal) => Err(refusal),

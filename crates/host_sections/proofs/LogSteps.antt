@@ -1,5 +1,5 @@
 -- The log behind a critical section of the host stands for its list.
-use Rattle.std.proofs.Common.{◌≡◌, ◌≢◌, ◌⊎◌, ℕ, ◌+◌, ◌-◌, ◌<◌, ◌≤◌, ◌^◌, IsNone, true, List, [], ◌∷◌, ◌++◌, IsTrue, Option, Some, None, arith, inl, inr, refl, sym, ap, subst, ◌∙◌}
+use Rattle.std.proofs.Common.{◌≡◌, ◌≢◌, ◌⊎◌, ℕ, ◌+◌, ◌-◌, ◌<◌, ◌≤◌, ◌^◌, IsNone, true, List, [], ◌∷◌, ◌++◌, IsTrue, Option, Some, None, arith, inl, inr, length, refl, sym, ap, subst, ◌∙◌}
 use Rattle.std.proofs.lemmas.Bool.{false≢true}
 use Rattle.std.proofs.lemmas.List.Elements.{Contains-push}
 use Rattle.std.proofs.lemmas.Option.{same_Some}
@@ -25,14 +25,16 @@ use Rattle.tx_core.specs.StaysDown.{puts_down}
 use Rattle.tx_core.proofs.LastNumbers.{number_push, number_same}
 use Rattle.wal_core.specs.Checkpoint.{IsLastCheckpoint}
 use Rattle.wal_core.specs.Kept.{BeginWith, HasFlushed, KeepsRecords, first_on, other_behind}
-use Rattle.wal_core.specs.Log.{MayAppend, counters_or_none}
+use Rattle.wal_core.specs.Log.{MayAppend, bytes_of, counters_or_none}
 use Rattle.wal_core.specs.Opening.{number_fits}
 use Rattle.wal_records.specs.Spelling.{AreCounters}
 use Rattle.wal_core.specs.LogViews.{log_checkpoint, log_counters, log_disk, log_down, log_end, log_first, log_flushed, log_next, log_pending, log_recs}
 use Rattle.wal_core.specs.declared.wal_log.WalLog.{WalLog}
+use Rattle.engine_parts.specs.LogTail.{log_tail}
 use Rattle.engine_parts.specs.Parts.{IsLogOf}
 use Rattle.engine_parts.specs.Stand.{IsFirstKept, MayForgetThere, begin_asked_in, begin_other, forgotten_in}
 use Rattle.engine_parts.proofs.Logging.{failed_here, first_same, flush_alone, goes_on, goes_with, not_up, other_asked, others_same, unflushed, up_more}
+use Rattle.engine_parts.proofs.Tails.{flushed_tail, same_tail}
 use Rattle.host_sections.specs.HostEntries.{flush_by, forget_by}
 
 module _ {D : Type 0} {g : logs.Ghosts D} where
@@ -45,6 +47,7 @@ module _ {D : Type 0} {g : logs.Ghosts D} where
     pub counters : log_counters new ≡ log_counters old
     pub down : log_down new ≡ log_down old
     pub checkpoint : log_checkpoint new ≡ log_checkpoint old
+    pub end : log_end new ≡ log_end old
     pub count : g.faults (log_disk old) ≤ g.faults (log_disk new)
     pub images : IsTrue g.tells → NoMore (g.images (log_disk old)) (g.images (log_disk new))
 
@@ -77,11 +80,13 @@ module _ {D : Type 0} {g : logs.Ghosts D} where
     first_is = subst (λ z. IsFirstKept start es z) (sym same.first) s.first_is;
     others = λ told. let o = s.others told in (o.0, λ c image. subst (λ (n : ℕ). (first_on c ≡ n) ⊎ (first_on c ≡ begin_other o.0 start es)) (sym same.first) (o.1 c (same.images told c image)));
     alone = subst (λ z. MayForgetThere start es z) (sym same.checkpoint) s.alone;
+    tail_is = same_tail old new same.recs same.next same.flushed same.end ∙ s.tail_is;
+    room = s.room;
   }
 
   -- so where its volume is as it was
-  pub log_untouched : (start : Start) (old new : WalLog D g) (es : List Entry) → log_disk new ≡ log_disk old → log_recs new ≡ log_recs old → log_next new ≡ log_next old → log_first new ≡ log_first old → log_flushed new ≡ log_flushed old → log_counters new ≡ log_counters old → log_down new ≡ log_down old → log_checkpoint new ≡ log_checkpoint old → IsLogOf start old es → IsLogOf start new es
-  log_untouched start old new es disk recs next first flushed counters down checkpoint = log_same start old new es (record {
+  pub log_untouched : (start : Start) (old new : WalLog D g) (es : List Entry) → log_disk new ≡ log_disk old → log_recs new ≡ log_recs old → log_next new ≡ log_next old → log_first new ≡ log_first old → log_flushed new ≡ log_flushed old → log_counters new ≡ log_counters old → log_down new ≡ log_down old → log_checkpoint new ≡ log_checkpoint old → log_end new ≡ log_end old → IsLogOf start old es → IsLogOf start new es
+  log_untouched start old new es disk recs next first flushed counters down checkpoint end = log_same start old new es (record {
     recs = recs;
     next = next;
     first = first;
@@ -89,6 +94,7 @@ module _ {D : Type 0} {g : logs.Ghosts D} where
     counters = counters;
     down = down;
     checkpoint = checkpoint;
+    end = end;
     count = (let same : g.faults (log_disk new) ≡ g.faults (log_disk old) = ap g.faults disk in omega (arith, same));
     images = λ told. subst (λ (d : D). NoMore (g.images (log_disk old)) (g.images d)) (sym disk) (λ c image. image);
   })
@@ -116,11 +122,11 @@ module _ {D : Type 0} {g : logs.Ghosts D} (start : Start) (old new : WalLog D g)
       (o.0, subst (λ (n : ℕ). BeginWith (log_first new) n (g.images (log_disk new))) same (begins told up k.0 (k.1 ++ recs_in es) k.2 (begin_other o.0 start es) o.1))
 
   -- all was flushed
-  pub flushed_stands : (next : ℕ) → next ≡ log_next old → log_recs new ≡ log_recs old → log_next new ≡ log_next old → log_counters new ≡ log_counters old → log_flushed new ≡ log_next old → log_down new ≡ log_down old → log_down old ≡ None → g.faults (log_disk old) ≤ g.faults (log_disk new) → log_first new ≡ log_first old
+  pub flushed_stands : (next : ℕ) → next ≡ log_next old → log_recs new ≡ log_recs old → log_next new ≡ log_next old → log_counters new ≡ log_counters old → log_flushed new ≡ log_next old → (log_pending old ≢ [] → log_end new ≡ log_end old + 5 + length (bytes_of (log_pending old))) → (log_pending old ≡ [] → log_end new ≡ log_end old) → log_down new ≡ log_down old → log_down old ≡ None → g.faults (log_disk old) ≤ g.faults (log_disk new) → log_first new ≡ log_first old
       → (log_pending old ≢ [] → IsLastCheckpoint (log_end old) (log_pending old) (log_counters old) (log_checkpoint new)) → Keeps → BeginsSame → IsLogOf start new (es ++ flush_by by next ∷ [])
-  flushed_stands next is recs next_same counters flushed down up faults first alone keeps begins =
+  flushed_stands next is recs next_same counters flushed further same_end down up faults first alone keeps begins =
       let e : Entry = flush_by by next in
-      goes_on start g.tells (g.faults (log_disk old)) (g.faults (log_disk new)) (g.images (log_disk old)) (g.images (log_disk new)) (log_recs old) (log_recs new) (log_next old) (log_next new) (log_first old) (log_first new) (log_flushed old) (log_flushed new) (log_counters old) (log_counters new) (log_down old) (log_down new) (log_checkpoint old) (log_checkpoint new) es by s (kinds.Flush next) refl
+      goes_on start g.tells (g.faults (log_disk old)) (g.faults (log_disk new)) (g.images (log_disk old)) (g.images (log_disk new)) (log_recs old) (log_recs new) (log_next old) (log_next new) (log_first old) (log_first new) (log_flushed old) (log_flushed new) (log_counters old) (log_counters new) (log_down old) (log_down new) (log_checkpoint old) (log_checkpoint new) (log_tail old) (log_tail new) es by s (kinds.Flush next) refl (flushed_tail old new next next_same flushed further same_end)
       recs next_same counters (flushed ∙ (sym is ∙ sym (number_push flushed_in start.from es e next refl)))
       (let same : faults_told start log_lock (es ++ e ∷ []) ≡ faults_told start log_lock es = number_same count_in (faults_at start log_lock) es e refl in let before = s.count in omega (arith, same, before, faults))
       (λ m put. absurd (let z : None ≡ Some m = sym up ∙ (sym down ∙ put) in cc))
@@ -128,10 +134,10 @@ module _ {D : Type 0} {g : logs.Ghosts D} (start : Start) (old new : WalLog D g)
       (first_same start es e (log_first old) (log_first new) first refl s.first_is) (flush_alone start old new es by s next alone) keeps refl begins
 
   -- it was forgotten before a checkpoint
-  pub forgotten_stands : (number : ℕ) → log_recs new ≡ log_recs old → log_next new ≡ log_next old → log_counters new ≡ log_counters old → log_flushed new ≡ log_flushed old → log_down new ≡ log_down old → log_down old ≡ None → g.faults (log_disk old) ≤ g.faults (log_disk new) → log_first new ≡ number → Keeps → BeginsLater → IsLogOf start new (es ++ forget_by by number ∷ [])
-  forgotten_stands number recs next_same counters flushed down up faults first keeps begins =
+  pub forgotten_stands : (number : ℕ) → log_recs new ≡ log_recs old → log_next new ≡ log_next old → log_counters new ≡ log_counters old → log_flushed new ≡ log_flushed old → log_end new ≡ log_end old → log_down new ≡ log_down old → log_down old ≡ None → g.faults (log_disk old) ≤ g.faults (log_disk new) → log_first new ≡ number → Keeps → BeginsLater → IsLogOf start new (es ++ forget_by by number ∷ [])
+  forgotten_stands number recs next_same counters flushed end down up faults first keeps begins =
       let e : Entry = forget_by by number in
-      goes_with start g.tells (g.faults (log_disk old)) (g.faults (log_disk new)) (g.images (log_disk old)) (g.images (log_disk new)) (log_recs old) (log_recs new) (log_next old) (log_next new) (log_first old) (log_first new) (log_flushed old) (log_flushed new) (log_counters old) (log_counters new) (log_down old) (log_down new) (log_checkpoint old) (log_checkpoint new) es by s (kinds.Forget number) refl
+      goes_with start g.tells (g.faults (log_disk old)) (g.faults (log_disk new)) (g.images (log_disk old)) (g.images (log_disk new)) (log_recs old) (log_recs new) (log_next old) (log_next new) (log_first old) (log_first new) (log_flushed old) (log_flushed new) (log_counters old) (log_counters new) (log_down old) (log_down new) (log_checkpoint old) (log_checkpoint new) (log_tail old) (log_tail new) es by s (kinds.Forget number) refl (same_tail old new recs next_same flushed end)
       recs next_same counters (flushed ∙ (s.flushed_is ∙ sym (number_same flushed_in start.from es e refl)))
       (let same : faults_told start log_lock (es ++ e ∷ []) ≡ faults_told start log_lock es = number_same count_in (faults_at start log_lock) es e refl in let before = s.count in omega (arith, same, before, faults))
       (λ m put. absurd (let z : None ≡ Some m = sym up ∙ (sym down ∙ put) in cc))
@@ -139,13 +145,13 @@ module _ {D : Type 0} {g : logs.Ghosts D} (start : Start) (old new : WalLog D g)
       (subst (λ n. IsFirstKept start (es ++ e ∷ []) n) (sym first) (record { exact = sym (number_push begin_asked_in (start.from - 1) es e number refl); one = inr (inl (by, Contains-push es e)); behind = λ still. (let here = number_push forgotten_in 0 es e number refl in omega (arith, here)) })) (unflushed start es e (log_checkpoint new) refl) keeps (others_asked e number refl first up begins)
 
   -- its volume failed, and it is down
-  fails : (asked : LogCall) → puts_down asked ≡ true → log_recs new ≡ log_recs old → log_next new ≡ log_next old → log_counters new ≡ log_counters old → log_flushed new ≡ log_flushed old → log_down new ≡ Some (log_flushed old) → IsFirstKept start (es ++ record { by = by; kind = kinds.LogFault asked (g.faults (log_disk new)) } ∷ []) (log_first new) → Keeps
+  fails : (asked : LogCall) → puts_down asked ≡ true → log_recs new ≡ log_recs old → log_next new ≡ log_next old → log_counters new ≡ log_counters old → log_flushed new ≡ log_flushed old → log_end new ≡ log_end old → log_down new ≡ Some (log_flushed old) → IsFirstKept start (es ++ record { by = by; kind = kinds.LogFault asked (g.faults (log_disk new)) } ∷ []) (log_first new) → Keeps
       → (IsTrue g.tells → (before : ℕ) × BeginWith (log_first new) (begin_other before start (es ++ record { by = by; kind = kinds.LogFault asked (g.faults (log_disk new)) } ∷ [])) (g.images (log_disk new)))
       → IsLogOf start new (es ++ record { by = by; kind = kinds.LogFault asked (g.faults (log_disk new)) } ∷ [])
-  fails asked puts recs next_same counters flushed down first keeps begins =
+  fails asked puts recs next_same counters flushed end down first keeps begins =
       let count : ℕ = g.faults (log_disk new) in
       let e : Entry = record { by = by; kind = kinds.LogFault asked count } in
-      goes_with start g.tells (g.faults (log_disk old)) (g.faults (log_disk new)) (g.images (log_disk old)) (g.images (log_disk new)) (log_recs old) (log_recs new) (log_next old) (log_next new) (log_first old) (log_first new) (log_flushed old) (log_flushed new) (log_counters old) (log_counters new) (log_down old) (log_down new) (log_checkpoint old) (log_checkpoint new) es by s (kinds.LogFault asked count) refl
+      goes_with start g.tells (g.faults (log_disk old)) (g.faults (log_disk new)) (g.images (log_disk old)) (g.images (log_disk new)) (log_recs old) (log_recs new) (log_next old) (log_next new) (log_first old) (log_first new) (log_flushed old) (log_flushed new) (log_counters old) (log_counters new) (log_down old) (log_down new) (log_checkpoint old) (log_checkpoint new) (log_tail old) (log_tail new) es by s (kinds.LogFault asked count) refl (same_tail old new recs next_same flushed end)
       recs next_same counters (flushed ∙ (s.flushed_is ∙ sym (number_same flushed_in start.from es e refl)))
       (let here : faults_told start log_lock (es ++ e ∷ []) ≡ count = number_push count_in (faults_at start log_lock) es e count refl in omega (arith, here))
       (λ m is.
@@ -154,18 +160,18 @@ module _ {D : Type 0} {g : logs.Ghosts D} (start : Start) (old new : WalLog D g)
       (λ none. absurd (let some : None ≡ Some (log_flushed old) = sym none ∙ down in cc))
       first (unflushed start es e (log_checkpoint new) refl) keeps begins
 
-  pub flush_fails : log_recs new ≡ log_recs old → log_next new ≡ log_next old → log_counters new ≡ log_counters old → log_flushed new ≡ log_flushed old → log_down new ≡ Some (log_flushed old) → log_first new ≡ log_first old → Keeps → BeginsSame
+  pub flush_fails : log_recs new ≡ log_recs old → log_next new ≡ log_next old → log_counters new ≡ log_counters old → log_flushed new ≡ log_flushed old → log_end new ≡ log_end old → log_down new ≡ Some (log_flushed old) → log_first new ≡ log_first old → Keeps → BeginsSame
       → IsLogOf start new (es ++ record { by = by; kind = kinds.LogFault calls.Flush (g.faults (log_disk new)) } ∷ [])
-  flush_fails recs next_same counters flushed down first keeps begins =
+  flush_fails recs next_same counters flushed end down first keeps begins =
       let e : Entry = record { by = by; kind = kinds.LogFault calls.Flush (g.faults (log_disk new)) } in
-      fails calls.Flush refl recs next_same counters flushed down (first_same start es e (log_first old) (log_first new) first refl s.first_is) keeps
+      fails calls.Flush refl recs next_same counters flushed end down (first_same start es e (log_first old) (log_first new) first refl s.first_is) keeps
       (others_same start es e g.tells (g.images (log_disk old)) (g.images (log_disk new)) (log_first old) (log_first new) refl s.others begins)
 
-  pub forget_fails : (number : ℕ) → log_recs new ≡ log_recs old → log_next new ≡ log_next old → log_counters new ≡ log_counters old → log_flushed new ≡ log_flushed old → log_down new ≡ Some (log_flushed old) → log_down old ≡ None → log_first new ≡ number → Keeps → BeginsLater
+  pub forget_fails : (number : ℕ) → log_recs new ≡ log_recs old → log_next new ≡ log_next old → log_counters new ≡ log_counters old → log_flushed new ≡ log_flushed old → log_end new ≡ log_end old → log_down new ≡ Some (log_flushed old) → log_down old ≡ None → log_first new ≡ number → Keeps → BeginsLater
       → IsLogOf start new (es ++ record { by = by; kind = kinds.LogFault (calls.Forget number) (g.faults (log_disk new)) } ∷ [])
-  forget_fails number recs next_same counters flushed down up first keeps begins =
+  forget_fails number recs next_same counters flushed end down up first keeps begins =
       let e : Entry = record { by = by; kind = kinds.LogFault (calls.Forget number) (g.faults (log_disk new)) } in
-      fails (calls.Forget number) refl recs next_same counters flushed down (subst (λ n. IsFirstKept start (es ++ e ∷ []) n) (sym first) (record { exact = sym (number_push begin_asked_in (start.from - 1) es e number refl); one = inr (inr (g.faults (log_disk new), by, Contains-push es e)); behind = λ still. absurd (not_up es e refl still) })) keeps
+      fails (calls.Forget number) refl recs next_same counters flushed end down (subst (λ n. IsFirstKept start (es ++ e ∷ []) n) (sym first) (record { exact = sym (number_push begin_asked_in (start.from - 1) es e number refl); one = inr (inr (g.faults (log_disk new), by, Contains-push es e)); behind = λ still. absurd (not_up es e refl still) })) keeps
       (others_asked e number refl first up begins)
 
   -- a checkpoint of its own next number may be appended

@@ -8,7 +8,7 @@ ghost use Rattle.engine_parts.specs.Parts.{IsLogOf, IsMembersOf, IsOffsetsOf, Is
 ghost use Rattle.engine_parts.specs.Stand.{MultiStands, ProcStands};
 
 use disk_core::{LogDisk, PageDisk};
-use engine_parts::{EngineLaw, Part};
+use engine_parts::{EngineLaw, InPlace, Part};
 use hall::{Hall, Pass};
 use multi_store::MultiGen;
 use proc_table::ProcTable;
@@ -53,7 +53,7 @@ pub fn take_xact<R: Wait, L: LogDisk, P: PageDisk>(
     hall: &Hall<EngineLaw<L, P>>,
     pass: &mut Pass<EngineLaw<L, P>>,
     bank: u32,
-) -> Box<SlruBank<P, XactPages>>
+) -> InPlace<SlruBank<P, XactPages>>
     requires alone { IsAlone hall.now pass.old }
     requires bank { bank < (start_of hall.now).banks }
     ensures inside { IsIn hall.now (xact_lock bank) pass.old pass.new }
@@ -72,7 +72,7 @@ pub fn take_subtrans<R: Wait, L: LogDisk, P: PageDisk>(
     hall: &Hall<EngineLaw<L, P>>,
     pass: &mut Pass<EngineLaw<L, P>>,
     bank: u32,
-) -> Box<SlruBank<P, SubtransPages>>
+) -> InPlace<SlruBank<P, SubtransPages>>
     requires alone { IsAlone hall.now pass.old }
     requires bank { bank < (start_of hall.now).banks }
     ensures inside { IsIn hall.now (subtrans_lock bank) pass.old pass.new }
@@ -92,7 +92,7 @@ pub fn take_offsets<R: Wait, L: LogDisk, P: PageDisk>(
     hall: &Hall<EngineLaw<L, P>>,
     pass: &mut Pass<EngineLaw<L, P>>,
     bank: u32,
-) -> Box<SlruBank<P, OffsetPages>>
+) -> InPlace<SlruBank<P, OffsetPages>>
     requires alone { IsAlone hall.now pass.old }
     requires bank { bank < (start_of hall.now).banks }
     ensures inside { IsIn hall.now (offsets_lock bank) pass.old pass.new }
@@ -112,7 +112,7 @@ pub fn take_members<R: Wait, L: LogDisk, P: PageDisk>(
     hall: &Hall<EngineLaw<L, P>>,
     pass: &mut Pass<EngineLaw<L, P>>,
     bank: u32,
-) -> Box<SlruBank<P, MemberPages>>
+) -> InPlace<SlruBank<P, MemberPages>>
     requires alone { IsAlone hall.now pass.old }
     requires bank { bank < (start_of hall.now).banks }
     ensures inside { IsIn hall.now (members_lock bank) pass.old pass.new }

@@ -22,7 +22,7 @@ use engine_parts::{EngineLaw, Part, flush_fault_note, leave};
 use hall::{Hall, Note, Pass};
 use std::sync::Wait;
 use tx_core::Entry;
-use tx_events::{By, Counters, Rec};
+use tx_events::{By, Rec, SharedCounters};
 use wal_core::{LogRefusal, WalLog};
 
 // The entry of a flush of the records below this number.
@@ -100,26 +100,26 @@ pub fn append_checkpoint<R: Wait, L: LogDisk, P: PageDisk>(
     hall: &Hall<EngineLaw<L, P>>,
     pass: &mut Pass<EngineLaw<L, P>>,
     by: By,
-    counters: &Counters,
+    counters: SharedCounters,
 ) -> Result<u64, LogRefusal>
     requires alone { IsAlone hall.now pass.old }
     requires turn { IsHostsTurn (start_of hall.now) by }
-    requires lawful { AreCounters counters.now }
+    requires lawful { AreCounters counters }
     requires base { StaysBase (start_of hall.now) (view pass.old).seen
-        (records.Checkpoint (next_number (start_of hall.now) (view pass.old).seen) counters.now) }
+        (records.Checkpoint (next_number (start_of hall.now) (view pass.old).seen) counters) }
     requires follows { CheckpointOf (start_of hall.now) (view pass.old).seen (at (view pass.old).seen log_lock)
-        (next_number (start_of hall.now) (view pass.old).seen) counters.now }
+        (next_number (start_of hall.now) (view pass.old).seen) counters }
     ensures alone { IsAlone hall.now pass.new }
     ensures holds { (view pass.new).holds ≡ (view pass.old).holds }
     ensures kept { EngineInvariant (start_of hall.now) (view pass.new).seen }
-    ensures adds { AddsCheckpoint (start_of hall.now) by counters.now (view pass.old).seen (view pass.new).seen result }
+    ensures adds { AddsCheckpoint (start_of hall.now) by counters (view pass.old).seen (view pass.new).seen result }
     ensures asks { AsksVolume L.LogDisk P.PageDisk (start_of hall.now) log_lock (view pass.old).seen (view pass.new).seen }
 {
     let mut held = take_log(rt, hall, pass);
     let log = &mut *held;
     let rec = Rec::Checkpoint {
         number: log.next(),
-        counters: counters.same(),
+        counters,
     };
     match log.append(&rec) {
         Ok(number) => {

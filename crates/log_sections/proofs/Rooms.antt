@@ -19,6 +19,7 @@ use Rattle.tx_core.specs.declared.entry.Start.{Start}
 use Rattle.tx_core.specs.Laws.{StaysBase}
 use Rattle.tx_core.specs.Locks.{log_lock}
 use Rattle.tx_core.specs.RecordsFollow.{counters_after}
+use Rattle.tx_core.specs.StaysDown.{IsUp}
 use Rattle.tx_core.proofs.Growing.{slice_get_begins}
 use Rattle.wal_records.specs.Spelling.{IsLawful}
 use Rattle.wal_core.specs.declared.refusal.LogRefusal.{LogRefusal}
@@ -32,6 +33,7 @@ use Rattle.engine_parts.specs.Adding.{IsTruncation}
 use Rattle.engine_parts.specs.Calls.{IsCounted, next_command}
 use Rattle.engine_parts.specs.Faults.{look_of}
 use Rattle.engine_parts.specs.Holds.{Enters, Knowledge, Leaves, Section}
+use Rattle.engine_parts.specs.LogTail.{LacksRoom, LogTail, log_tail, tail_of}
 use Rattle.engine_parts.specs.Parts.{IsLogOf}
 use Rattle.engine_parts.specs.Sessions.{IsAt, by_at, look_by}
 use Rattle.engine_parts.proofs.Logging.{recs_same}
@@ -39,7 +41,7 @@ use Rattle.engine_parts.proofs.Sectioning.{same_command, section_list}
 use Rattle.log_sections.specs.declared.appending.Appended.{Appended}
 use Rattle.log_sections.specs.declared.appending.Appended.TheVariants as came
 use Rattle.log_sections.specs.LogSections.{AppendSection, IsFlushRefused, IsRefusalOf}
-use Rattle.log_sections.specs.Rooms.{FoundFull, FoundNoBase, IsOneOrBefore, LacksRoom, MetFull, MetFullFor}
+use Rattle.log_sections.specs.Rooms.{FoundFull, FoundNoBase, IsOneOrBefore, MetFull, MetFullFor}
 use Rattle.log_sections.proofs.Sections.{log_refused, not_down}
 
 -- only a log that is full is answered for by `Full`
@@ -53,46 +55,45 @@ full_of refused.Memory r is full = let two : refusals.Memory ≡ refusals.Full =
 -- a section that a log answered with a refusal leaves a look, and where that is `Full`, the look found the log so
 pub full_answer : {L : Type 0} (l : logs.Ghosts L) (start : Start) (v u w : Knowledge) (n n' : ℕ) (s s' : Session) (log held : WalLog L l) (rec : Rec) (why : LogRefusal) (r : Refusal) → IsAt start v n s → Enters start log_lock v u → (s' ≡ s) × (n' ≡ n)
     → log ≡ held → IsLogOf start held (at u.seen log_lock) → MayAppend (log_counters log) (log_next log) rec
-    → ((down : ℕ) → log_down log ≡ Some down → why ≡ refused.LogDown down) → (why ≡ refused.Full → LacksRoom log rec) → IsRefusalOf why r → Leaves start log_lock (look_by n' s') u w
-    → MetFull l start w.seen (by_at n s.levels.commands) (λ z. z ≡ rec) r
+    → ((down : ℕ) → log_down log ≡ Some down → why ≡ refused.LogDown down) → (why ≡ refused.Full → LacksRoom (log_tail log) rec) → IsRefusalOf why r → Leaves start log_lock (look_by n' s') u w
+    → MetFull start w.seen (by_at n s.levels.commands) (λ z. z ≡ rec) r
 full_answer {L = L} l start v u w n n' s s' log held rec why r a entered same value stands may down lacks of left is =
     let es = at u.seen log_lock in
     let e : Entry = look_by n' s' in
     let long = entered.learns.long in
     let wide = a.wide in
     let grown : at w.seen log_lock ≡ es ++ e ∷ [] = ap (λ (z : List (List Entry)). at z log_lock) left.seen ∙ at_here u.seen log_lock e (omega arith) in
+    let before : take (length es) (at w.seen log_lock) ≡ es = ap (λ (t : List Entry). take (length es) t) grown ∙ take-append_seam es (e ∷ []) in
     let full : why ≡ refused.Full = full_of why r of is in (
       rec,
       refl,
-      subst (λ (b : By). FoundFull l start w.seen b rec) (same_command n n' s s' same.1 same.0) (record {
+      subst (λ (b : By). FoundFull start w.seen b rec) (same_command n n' s s' same.1 same.0) (record {
         place = length es;
         look = ap (λ (t : List Entry). slice_get t (length es)) grown ∙ last_at es e;
-        log = log;
-        stands = subst (λ (z : WalLog L l × List Entry). IsLogOf start z.0 z.1) (λ j. (sym value j, sym (ap (λ (t : List Entry). take (length es) t) grown ∙ take-append_seam es (e ∷ [])) j)) stands;
-        up = not_down (log_down log) (λ n is. log_refused why n (down n is) (inl full));
+        up = subst (λ (t : List Entry). IsUp t) (sym before) (stands.up (ap (λ (z : WalLog L l). log_down z) (sym value) ∙ not_down (log_down log) (λ n is. log_refused why n (down n is) (inl full))));
         lawful = may.lawful;
-        full = lacks full;
+        full = subst (λ (t : LogTail). LacksRoom t rec) (ap (λ (z : WalLog L l). log_tail z) value ∙ (stands.tail_is ∙ ap (λ (t : List Entry). tail_of start t) (sym before))) (lacks full);
       }),
     )
 
 -- so of another name of the command, and of more records
-pub met_then : {L T : Type 0} (l : logs.Ghosts L) (start : Start) (lists : List (List Entry)) (by own : By) (IsOne Is : Rec → Type 0) (r : Result T Refusal) → by ≡ own → ((z : Rec) → IsOne z → Is z) → IfErr r (MetFull l start lists by IsOne) → IfErr r (MetFull l start lists own Is)
-met_then l start lists by own IsOne Is (Ok x) same wider met = tt
-met_then l start lists by own IsOne Is (Err e) same wider met =
-    λ is. let m = met is in (m.0, wider m.0 m.1, subst (λ (b : By). FoundFull l start lists b m.0) same m.2)
+pub met_then : {T : Type 0} (start : Start) (lists : List (List Entry)) (by own : By) (IsOne Is : Rec → Type 0) (r : Result T Refusal) → by ≡ own → ((z : Rec) → IsOne z → Is z) → IfErr r (MetFull start lists by IsOne) → IfErr r (MetFull start lists own Is)
+met_then start lists by own IsOne Is (Ok x) same wider met = tt
+met_then start lists by own IsOne Is (Err e) same wider met =
+    λ is. let m = met is in (m.0, wider m.0 m.1, subst (λ (b : By). FoundFull start lists b m.0) same m.2)
 
 -- so of a record that the command appends by itself
-pub met_for : {L T : Type 0} (l : logs.Ghosts L) (start : Start) (lists : List (List Entry)) (by own : By) (IsOne Is : Rec → Type 0) (r : Result T Refusal) → by ≡ own → ((z : Rec) → IsOne z → Is z) → IfErr r (MetFull l start lists by IsOne) → IfErr r (MetFullFor l start lists own Is)
-met_for l start lists by own IsOne Is r same wider = met_then l start lists by own IsOne (IsOneOrBefore start lists own Is) r same (λ z is. inl (wider z is))
+pub met_for : {T : Type 0} (start : Start) (lists : List (List Entry)) (by own : By) (IsOne Is : Rec → Type 0) (r : Result T Refusal) → by ≡ own → ((z : Rec) → IsOne z → Is z) → IfErr r (MetFull start lists by IsOne) → IfErr r (MetFullFor start lists own Is)
+met_for start lists by own IsOne Is r same wider = met_then start lists by own IsOne (IsOneOrBefore start lists own Is) r same (λ z is. inl (wider z is))
 
 -- and of a truncation's that has to come before it
-pub met_before : {L T : Type 0} (l : logs.Ghosts L) (start : Start) (lists : List (List Entry)) (by : By) (Is : Rec → Type 0) (r : Result T Refusal) (rec : Rec) → Is rec → FoundNoBase start lists by rec → IfErr r (MetFull l start lists by IsTruncation) → IfErr r (MetFullFor l start lists by Is)
-met_before l start lists by Is r rec is found = met_then l start lists by by IsTruncation (IsOneOrBefore start lists by Is) r refl (λ z t. inr (t, rec, is, found))
+pub met_before : {T : Type 0} (start : Start) (lists : List (List Entry)) (by : By) (Is : Rec → Type 0) (r : Result T Refusal) (rec : Rec) → Is rec → FoundNoBase start lists by rec → IfErr r (MetFull start lists by IsTruncation) → IfErr r (MetFullFor start lists by Is)
+met_before start lists by Is r rec is found = met_then start lists by by IsTruncation (IsOneOrBefore start lists by Is) r refl (λ z t. inr (t, rec, is, found))
 
 -- and so of either
-pub met_for_then : {L T : Type 0} (l : logs.Ghosts L) (start : Start) (lists : List (List Entry)) (by own : By) (IsOne Is : Rec → Type 0) (r : Result T Refusal) → by ≡ own → ((z : Rec) → IsOne z → Is z) → IfErr r (MetFullFor l start lists by IsOne) → IfErr r (MetFullFor l start lists own Is)
-met_for_then l start lists by own IsOne Is r same wider =
-    met_then l start lists by own (IsOneOrBefore start lists by IsOne) (IsOneOrBefore start lists own Is) r same (λ z. ⊎_elim
+pub met_for_then : {T : Type 0} (start : Start) (lists : List (List Entry)) (by own : By) (IsOne Is : Rec → Type 0) (r : Result T Refusal) → by ≡ own → ((z : Rec) → IsOne z → Is z) → IfErr r (MetFullFor start lists by IsOne) → IfErr r (MetFullFor start lists own Is)
+met_for_then start lists by own IsOne Is r same wider =
+    met_then start lists by own (IsOneOrBefore start lists by IsOne) (IsOneOrBefore start lists own Is) r same (λ z. ⊎_elim
     (λ (is : IsOne z). inl (wider z is))
     (λ t. inr (t.0, t.1, wider t.1 t.2, subst (λ (b : By). FoundNoBase start lists b t.1) same t.3)))
 
@@ -124,14 +125,14 @@ no_base_stays start lists more by rec grows found =
     }
 
 -- nothing is to be shown of what is never refused so
-pub met_never : {L T : Type 0} (l : logs.Ghosts L) (start : Start) (lists : List (List Entry)) (by : By) (Is : Rec → Type 0) (Why : Refusal → Type 0) (r : Result T Refusal) → IfErr r Why → (Why refusals.Full → ⊥) → IfErr r (MetFull l start lists by Is)
-met_never l start lists by Is Why (Ok x) why never = tt
-met_never l start lists by Is Why (Err e) why never = λ is. absurd (never (subst Why is why))
+pub met_never : {T : Type 0} (start : Start) (lists : List (List Entry)) (by : By) (Is : Rec → Type 0) (Why : Refusal → Type 0) (r : Result T Refusal) → IfErr r Why → (Why refusals.Full → ⊥) → IfErr r (MetFull start lists by Is)
+met_never start lists by Is Why (Ok x) why never = tt
+met_never start lists by Is Why (Err e) why never = λ is. absurd (never (subst Why is why))
 
 -- a flush isn't
-pub met_flush : {L T : Type 0} (l : logs.Ghosts L) (start : Start) (lists : List (List Entry)) (by own : By) (number : ℕ) (Is : Rec → Type 0) (Done : T → Type 0) (r : Result T Refusal) → MatchResult r Done (IsFlushRefused start lists own number) → IfErr r (MetFull l start lists by Is)
-met_flush l start lists by own number Is Done (Ok x) flushes = tt
-met_flush l start lists by own number Is Done (Err e) flushes = λ is. absurd (subst (IsFlushRefused start lists own number) is flushes)
+pub met_flush : {T : Type 0} (start : Start) (lists : List (List Entry)) (by own : By) (number : ℕ) (Is : Rec → Type 0) (Done : T → Type 0) (r : Result T Refusal) → MatchResult r Done (IsFlushRefused start lists own number) → IfErr r (MetFull start lists by Is)
+met_flush start lists by own number Is Done (Ok x) flushes = tt
+met_flush start lists by own number Is Done (Err e) flushes = λ is. absurd (subst (IsFlushRefused start lists own number) is flushes)
 
 -- the command that a call counts is its next one
 pub counted_by : {L P : Type 0} {l : logs.Ghosts L} {p : disks.Ghosts P} (old u : Caller L P l p) → IsCounted old u → by_at u.number u.session.levels.commands ≡ by_at old.number (next_command old)

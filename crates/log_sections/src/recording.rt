@@ -92,7 +92,7 @@ pub fn append_multi<R: Passing, L: LogDisk, P: PageDisk>(
     ensures went { WentOn caller.old.number [] (view caller.old.pass).seen (view caller.new.pass).seen }
     ensures takes { TakesMulti (start_of hall.now) (view caller.new.pass).seen rec.now caller.old.session
         caller.new.session result }
-    ensures full { IfErr result (MetFull L.LogDisk (start_of hall.now) (view caller.new.pass).seen
+    ensures full { IfErr result (MetFull (start_of hall.now) (view caller.new.pass).seen
         (by_at caller.old.number caller.old.session.levels.commands) (λ z. z ≡ rec.now)) }
     ensures number { caller.new.number ≡ caller.old.number }
 {

@@ -56,7 +56,7 @@ fn log_pending<R: Passing, L: LogDisk, P: PageDisk>(
     ensures visited { Visited hall.now banks (MayAdd IsOfMulti ⊥ (λ _. ⊥)) caller.old caller.new }
     ensures logs { LogsMulti (start_of hall.now) (view caller.new.pass).seen caller.old.session caller.new.session
         result }
-    ensures full { IfErr result (MetFullFor L.LogDisk (start_of hall.now) (view caller.new.pass).seen
+    ensures full { IfErr result (MetFullFor (start_of hall.now) (view caller.new.pass).seen
         (by_at caller.old.number caller.old.session.levels.commands) (IsPending caller.new.session.making)) }
 {
     if is_logged(&caller.session.making) {
@@ -129,7 +129,7 @@ fn finish_record<R: Passing, L: LogDisk, P: PageDisk>(
     ensures visited { Visited hall.now banks (MayAdd IsOfMulti ⊥ (IsToldBy result)) caller.old caller.new }
     ensures finishes { Finishes (start_of hall.now) caller.old.number caller.old.session caller.new.session
         (view caller.new.pass).seen result }
-    ensures full { IfErr result (MetFullFor L.LogDisk (start_of hall.now) (view caller.new.pass).seen
+    ensures full { IfErr result (MetFullFor (start_of hall.now) (view caller.new.pass).seen
         (by_at caller.old.number caller.old.session.levels.commands) (IsPending caller.new.session.making)) }
 {
     match log_pending(rt, hall, caller, banks, rec) {
@@ -159,7 +159,7 @@ pub(crate) fn finish<R: Passing, L: LogDisk, P: PageDisk>(
     ensures visited { Visited hall.now banks (MayAdd IsOfMulti ⊥ (IsToldBy result)) caller.old caller.new }
     ensures finishes { Finishes (start_of hall.now) caller.old.number caller.old.session caller.new.session
         (view caller.new.pass).seen result }
-    ensures full { IfErr result (MetFullFor L.LogDisk (start_of hall.now) (view caller.new.pass).seen
+    ensures full { IfErr result (MetFullFor (start_of hall.now) (view caller.new.pass).seen
         (by_at caller.old.number caller.old.session.levels.commands) (IsPending caller.new.session.making)) }
 {
     match pending_record(&caller.session.making) {

@@ -46,7 +46,7 @@ pub(crate) fn full_members(
     requires to { found.now.next < 2 ^ 63 }
     ensures { MatchResult result (AreFullOf found.now.next pairs.now) (AreNotFull found.now.next found.now.oldest pairs.now) }
 {
-    let mut members = Sequence::new(alloc);
+    let mut members = Sequence::with_room(alloc, pairs.len())?;
     for pair in pairs {
         match full_id(found, pair.x) {
             Ok(id) => {

@@ -39,7 +39,7 @@ fn log_truncation<R: Passing, L: LogDisk, P: PageDisk>(
         (view caller.new.pass).seen) }
     ensures refused { IfErr result (IsAppendRefused (start_of hall.now) (view caller.new.pass).seen) }
     ensures same { (caller.new.session ≡ caller.old.session) × (caller.new.number ≡ caller.old.number) }
-    ensures full { IfErr result (MetFull L.LogDisk (start_of hall.now) (view caller.new.pass).seen
+    ensures full { IfErr result (MetFull (start_of hall.now) (view caller.new.pass).seen
         (by_at caller.old.number caller.old.session.levels.commands) IsTruncation) }
 {
     let oldest = read_oldest(rt, hall, caller);
@@ -75,7 +75,7 @@ fn log_behind<R: Passing, L: LogDisk, P: PageDisk>(
     ensures logs { LogsMulti (start_of hall.now) (view caller.new.pass).seen caller.old.session caller.new.session
         result }
     ensures number { caller.new.number ≡ caller.old.number }
-    ensures full { IfErr result (MetFullFor L.LogDisk (start_of hall.now) (view caller.new.pass).seen
+    ensures full { IfErr result (MetFullFor (start_of hall.now) (view caller.new.pass).seen
         (by_at caller.old.number caller.old.session.levels.commands) (IsPending caller.new.session.making)) }
 {
     rec.tell_forms();
@@ -112,7 +112,7 @@ pub(crate) fn log_multi<R: Passing, L: LogDisk, P: PageDisk>(
     ensures logs { LogsMulti (start_of hall.now) (view caller.new.pass).seen caller.old.session caller.new.session
         result }
     ensures number { caller.new.number ≡ caller.old.number }
-    ensures full { IfErr result (MetFullFor L.LogDisk (start_of hall.now) (view caller.new.pass).seen
+    ensures full { IfErr result (MetFullFor (start_of hall.now) (view caller.new.pass).seen
         (by_at caller.old.number caller.old.session.levels.commands) (IsPending caller.new.session.making)) }
 {
     match append_multi(rt, hall, caller, rec) {

@@ -49,7 +49,7 @@ fn make_of<R: Passing, L: LogDisk, P: PageDisk>(
     ensures makes { MakesOf (start_of hall.now) caller.old.number caller.old.session caller.new.session
         members (view caller.old.pass).seen (view caller.new.pass).seen result }
     ensures left { LeavesMaking caller.old caller.new }
-    ensures full { IfErr result (MetFullFor L.LogDisk (start_of hall.now) (view caller.new.pass).seen
+    ensures full { IfErr result (MetFullFor (start_of hall.now) (view caller.new.pass).seen
         (by_at caller.old.number caller.old.session.levels.commands) (IsPending caller.new.session.making)) }
 {
     match take_multi(rt, hall, caller, members) {
@@ -79,7 +79,7 @@ fn make_new<R: Passing, L: LogDisk, P: PageDisk>(
     ensures makes { MakesNew (start_of hall.now) caller.old.number caller.old.session caller.new.session
         pairs.now (view caller.old.pass).seen (view caller.new.pass).seen result }
     ensures left { LeavesMaking caller.old caller.new }
-    ensures full { IfErr result (MetFullFor L.LogDisk (start_of hall.now) (view caller.new.pass).seen
+    ensures full { IfErr result (MetFullFor (start_of hall.now) (view caller.new.pass).seen
         (by_at caller.old.number caller.old.session.levels.commands) (IsPending caller.new.session.making)) }
 {
     let found = read_horizons(rt, hall, caller);
@@ -106,7 +106,7 @@ fn make_next<R: Passing, L: LogDisk, P: PageDisk>(
     ensures makes { MakesNext (start_of hall.now) caller.old.number caller.old.session caller.new.session
         pairs.now (view caller.old.pass).seen (view caller.new.pass).seen result }
     ensures left { LeavesMaking caller.old caller.new }
-    ensures full { IfErr result (MetFullFor L.LogDisk (start_of hall.now) (view caller.new.pass).seen
+    ensures full { IfErr result (MetFullFor (start_of hall.now) (view caller.new.pass).seen
         (by_at caller.old.number caller.old.session.levels.commands) (IsPending caller.new.session.making)) }
 {
     match finish(rt, hall, caller, banks) {
@@ -138,7 +138,7 @@ pub fn multi<R: Passing, L: LogDisk, P: PageDisk>(
         caller.old caller.new }
     ensures done { IfOk result (IsMade (start_of hall.now) (view caller.new.pass).seen caller.old.number) }
     ensures words { by_members (reply_of given_reply result) ≡ refused_by_members (commands.Multi members.now) }
-    ensures full { IfErr result (MetFullFor L.LogDisk (start_of hall.now) (view caller.new.pass).seen
+    ensures full { IfErr result (MetFullFor (start_of hall.now) (view caller.new.pass).seen
         (by_at caller.old.number (next_command caller.old)) (IsPending caller.new.session.making)) }
 {
     count(caller);

@@ -7,7 +7,7 @@ use disk_core::MemLog;
 use std::alloc::Global;
 use std::io;
 use std::time::Instant;
-use tx_events::{Counters, Rec};
+use tx_events::{Counters, Rec, SharedCounters};
 use wal_core::WalLog;
 
 // How many commits there are where no number is given.
@@ -19,7 +19,7 @@ fn first_log(alloc: Global) -> Option<WalLog<MemLog>> {
     let mut log = WalLog::start(alloc, disk).ok()?.log;
     let checkpoint = Rec::Checkpoint {
         number: 0,
-        counters: Counters::of_new_log(),
+        counters: SharedCounters::of(alloc, Counters::of_new_log()).ok()?,
     };
     if log.may_append(&checkpoint) && log.append(&checkpoint).is_err() {
         return None;

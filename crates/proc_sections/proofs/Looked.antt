@@ -1,5 +1,5 @@
 -- What a look at the ProcArray leaves, which changes nothing there.
-use Rattle.std.proofs.Common.{◌≡◌, ◌<◌, ℕ, [], List, length, refl, ap, arith}
+use Rattle.std.proofs.Common.{◌≡◌, ◌<◌, ℕ, [], length, refl, ap, arith}
 use Rattle.notes.specs.Lists.{Grows}
 use Rattle.tx_core.specs.declared.entry.Start.{Start}
 use Rattle.tx_core.specs.Entries.{history}

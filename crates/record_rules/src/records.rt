@@ -107,7 +107,7 @@ fn is_true_record(judging: &Judging, multis: &MultiPlaces, asked: &CounterCounts
             offset,
             members,
         } => is_given(multis, *multi, *offset, members.items()),
-        Rec::Checkpoint { counters, .. } => is_asked(asked, counters),
+        Rec::Checkpoint { counters, .. } => is_asked(asked, counters.get()),
         Rec::Truncate {
             oldest,
             multi,
@@ -138,7 +138,7 @@ fn is_checkpoint_of(rec: &Rec, from: u64, base: &Counters) -> bool
     ensures { IsTrue result ↔ (rec.now ≡ records.Checkpoint from base.now) }
 {
     match rec {
-        Rec::Checkpoint { number, counters } => *number == from && are_same(counters, base),
+        Rec::Checkpoint { number, counters } => *number == from && are_same(counters.get(), base),
         _ => false,
     }
 }

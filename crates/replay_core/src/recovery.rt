@@ -159,5 +159,5 @@ fn replay<L: LogDisk, P: PageDisk + Drop>(
     ensures { Replays P.PageDisk recs.now base.now log.old log.new pages.old pages.new result }
 {
     restore_pages(rooms, pages, recs, base)?;
-    settle(log, *base)
+    settle(*pages.xact.allocator(), log, *base)
 }

@@ -13,7 +13,7 @@ fn begun_counters(recs: &[Rec], base: &Counters) -> Counters
         return *base;
     }
     match &recs[0] {
-        Rec::Checkpoint { counters, .. } => *counters,
+        Rec::Checkpoint { counters, .. } => *counters.get(),
         _ => *base,
     }
 }

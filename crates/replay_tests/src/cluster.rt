@@ -5,7 +5,7 @@ use slru_bank::{BankRooms, SlruBank, State, set_states, state};
 use std::alloc::AllocGlobal;
 use std::process::Abort;
 use store_pages::{PageRule, XactPages};
-use tx_events::{Counters, FullXid, IdList, Rec};
+use tx_events::{Counters, FullXid, IdList, Rec, SharedCounters};
 use wal_core::{Started, WalLog};
 
 pub fn id(rt: &impl Abort, number: u64) -> FullXid {
@@ -31,10 +31,11 @@ pub fn abort(rt: &(impl Abort + AllocGlobal), top: u64) -> Rec {
     }
 }
 
-pub fn first_checkpoint() -> Rec {
+pub fn first_checkpoint(rt: &(impl Abort + AllocGlobal)) -> Rec {
+    let counters = SharedCounters::of(rt.alloc(), Counters::of_new_log());
     Rec::Checkpoint {
         number: 0,
-        counters: Counters::of_new_log(),
+        counters: counters.expect(rt, "memory"),
     }
 }
 

@@ -53,7 +53,7 @@ fn first_life<M: Media>(rt: &(impl Abort + AllocGlobal), media: &mut M)
         mut members,
     } = media.mount(2).ok().expect(rt, "volumes");
     let recs = [
-        first_checkpoint(),
+        first_checkpoint(rt),
         commit(rt, 3, &[5]),
         abort(rt, 4),
         multi(rt, 1, 1, 3, 5),

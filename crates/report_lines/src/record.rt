@@ -13,6 +13,7 @@ use report_words::{
     multi_fits, number_at, read_ids, read_members, word_at,
 };
 use std::alloc::Global;
+use tx_events::SharedCounters;
 use tx_model::{IdList, MemberList, Memory, Rec, Sequence};
 
 /// The record of a transaction's end, behind its number.
@@ -75,7 +76,7 @@ fn record_at(alloc: Global, number: u64, rest: &[u8]) -> Result<Rec, Unread>
         return multi_record_at(alloc, tail);
     }
     if is_word(word, b"checkpoint") {
-        let counters = counters_at(tail)?;
+        let counters = SharedCounters::of(alloc, counters_at(tail)?)?;
         return Ok(Rec::Checkpoint { number, counters });
     }
     if is_word(word, b"truncate") {
@@ -121,7 +122,7 @@ fn fits_record(number: u64, rec: &Rec) -> bool
             number: own,
             counters,
         } => {
-            counters_fit(counters);
+            counters_fit(counters.get());
             *own == number
         }
         Rec::Truncate {

@@ -1,11 +1,26 @@
 //! Sessions by their names.
 ghost use Rattle.std.specs.Prelude.{◌≡◌, ◌<◌, ◌^◌, IfOk, length};
+ghost use Rattle.std.specs.Str.{bytes_eq};
 ghost use Rattle.report_words.specs.Words.{behind};
 ghost use Rattle.report_words.specs.Reading.{Gives, by_at, name_place};
 
 use crate::unread::Unread;
 use crate::word::{number_at, word_at};
 use tx_model::{By, Name, NameList};
+
+// Two names mostly differ in their last byte, so that one is compared first.
+fn are_same(a: &[u8], b: &[u8]) -> bool
+    ensures { result ≡ bytes_eq a.now b.now }
+{
+    let count = a.len();
+    if count != b.len() {
+        return false;
+    }
+    if count > 0 && a[count - 1] != b[count - 1] {
+        return false;
+    }
+    a == b
+}
 
 /// The session of this name.
 #[tactic(auto, using(crate::proofs::Places::place_none, crate::proofs::Places::place_here, crate::proofs::Places::place_step))]
@@ -14,7 +29,7 @@ pub fn name_place(names: &[Name], name: &[u8]) -> Result<usize, Unread>
     ensures within { IfOk result (λ k. k < length names.now) }
 {
     for (i, other) in names.iter().enumerate() {
-        if other.items() == name {
+        if are_same(other.items(), name) {
             return Ok(i);
         }
     }

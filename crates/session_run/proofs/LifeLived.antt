@@ -25,6 +25,7 @@ use Rattle.tx_core.specs.Locks.{log_lock}
 use Rattle.tx_core.specs.MultiEntries.{AreFewMultis, multi_history}
 use Rattle.wal_core.specs.LogViews.{log_checkpoint, log_counters, log_disk, log_down, log_end, log_first, log_next, log_recs}
 use Rattle.engine_parts.specs.declared.part.Part.{Part}
+use Rattle.engine_parts.specs.LogTail.{log_tail}
 use Rattle.engine_parts.specs.Parts.{IsLogOf}
 use Rattle.engine_parts.specs.declared.session.Session.{Session}
 use Rattle.engine_host.specs.declared.cluster.Cluster.{Cluster}
@@ -106,5 +107,5 @@ module _ {H K L P : Type 0} {l : logs.Ghosts L} {p : disks.Ghosts P} (keep : kee
           few = subst (λ (ls : List Line). length ls ≤ 2 ^ 24) (sym (lines_run r.steps r.rounds r.rounds_are)) few;
         },
         log_holds l (log_disk log) life start (records.Checkpoint b.number c.base) es (l.faults (log_disk log)) (log_next log) (log_first log)
-            (log_counters log) (log_down log) (log_checkpoint log) begins.from (ap (λ t. t.logged) begun) stands (lawful None).log.begun,
+            (log_counters log) (log_down log) (log_checkpoint log) (log_tail log) begins.from (ap (λ t. t.logged) begun) stands (lawful None).log.begun,
       )

@@ -19,6 +19,7 @@ use Rattle.wal_core.specs.Log.{history_in}
 use Rattle.wal_core.specs.Opening.{History, Opened, opened}
 use Rattle.recoverable.proofs.Checkpoints.{get_past}
 use Rattle.recoverable.proofs.Opened.{first_is, history_comes}
+use Rattle.engine_parts.specs.LogTail.{LogTail}
 use Rattle.engine_parts.specs.Stand.{LogStands}
 use Rattle.session_run.specs.Records.{HoldsRecords, LogHolds}
 
@@ -94,10 +95,10 @@ module _ (life : Life) (number : ℕ) (all earlier : List Rec) (whole : all ≡ 
 
 -- the log of a life stands for its list: so its volume, which is one of its images
 pub log_holds : {L : Type 0} (l : logs.Ghosts L) (log : L) (life : Life) (start : Start) (first : Rec) (es : List Entry) (faults next kept : ℕ)
-    (counters : Option Counters) (down : Option ℕ) (checkpoint : Option LastCheckpoint) → start.from ≡ life.from + 1 → start.logged ≡ first ∷ []
-    → LogStands start l.tells faults (l.images log) life.recs next kept life.flushed counters down checkpoint es
+    (counters : Option Counters) (down : Option ℕ) (checkpoint : Option LastCheckpoint) (tail : LogTail) → start.from ≡ life.from + 1 → start.logged ≡ first ∷ []
+    → LogStands start l.tells faults (l.images log) life.recs next kept life.flushed counters down checkpoint tail es
     → life.from < life.flushed → IsTrue l.tells → l.images log (l.reads log) → LogHolds l life log
-log_holds l log life start first es faults next kept counters down checkpoint from logged stands begun tells now =
+log_holds l log life start first es faults next kept counters down checkpoint tail from logged stands begun tells now =
     let k = stands.kept tells in
     let own = k.2 in
     let size : length life.recs ≡ length (first ∷ recs_in es) = ap (λ (t : List Rec). length t) (stands.recs_are ∙ ap (λ (t : List Rec). t ++ recs_in es) logged) in

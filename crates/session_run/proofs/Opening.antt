@@ -13,7 +13,7 @@ use Rattle.recoverable.specs.Fit.{KeptLog, base_at, log_end}
 use Rattle.session_lang.specs.declared.script.Script.{Script}
 use Rattle.run_law.specs.Lives.{RunStart}
 use Rattle.engine_host.specs.declared.cluster.Cluster.{Cluster}
-use Rattle.engine_host.specs.Opening.{Beginning, nothing_before}
+use Rattle.engine_host.specs.Opening.{Beginning, at_gate, nothing_before}
 use Rattle.engine_life.specs.declared.life.OpenLife.{OpenLife}
 use Rattle.engine_life.specs.FirstLives.{BeginsNew, IsFirstLife, MayBeginOver, MayMount, with_banks}
 use Rattle.engine_life.specs.Lives.{FitsLog, IsNewLife}
@@ -45,7 +45,7 @@ pub record IsBehind (kept : KeptLog) (c : Cluster) (b : Beginning) : Type 0 wher
   pub base : base_at kept b.number ≡ base_so c.base b
 
 module _ {L P : Type 0} {l : logs.Ghosts L} {p : disks.Ghosts P} where
-  new_is_opened : (c : Cluster) (volumes : Volumes L P) (life : OpenLife L P l p) → (new : IsNewLife c volumes life) → IsOpened c nothing_before new.faults volumes life
+  new_is_opened : (c : Cluster) (volumes : Volumes L P) (life : OpenLife L P l p) → (new : IsNewLife c volumes life) → IsOpened c (at_gate nothing_before new.gate) new.faults volumes life
   new_is_opened c volumes life new = record {
     banks = new.banks;
     counted = new.counted;
@@ -55,7 +55,7 @@ module _ {L P : Type 0} {l : logs.Ghosts L} {p : disks.Ghosts P} where
   }
 
   next_is_opened : (kept : KeptLog) (banks sessions : ℕ) (volumes : Volumes L P) (life : OpenLife L P l p) → HasBanks banks volumes → (goes : GoesOnLife kept sessions volumes life)
-      → IsOpened goes.cluster (behind p.tells kept goes.number) goes.faults volumes life
+      → IsOpened goes.cluster (at_gate (behind p.tells kept goes.number) goes.gate) goes.faults volumes life
   next_is_opened kept banks sessions volumes life has goes = record {
     banks = subst (λ n. HasBanks n volumes) (sym (goes.banks ∙ has.xact)) has;
     counted = goes.counted;
@@ -79,7 +79,7 @@ module _ {L P : Type 0} {l : logs.Ghosts L} {p : disks.Ghosts P} where
   opened_new : (kept : KeptLog) (c : Cluster) (volumes : Volumes L P) (life : OpenLife L P l p) → BeginsNew c volumes life → IsOpenedSo kept c volumes life
   opened_new kept c volumes life first = record {
     cluster = c;
-    begins = nothing_before;
+    begins = at_gate nothing_before first.new.gate;
     faults = first.new.faults;
     banks = refl;
     sessions = refl;
@@ -92,7 +92,7 @@ module _ {L P : Type 0} {l : logs.Ghosts L} {p : disks.Ghosts P} where
   opened_next : (kept : KeptLog) (c : Cluster) (volumes : Volumes L P) (life : OpenLife L P l p) → HasBanks c.banks volumes → GoesOnLife kept c.sessions volumes life → IsOpenedSo kept c volumes life
   opened_next kept c volumes life has goes = record {
     cluster = goes.cluster;
-    begins = behind p.tells kept goes.number;
+    begins = at_gate (behind p.tells kept goes.number) goes.gate;
     faults = goes.faults;
     banks = goes.banks ∙ has.xact;
     sessions = goes.sessions_are;

@@ -137,6 +137,7 @@ fn show_dump<R: Wait, K: LineKeeper, L: LogDisk, P: PageDisk>(
 /// Makes a checkpoint, and keeps what it was answered. The sessions are all home.
 fn make_checkpoint<R: Wait, K: LineKeeper, L: LogDisk, P: PageDisk>(
     rt: &R,
+    alloc: Global,
     hall: &Hall<EngineLaw<L, P>>,
     host: &mut Host<L, P>,
     sessions: &[Session],
@@ -149,7 +150,7 @@ fn make_checkpoint<R: Wait, K: LineKeeper, L: LogDisk, P: PageDisk>(
     ensures ran { OnOk result (AnswersOn K.LineKeeper hall.now names.now (asked.checkpoint ∷ []) host.old host.new
         sessions.now kept.old kept.new) }
 {
-    let reply = checkpoint(rt, hall, host, sessions);
+    let reply = checkpoint(rt, alloc, hall, host, sessions);
     let step = Step::Checkpoint { reply };
     kept.add_step(names, &step)
 }
@@ -174,7 +175,9 @@ fn answer_next<R: Wait, K: LineKeeper, L: LogDisk, P: PageDisk>(
         sessions.now kept.old kept.new) }
 {
     match script.between_at(place) {
-        Some(Between::Checkpoint) => make_checkpoint(rt, hall, host, sessions, names, kept),
+        Some(Between::Checkpoint) => {
+            make_checkpoint(rt, alloc, hall, host, sessions, names, kept)
+        }
         Some(Between::Dump(dump)) => {
             show_dump(rt, alloc, hall, host, sessions, dump, names, kept)
         }

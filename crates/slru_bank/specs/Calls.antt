@@ -15,17 +15,17 @@ use Rattle.slru_bank.specs.Removal.{AllAbsent, Drops, MayDrop}
 module _ {P O : Type 0} {g : DiskGhosts P} {r : RuleGhosts O} where
   -- the bytes of each page, whatever was evicted
   abbrev pub pages_of : SlruBank P O g r → ℕ → List ℕ
-  pages_of bank = map_of (g.pages bank.disk) bank.buffers.items
+  pages_of bank = map_of (g.pages bank.disk) bank.room.value.buffers.items
 
   abbrev pub SamePages : SlruBank P O g r → SlruBank P O g r → Type 0
   SamePages old new = SameMap (pages_of old) (pages_of new)
 
   -- the last page that was made
   abbrev pub last_page : SlruBank P O g r → ℕ
-  last_page bank = bank.last
+  last_page bank = bank.room.value.last
 
   abbrev pub cutoff_of : SlruBank P O g r → ℕ
-  cutoff_of bank = bank.cutoff
+  cutoff_of bank = bank.room.value.cutoff
 
   abbrev pub volume_of : SlruBank P O g r → P
   volume_of bank = bank.disk
@@ -35,11 +35,11 @@ module _ {P O : Type 0} {g : DiskGhosts P} {r : RuleGhosts O} where
 
   -- the page's segment lies wholly before the cutoff
   abbrev pub IsCut : ℕ → SlruBank P O g r → Type 0
-  IsCut page bank = IsTrue (is_cut r.shape r.per_page bank.cutoff page)
+  IsCut page bank = IsTrue (is_cut r.shape r.per_page bank.room.value.cutoff page)
 
   -- the page was used last: a call on it asks the volume for nothing
   abbrev pub IsAtHand : ℕ → SlruBank P O g r → Type 0
-  IsAtHand page bank = FirstHolds page bank.buffers.items
+  IsAtHand page bank = FirstHolds page bank.room.value.buffers.items
 
   -- each image that a crash may leave has the bytes of the pages
   abbrev pub IsDurable : SlruBank P O g r → Type 0

@@ -20,9 +20,20 @@ use crate::buffers::{
 use crate::removal::{Removal, blank_removed, empty_removed, later_of, lies_before, remove_pages};
 use crate::rows::PageSpan;
 use disk_core::{Failed, Memory, PageDisk};
-use std::alloc::Global;
+use std::alloc::{AllocError, Global};
 use std::marker::PhantomData;
 use store_pages::PageRule;
+
+/// What a bank has besides its volume. It lies behind a box, which goes on from bank to bank (`BankRooms`).
+#[derive(Drop)]
+pub(crate) struct Room {
+    /// The last page that was made (`latest_page_number`).
+    pub(crate) last: u32,
+    /// Segments wholly before it are cut.
+    pub(crate) cutoff: u32,
+    /// The one used last first. There are up to 16, each made when a page first needs it.
+    pub(crate) buffers: Vec<Buffer>,
+}
 
 /// Page buffers over a volume, one bank of a store (of `SlruSharedData`). It is seen as a map from pages to bytes, with
 /// the last made page and a cutoff.
@@ -30,15 +41,10 @@ use store_pages::PageRule;
 pub struct SlruBank<P: PageDisk, O: PageRule> {
     disk: P,
     rule: PhantomData<O>,
-    /// The last page that was made (`latest_page_number`).
-    last: u32,
-    /// Segments wholly before it are cut.
-    cutoff: u32,
-    /// The one used last first. There are up to 16, each made when a page first needs it.
-    buffers: Vec<Buffer>,
-    ghost some: { 1 ≤ length buffers.items },
-    ghost distinct: { Distinct buffers.items } by { Distinct-prop buffers.items },
-    ghost agree: { IsTrue P.tells → AllAgree (P.pages disk) buffers.items } by { Prim.hlevel (props, AllAgree-prop) },
+    room: Box<Room>,
+    ghost some: { 1 ≤ length room.value.buffers.items },
+    ghost distinct: { Distinct room.value.buffers.items } by { Distinct-prop room.value.buffers.items },
+    ghost agree: { IsTrue P.tells → AllAgree (P.pages disk) room.value.buffers.items } by { Prim.hlevel (props, AllAgree-prop) },
 }
 
 impl<P: PageDisk, O: PageRule> SlruBank<P, O> {
@@ -53,10 +59,10 @@ impl<P: PageDisk, O: PageRule> SlruBank<P, O> {
         ensures cutoff { cutoff_of self.new ≡ cutoff_of self.old }
         ensures cause { CountsFault result (faults_of self.old) (faults_of self.new) }
         ensures same { IsTrue P.tells → SamePages self.old self.new }
-        ensures others { IsTrue P.tells → (q : ℕ) → buffered self.old.buffers.items q ≡ false → P.pages (volume_of self.new) q ≡ P.pages (volume_of self.old) q }
+        ensures others { IsTrue P.tells → (q : ℕ) → buffered self.old.room.value.buffers.items q ≡ false → P.pages (volume_of self.new) q ≡ P.pages (volume_of self.old) q }
         ensures crash { CrashKeeps self.old self.new }
     {
-        touch(&mut self.disk, &mut self.buffers, page)
+        touch(&mut self.disk, &mut self.room.buffers, page)
     }
 
     // Brings a page that isn't cut to the front (`SimpleLruReadPage`).
@@ -64,10 +70,10 @@ impl<P: PageDisk, O: PageRule> SlruBank<P, O> {
         ensures bank { CallsBank page self.old self.new result }
         ensures same { IsTrue P.tells → SamePages self.old self.new }
     {
-        let is_cut = lies_before::<O>(self.cutoff, page);
+        let is_cut = lies_before::<O>(self.room.cutoff, page);
         if is_cut {
             return Err(BankRefusal::Cut {
-                cutoff: self.cutoff,
+                cutoff: self.room.cutoff,
             });
         }
         self.load(page)?;
@@ -84,7 +90,7 @@ impl<P: PageDisk, O: PageRule> SlruBank<P, O> {
         ensures same { IsTrue P.tells → SamePages self.old self.new }
     {
         self.open(page)?;
-        read_first_bytes(&self.buffers, page, at as usize, into);
+        read_first_bytes(&self.room.buffers, page, at as usize, into);
         Ok(())
     }
 
@@ -99,7 +105,7 @@ impl<P: PageDisk, O: PageRule> SlruBank<P, O> {
         ensures bank { CallsBank page self.old self.new result }
     {
         self.open(page)?;
-        set_first(&mut self.buffers, page, at as usize, mask, bits);
+        set_first(&mut self.room.buffers, page, at as usize, mask, bits);
         Ok(())
     }
 
@@ -113,7 +119,7 @@ impl<P: PageDisk, O: PageRule> SlruBank<P, O> {
         ensures bank { CallsBank page self.old self.new result }
     {
         self.open(page)?;
-        put_first(&mut self.buffers, page, at as usize, from);
+        put_first(&mut self.room.buffers, page, at as usize, from);
         Ok(())
     }
 
@@ -130,17 +136,18 @@ impl<P: PageDisk, O: PageRule> SlruBank<P, O> {
             → (volume_of self.new ≡ volume_of self.old) × (result ≢ Err DiskFault) }
         ensures at_hand { OnOk result (page_precedes O.shape O.per_page (last_page self.old) page ≡ true → IsAtHand page self.new) }
     {
-        if lies_before::<O>(self.cutoff, page) {
+        if lies_before::<O>(self.room.cutoff, page) {
             return Err(BankRefusal::Cut {
-                cutoff: self.cutoff,
+                cutoff: self.room.cutoff,
             });
         }
-        if !O::precedes(self.last, page) {
+        if !O::precedes(self.room.last, page) {
             return Ok(());
         }
-        make_page(&mut self.disk, &mut self.buffers, page)?;
-        blank_first(&mut self.buffers, page);
-        self.last = page;
+        let room = &mut *self.room;
+        make_page(&mut self.disk, &mut room.buffers, page)?;
+        blank_first(&mut room.buffers, page);
+        room.last = page;
         Ok(())
     }
 
@@ -152,7 +159,7 @@ impl<P: PageDisk, O: PageRule> SlruBank<P, O> {
         ensures bank { SweepsBank self.old self.new result }
         ensures crash { CrashKeeps self.old self.new }
     {
-        write_pages(&mut self.disk, &mut self.buffers)?;
+        write_pages(&mut self.disk, &mut self.room.buffers)?;
         sync(&mut self.disk)?;
         Ok(())
     }
@@ -163,15 +170,16 @@ impl<P: PageDisk, O: PageRule> SlruBank<P, O> {
         ensures ok { IsTrue P.tells → OnOk result (Drops (removes O.shape O.per_page removal) (pages_of self.old) (pages_of self.new)) }
         ensures any { IsTrue P.tells → MayDrop (removes O.shape O.per_page removal) (pages_of self.old) (pages_of self.new) }
         ensures absent { IsTrue P.tells → OnOk result (AllAbsent (removes O.shape O.per_page removal) (P.pages (volume_of self.new))) }
-        ensures unbuffered { OnOk result ((q : ℕ) → q < 2 ^ 32 → removes O.shape O.per_page removal q ≡ true → buffered self.new.buffers.items q ≡ false) }
+        ensures unbuffered { OnOk result ((q : ℕ) → q < 2 ^ 32 → removes O.shape O.per_page removal q ≡ true → buffered self.new.room.value.buffers.items q ≡ false) }
         ensures last { last_page self.new ≡ last_page self.old }
         ensures cutoff { cutoff_of self.new ≡ cutoff_of self.old }
         ensures cause { CountsFault result (faults_of self.old) (faults_of self.new) }
         ensures crash { CrashMayLack (removes O.shape O.per_page removal) self.old self.new }
     {
-        blank_removed::<O>(&mut self.buffers, removal);
+        let room = &mut *self.room;
+        blank_removed::<O>(&mut room.buffers, removal);
         remove_pages::<P, O>(&mut self.disk, removal, per_page)?;
-        empty_removed::<O>(&mut self.buffers, removal);
+        empty_removed::<O>(&mut room.buffers, removal);
         Ok(())
     }
 
@@ -202,9 +210,9 @@ impl<P: PageDisk, O: PageSpan> SlruBank<P, O> {
         ensures cutoff { cutoff_of self.new ≡ later_cutoff O.shape O.per_page (cutoff_of self.old) cutoff }
         ensures bank { RemovesPages (is_cut O.shape O.per_page (cutoff_of self.new)) self.old self.new result }
     {
-        self.cutoff = later_of::<O>(self.cutoff, cutoff);
+        self.room.cutoff = later_of::<O>(self.room.cutoff, cutoff);
         let removal = Removal::Before {
-            cutoff: self.cutoff,
+            cutoff: self.room.cutoff,
         };
         self.remove(removal, Some(O::per_page()))?;
         Ok(())
@@ -221,7 +229,7 @@ impl<P: PageDisk, O: PageSpan> SlruBank<P, O> {
     {
         self.remove(Removal::After { page }, Some(O::per_page()))?;
         self.load(page)?;
-        clear_first(&mut self.buffers, page, at as usize);
+        clear_first(&mut self.room.buffers, page, at as usize);
         Ok(())
     }
 }
@@ -252,38 +260,54 @@ impl<P: PageDisk + Drop, O: PageRule> SlruBank<P, O> {
         ensures map { IfOk result (λ b. SameMap (λ q. page_bytes (P.pages disk q)) (pages_of b)) }
         ensures err { IfErr result (λ e. e.0 ≡ disk) }
     {
-        match first_buffer(alloc) {
-            Ok(buffers) => Ok(SlruBank::over(disk, last, cutoff, buffers)),
+        match first_room(alloc) {
+            Ok(room) => Ok(SlruBank::over(disk, last, cutoff, room)),
             Err(_) => Err((disk, Memory)),
         }
     }
 }
 
+// Room for a bank, with a first buffer.
+pub(crate) fn first_room(alloc: Global) -> Result<Box<Room>, AllocError>
+    ensures some { IfOk result (λ room. 1 ≤ length room.value.buffers.items) }
+    ensures empty { IfOk result (λ room. AllEmpty room.value.buffers.items) }
+{
+    let buffers = first_buffer(alloc)?;
+    let room = Room {
+        last: 0,
+        cutoff: 0,
+        buffers,
+    };
+    Ok(Box::new(alloc, room)?)
+}
+
 impl<P: PageDisk, O: PageRule> SlruBank<P, O> {
     ghost use Rattle.slru_bank.specs.Calls.{cutoff_of, last_page, pages_of, volume_of};
 
-    // A bank over a volume, with buffers that have no page.
-    pub(crate) fn over(disk: P, last: u32, cutoff: u32, buffers: Vec<Buffer>) -> SlruBank<P, O>
-        requires some { 1 ≤ length buffers.items }
-        requires empty { AllEmpty buffers.items }
+    // A bank over a volume, in room whose buffers have no page.
+    pub(crate) fn over(disk: P, last: u32, cutoff: u32, room: Box<Room>) -> SlruBank<P, O>
+        requires some { 1 ≤ length room.value.buffers.items }
+        requires empty { AllEmpty room.value.buffers.items }
         ensures disk { volume_of result ≡ disk }
         ensures last { last_page result ≡ last }
         ensures cutoff { cutoff_of result ≡ cutoff }
         ensures map { SameMap (λ q. page_bytes (P.pages disk q)) (pages_of result) }
     {
+        let mut room = room;
+        let begun = &mut *room;
+        begun.last = last;
+        begun.cutoff = cutoff;
         SlruBank {
             disk,
             rule: PhantomData,
-            last,
-            cutoff,
-            buffers,
+            room,
         }
     }
 
-    // The volume, and the buffers, whatever they have. Changed pages are not written first.
-    pub(crate) fn into_parts(self) -> (P, Vec<Buffer>)
+    // The volume, and the room, whatever it has. Changed pages are not written first.
+    pub(crate) fn into_parts(self) -> (P, Box<Room>)
         ensures { result.0 ≡ volume_of self }
     {
-        (self.disk, self.buffers)
+        (self.disk, self.room)
     }
 }

@@ -1,12 +1,11 @@
-//! The buffers of banks that are over, for the next ones.
+//! The room of banks that are over, for the next ones.
 ghost use Rattle.std.specs.Prelude.{◌≡◌, ◌≤◌, IfErr, IfOk, IfSome, length};
 ghost use Rattle.disk_core.specs.Pages.{page_bytes};
 ghost use Rattle.slru_bank.specs.Bank.{AllEmpty};
 ghost use Rattle.slru_bank.specs.Crash.{SameMap};
 
 use crate::SlruBank;
-use crate::buffer::Buffer;
-use crate::buffers::first_buffer;
+use crate::bank::{Room, first_room};
 use disk_core::{Memory, PageDisk};
 use std::alloc::{AllocError, Global};
 use store_pages::PageRule;
@@ -14,25 +13,25 @@ use store_pages::PageRule;
 // As many banks as an engine has at most: 16 of each of four stores.
 const MOST_BANKS: usize = 64;
 
-/// Buffers that go on from bank to bank, one of each bank that is over. A bank that is made with them takes no memory, and
-/// fills no buffer with zeros.
+/// Room that goes on from bank to bank, with one buffer of each bank that is over. A bank that is made in it takes no
+/// memory, and fills no buffer with zeros.
 #[derive(Drop)]
 pub struct BankRooms {
     alloc: Global,
-    rooms: Vec<Vec<Buffer>>,
+    rooms: Vec<Box<Room>>,
 }
 
-// One of these buffers, without its page.
-fn emptied(buffers: Vec<Buffer>) -> Option<Vec<Buffer>>
-    ensures some { IfSome result (λ v. 1 ≤ length v.items) }
-    ensures empty { IfSome result (λ v. AllEmpty v.items) }
+// The room, if it has a buffer: that one, without its page.
+fn emptied(room: Box<Room>) -> Option<Box<Room>>
+    ensures some { IfSome result (λ room. 1 ≤ length room.value.buffers.items) }
+    ensures empty { IfSome result (λ room. AllEmpty room.value.buffers.items) }
 {
-    let mut buffers = buffers;
-    buffers.truncate(1);
-    let buffer = buffers.first_mut()?;
+    let mut room = room;
+    room.buffers.truncate(1);
+    let buffer = room.buffers.first_mut()?;
     buffer.page = None;
     buffer.changed = false;
-    Some(buffers)
+    Some(room)
 }
 
 impl BankRooms {
@@ -46,19 +45,19 @@ impl BankRooms {
         }
     }
 
-    // Buffers for a bank: those of one that is over, or a new one.
-    fn take(&mut self) -> Result<Vec<Buffer>, AllocError>
-        ensures some { IfOk result (λ v. 1 ≤ length v.items) }
-        ensures empty { IfOk result (λ v. AllEmpty v.items) }
+    // Room for a bank: that of one that is over, or a new one.
+    fn take(&mut self) -> Result<Box<Room>, AllocError>
+        ensures some { IfOk result (λ room. 1 ≤ length room.value.buffers.items) }
+        ensures empty { IfOk result (λ room. AllEmpty room.value.buffers.items) }
     {
-        if let Some(buffers) = self.rooms.pop()
-            && let Some(room) = emptied(buffers)
+        if let Some(left) = self.rooms.pop()
+            && let Some(room) = emptied(left)
         {
             return Ok(room);
         }
-        // So that `keep` takes no memory. Where there is none, no buffer is kept.
+        // So that `keep` takes no memory. Where there is none, no room is kept.
         let _ = self.rooms.reserve(MOST_BANKS);
-        first_buffer(self.alloc)
+        first_room(self.alloc)
     }
 
     /// A bank over a volume, as `SlruBank::new` makes it. After an `Err` the volume is handed back.
@@ -75,21 +74,21 @@ impl BankRooms {
         ensures err { IfErr result (λ e. e.0 ≡ disk) }
     {
         match self.take() {
-            Ok(buffers) => Ok(SlruBank::over(disk, last, cutoff, buffers)),
+            Ok(room) => Ok(SlruBank::over(disk, last, cutoff, room)),
             Err(_) => Err((disk, Memory)),
         }
     }
 
-    /// The volume of a bank that is over. A buffer is kept, where there is a place for it. Changed pages are not written
+    /// The volume of a bank that is over. Its room is kept, where there is a place for it. Changed pages are not written
     /// first. Takes no memory.
     pub fn keep<P: PageDisk, O: PageRule>(&mut self, bank: SlruBank<P, O>) -> P
         ensures { result ≡ volume_of bank }
     {
-        let (disk, buffers) = bank.into_parts();
-        let mut buffers = buffers;
+        let (disk, room) = bank.into_parts();
+        let mut room = room;
         if self.rooms.len() < self.rooms.capacity() {
-            buffers.truncate(1);
-            self.rooms.push_reserved(buffers);
+            room.buffers.truncate(1);
+            self.rooms.push_reserved(room);
         }
         disk
     }

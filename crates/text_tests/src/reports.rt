@@ -4,7 +4,7 @@ use std::alloc::AllocGlobal;
 use std::process::Abort;
 use tx_events::{
     By, ByWords, Counters, Event, EventList, Member, MemberList, Mode, MultiEvent, MultiEventList,
-    Name, Rec, RecList, Refusal, Sequence, Xid,
+    Name, Rec, RecList, Refusal, Sequence, SharedCounters, Xid,
 };
 use tx_model::{
     Command, DumpOf, How, Life, LifeReport, Line, NameList, Pair, Reply, Report, Step, StepList,
@@ -24,7 +24,7 @@ fn first_counters(rt: &impl Abort) -> Counters {
 /// A life whose log has one checkpoint, of this number.
 fn quiet_life(rt: &(impl Abort + AllocGlobal), number: u64, flushed: u64, end: u64) -> LifeReport {
     let alloc = rt.alloc();
-    let counters = first_counters(rt);
+    let counters = SharedCounters::of(alloc, first_counters(rt)).expect(rt, "memory");
     let life = Life {
         from: number,
         base: first_counters(rt),

@@ -58,7 +58,8 @@ fn begin(alloc: Global, at: u64, rec: Rec) -> Result<SoFar, Stop>
     let Rec::Checkpoint { number, counters } = rec else {
         return Err(Stop::Unlawful);
     };
-    if at < number || !is_base(&counters) {
+    let base = *counters.get();
+    if at < number || !is_base(&base) {
         return Err(Stop::Unlawful);
     }
     let mut recs = RecList::new(alloc);
@@ -66,7 +67,7 @@ fn begin(alloc: Global, at: u64, rec: Rec) -> Result<SoFar, Stop>
     Ok(SoFar {
         first: number,
         recs,
-        counters,
+        counters: base,
     })
 }
 

@@ -25,11 +25,11 @@ pub(crate) fn checkpoint_of(
     ensures { IsLastCheckpoint gate batch.now after result }
 {
     match batch {
-        [Rec::Checkpoint { number, counters }] if after == Some(*counters) => {
+        [Rec::Checkpoint { number, counters }] if after == Some(*counters.get()) => {
             Some(LastCheckpoint {
                 gate,
                 number: *number,
-                counters: *counters,
+                counters: *counters.get(),
             })
         }
         _ => None,

@@ -139,7 +139,7 @@ pub fn counters_after(counters: &Counters, rec: &Rec) -> Option<Counters>
         Rec::Checkpoint {
             number: _,
             counters: own,
-        } => Some(after_checkpoint(counters, own)),
+        } => Some(after_checkpoint(counters, own.get())),
         Rec::Truncate {
             oldest,
             multi,

@@ -34,7 +34,7 @@ pub(crate) fn counters_then(counters: Option<Counters>, rec: &Rec) -> Option<Cou
             Rec::Checkpoint {
                 number: _,
                 counters,
-            } => Some(*counters),
+            } => Some(*counters.get()),
             _ => None,
         },
     }

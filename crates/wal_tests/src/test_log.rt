@@ -170,7 +170,7 @@ fn ask(rt: &(impl Abort + AllocGlobal), open: &mut Started<TestDisk>, call: Call
         Call::Found => Answer::Found(open.recs.items().len(), open.first),
         Call::FoundCheckpoint => match open.recs.items() {
             [Rec::Checkpoint { number, counters }] => {
-                Answer::Checkpoint(*number, numbers(counters))
+                Answer::Checkpoint(*number, numbers(counters.get()))
             }
             _ => Answer::MayNot,
         },

@@ -1,6 +1,6 @@
 //! Records as tables say them, and their bytes.
 use std::process::Abort;
-use tx_events::{Counters, FullMulti, FullXid, IdList, Member, MemberList, Mode, Rec, Sequence};
+use tx_events::{Counters, FullMulti, FullXid, IdList, Member, MemberList, Mode, Rec, Sequence, SharedCounters};
 use wal_records::{is_lawful, read_rec, rec_length, write_rec};
 
 #[derive(Clone, Copy)]
@@ -45,13 +45,16 @@ fn members_of(rt: &(impl Abort + AllocGlobal), groups: &[(Mode, u64, usize)]) ->
 
 pub fn rec_of(rt: &(impl Abort + AllocGlobal), record: Record<'_>) -> Rec {
     match record {
-        Record::Checkpoint(number, next) => Rec::Checkpoint {
-            number,
-            counters: Counters {
+        Record::Checkpoint(number, next) => {
+            let counters = Counters {
                 next: id_of(rt, next),
                 ..Counters::of_new_log()
-            },
-        },
+            };
+            Rec::Checkpoint {
+                number,
+                counters: SharedCounters::of(rt.alloc(), counters).expect(rt, "memory"),
+            }
+        }
         Record::Commit(top, subs) => Rec::Commit {
             top: id_of(rt, top),
             subs: ids_of(rt, subs),

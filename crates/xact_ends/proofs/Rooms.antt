@@ -20,7 +20,7 @@ abbrev pub IsBegun : Stage → Type 0
 IsBegun stages.Clear = ⊥
 IsBegun stage = Unit {0}
 
-pub recorded_never : {L P : Type 0} {l : logs.Ghosts L} {p : disks.Ghosts P} (start : Start) (u x : Caller L P l p) (by : By) (Is : Rec → Type 0) (r : Result (Unit {0}) Refusal) → IsBegun u.session.stage → Commits start u.number u.session x.session (view u.pass).seen (view x.pass).seen r → IfErr r (MetFull l start (view x.pass).seen by Is)
+pub recorded_never : {L P : Type 0} {l : logs.Ghosts L} {p : disks.Ghosts P} (start : Start) (u x : Caller L P l p) (by : By) (Is : Rec → Type 0) (r : Result (Unit {0}) Refusal) → IsBegun u.session.stage → Commits start u.number u.session x.session (view u.pass).seen (view x.pass).seen r → IfErr r (MetFull start (view x.pass).seen by Is)
 recorded_never start u x by Is (Ok done) begun commits = tt
 recorded_never start u x by Is (Err e) begun commits = λ is.
     let stops : Stops start (view x.pass).seen (by_at u.number u.session.levels.commands) u.session.stage x.session.stage e = commits.2 in

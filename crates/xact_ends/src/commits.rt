@@ -32,7 +32,7 @@ fn commit_anew<R: Passing, L: LogDisk, P: PageDisk>(
     requires levels { 1 ≤ length (stance_of caller.old.session).levels }
     ensures ran { Ran hall.now caller.old.session.levels.commands commands.Commit (reply_of (λ _. replies.Done) result)
         caller.old caller.new }
-    ensures full { IfErr result (MetFullFor L.LogDisk (start_of hall.now) (view caller.new.pass).seen
+    ensures full { IfErr result (MetFullFor (start_of hall.now) (view caller.new.pass).seen
         (by_at caller.old.number caller.old.session.levels.commands)
         (IsCommitOf caller.old.session.levels.open_ids.items)) }
 {
@@ -62,7 +62,7 @@ pub fn commit<R: Passing, L: LogDisk, P: PageDisk>(
     requires { MayRun hall.now banks caller.old }
     ensures ran { Ran hall.now (next_command caller.old) commands.Commit (reply_of (λ _. replies.Done) result)
         caller.old caller.new }
-    ensures full { IfErr result (MetFullFor L.LogDisk (start_of hall.now) (view caller.new.pass).seen
+    ensures full { IfErr result (MetFullFor (start_of hall.now) (view caller.new.pass).seen
         (by_at caller.old.number (next_command caller.old))
         (IsCommitOf caller.old.session.levels.open_ids.items)) }
 {

@@ -108,7 +108,7 @@ fn log_and_finish<R: Passing, L: LogDisk, P: PageDisk>(
     ensures commits { Commits (start_of hall.now) caller.old.number caller.old.session caller.new.session
         (view caller.old.pass).seen (view caller.new.pass).seen result }
     ensures number { caller.new.number ≡ caller.old.number }
-    ensures full { IfErr result (MetFullFor L.LogDisk (start_of hall.now) (view caller.new.pass).seen
+    ensures full { IfErr result (MetFullFor (start_of hall.now) (view caller.new.pass).seen
         (by_at caller.old.number caller.old.session.levels.commands)
         (IsCommitOf caller.old.session.levels.open_ids.items)) }
 {
@@ -143,7 +143,7 @@ pub(crate) fn start_commit<R: Passing, L: LogDisk, P: PageDisk>(
     ensures commits { Commits (start_of hall.now) caller.old.number caller.old.session caller.new.session
         (view caller.old.pass).seen (view caller.new.pass).seen result }
     ensures number { caller.new.number ≡ caller.old.number }
-    ensures full { IfErr result (MetFullFor L.LogDisk (start_of hall.now) (view caller.new.pass).seen
+    ensures full { IfErr result (MetFullFor (start_of hall.now) (view caller.new.pass).seen
         (by_at caller.old.number caller.old.session.levels.commands)
         (IsCommitOf caller.old.session.levels.open_ids.items)) }
 {

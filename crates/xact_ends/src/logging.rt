@@ -37,7 +37,7 @@ fn log_truncation<R: Passing, L: LogDisk, P: PageDisk>(
         (view caller.new.pass).seen) }
     ensures refused { IfErr result (IsAppendRefused (start_of hall.now) (view caller.new.pass).seen) }
     ensures same { (caller.new.session ≡ caller.old.session) × (caller.new.number ≡ caller.old.number) }
-    ensures full { IfErr result (MetFull L.LogDisk (start_of hall.now) (view caller.new.pass).seen
+    ensures full { IfErr result (MetFull (start_of hall.now) (view caller.new.pass).seen
         (by_at caller.old.number caller.old.session.levels.commands) IsTruncation) }
 {
     let rec = read_truncation(rt, hall, caller);
@@ -69,7 +69,7 @@ fn log_commit_behind<R: Passing, L: LogDisk, P: PageDisk>(
         caller.new.session result }
     ensures numbered { IsNumbered result }
     ensures number { caller.new.number ≡ caller.old.number }
-    ensures full { IfErr result (MetFullFor L.LogDisk (start_of hall.now) (view caller.new.pass).seen
+    ensures full { IfErr result (MetFullFor (start_of hall.now) (view caller.new.pass).seen
         (by_at caller.old.number caller.old.session.levels.commands)
         (IsCommitOf caller.old.session.levels.open_ids.items)) }
 {
@@ -106,7 +106,7 @@ pub(crate) fn log_commit_record<R: Passing, L: LogDisk, P: PageDisk>(
         caller.new.session result }
     ensures numbered { IsNumbered result }
     ensures number { caller.new.number ≡ caller.old.number }
-    ensures full { IfErr result (MetFullFor L.LogDisk (start_of hall.now) (view caller.new.pass).seen
+    ensures full { IfErr result (MetFullFor (start_of hall.now) (view caller.new.pass).seen
         (by_at caller.old.number caller.old.session.levels.commands)
         (IsCommitOf caller.old.session.levels.open_ids.items)) }
 {

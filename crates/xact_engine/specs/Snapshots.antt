@@ -5,7 +5,7 @@ use Rattle.tx_events.specs.declared.event.Event.TheVariants as events
 use Rattle.tx_events.specs.declared.snapshot.SnapData.{SnapData}
 use Rattle.proc_table.specs.Table.{Table, Adds, data_at}
 
--- it holds what the table says, at the place that its event has
+-- what the reply tells and what the session keeps are what the table says, and the place is that of its event
 pub record IsTaken (old new : Table) (by : By) (name : List ℕ) (lists kept : SnapData)
     (place : ℕ) : Type 0 where
   pub lists_are : lists ≡ data_at old

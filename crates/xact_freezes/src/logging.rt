@@ -30,7 +30,7 @@ pub(crate) fn log_trim<R: Passing, L: LogDisk, P: PageDisk>(
         (by_at caller.old.number caller.old.session.levels.commands) rec.now) }
     ensures met { IfErr result (IsTrimMet (start_of hall.now) (view caller.new.pass).seen
         (by_at caller.old.number caller.old.session.levels.commands)) }
-    ensures full { IfErr result (MetFull L.LogDisk (start_of hall.now) (view caller.new.pass).seen
+    ensures full { IfErr result (MetFull (start_of hall.now) (view caller.new.pass).seen
         (by_at caller.old.number caller.old.session.levels.commands) IsTruncation) }
 {
     match append_truncation(rt, hall, caller, rec) {

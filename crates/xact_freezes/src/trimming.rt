@@ -39,7 +39,7 @@ pub fn trim<R: Passing, L: LogDisk, P: PageDisk>(
         caller.old caller.new }
     ensures trimmed { IfOk result (λ _. HasTrimmed (start_of hall.now) (view caller.old.pass).seen
         (view caller.new.pass).seen (by_at caller.old.number (next_command caller.old))) }
-    ensures full { IfErr result (MetFull L.LogDisk (start_of hall.now) (view caller.new.pass).seen
+    ensures full { IfErr result (MetFull (start_of hall.now) (view caller.new.pass).seen
         (by_at caller.old.number (next_command caller.old)) IsTruncation) }
 {
     count(caller);

@@ -27,6 +27,8 @@ use Rattle.engine_parts.proofs.Sectioning.{section_adds}
 use Rattle.bank_sections.proofs.Visiting.{below_locks}
 use Rattle.multi_banks.specs.Sections.{BankRefused}
 use Rattle.multi_banks.proofs.Later.{offset_at_later}
+use Rattle.xact_reads.specs.Apart.{StaysApart}
+use Rattle.xact_reads.proofs.Aparting.{section_apart}
 
 module _ (start : Start) (v w : Knowledge) (lock : ℕ) (by : By) (t : Session) (a : IsAt start v by.session t) (pages : IsPageLock start lock) where
   pub looked_adds : Section start lock (record { by = by; kind = kinds.Look }) v w → Adds by IsPlain v.seen w.seen
@@ -39,6 +41,19 @@ module _ (start : Start) (v w : Knowledge) (lock : ℕ) (by : By) (t : Session) 
 
   pub cut_adds : (cut : ℕ → Type 0) (refusal : BankRefusal) (cutoff : ℕ) → refusal ≡ refused.Cut cutoff → BankRefused start lock by cut v w refusal → Adds by IsPlain v.seen w.seen
   cut_adds cut refusal cutoff is s = looked_adds (subst (λ z. BankRefused start lock by cut v w z) is s).0
+
+  -- it stays away from the ProcArray
+  pub looked_apart : Section start lock (record { by = by; kind = kinds.Look }) v w → StaysApart by.session v.seen w.seen
+  looked_apart s = let from = pages.from in section_apart start v w lock (record { by = by; kind = kinds.Look }) by.session a.name (omega (arith, from)) s
+
+  pub failed_apart : (cut : ℕ → Type 0) (refusal : BankRefusal) → refusal ≡ refused.DiskFault → BankRefused start lock by cut v w refusal → StaysApart by.session v.seen w.seen
+  failed_apart cut refusal is s =
+      let met = subst (λ z. BankRefused start lock by cut v w z) is s in
+      let from = pages.from in
+      section_apart start v w lock (fault_by by met.0) by.session a.name (omega (arith, from)) met.1
+
+  pub cut_apart : (cut : ℕ → Type 0) (refusal : BankRefusal) (cutoff : ℕ) → refusal ≡ refused.Cut cutoff → BankRefused start lock by cut v w refusal → StaysApart by.session v.seen w.seen
+  cut_apart cut refusal cutoff is s = looked_apart (subst (λ z. BankRefused start lock by cut v w z) is s).0
 
 -- an offset that isn't past the free one isn't later
 pub free_later : (start : Start) (lists more : List (List Entry)) (offset : ℕ) → IsBase start.base → EngineInvariant start more → Grows lists more → offset ≤ free_offset start.base.offset (multi_history lists) → offset ≤ free_offset start.base.offset (multi_history more)

@@ -8,6 +8,7 @@ ghost use Rattle.engine_parts.specs.Sessions.{IsReady, by_at};
 ghost use Rattle.engine_parts.specs.Steps.{WentMulti};
 ghost use Rattle.multi_banks.specs.Members.{SharePage};
 ghost use Rattle.multi_sections.specs.Pinnings.{Pins};
+ghost use Rattle.xact_reads.specs.Apart.{StaysApart};
 ghost use Rattle.xact_reads.specs.Multis.{AreItsSlots, AreReadFrom, IsMultiFault, IsNotRead, WasPinned};
 
 use crate::spans::{ends_of, offset_in_full, slots_in};
@@ -61,6 +62,7 @@ fn read_page<R: Passing, L: LogDisk, P: PageDisk>(
     ensures own { IsOf hall.now caller.new.pass }
     ensures ready { IsReady (start_of hall.now) (view caller.new.pass) caller.new.number caller.new.session }
     ensures went { WentMulti caller.old.number [] (view caller.old.pass).seen (view caller.new.pass).seen }
+    ensures apart { StaysApart caller.old.number (view caller.old.pass).seen (view caller.new.pass).seen }
     ensures adds { Adds (by_at caller.old.number caller.old.session.levels.commands) (MayFault result)
         (view caller.old.pass).seen (view caller.new.pass).seen }
     ensures slots { IsTrue P.tells → AreFewMultis (view caller.new.pass).seen
@@ -104,6 +106,7 @@ fn read_slots<R: Passing, L: LogDisk, P: PageDisk>(
     ensures own { IsOf hall.now caller.new.pass }
     ensures ready { IsReady (start_of hall.now) (view caller.new.pass) caller.new.number caller.new.session }
     ensures went { WentMulti caller.old.number [] (view caller.old.pass).seen (view caller.new.pass).seen }
+    ensures apart { StaysApart caller.old.number (view caller.old.pass).seen (view caller.new.pass).seen }
     ensures adds { Adds (by_at caller.old.number caller.old.session.levels.commands) (MayFault result)
         (view caller.old.pass).seen (view caller.new.pass).seen }
     ensures slots { IsTrue P.tells → AreFewMultis (view caller.new.pass).seen
@@ -151,6 +154,7 @@ pub(crate) fn gather<R: Passing, L: LogDisk, P: PageDisk>(
     ensures own { IsOf hall.now caller.new.pass }
     ensures ready { IsReady (start_of hall.now) (view caller.new.pass) caller.new.number caller.new.session }
     ensures went { WentMulti caller.old.number [] (view caller.old.pass).seen (view caller.new.pass).seen }
+    ensures apart { StaysApart caller.old.number (view caller.old.pass).seen (view caller.new.pass).seen }
     ensures adds { Adds (by_at caller.old.number caller.old.session.levels.commands) (MayFault result)
         (view caller.old.pass).seen (view caller.new.pass).seen }
     ensures slots { IsTrue P.tells → AreFewMultis (view caller.new.pass).seen → OnOk result

@@ -11,6 +11,7 @@ ghost use Rattle.bank_sections.specs.Faults.{IsBankFault};
 ghost use Rattle.engine_parts.specs.Adding.{Adds, MayFault};
 ghost use Rattle.engine_parts.specs.Sessions.{IsReady, by_at};
 ghost use Rattle.engine_parts.specs.Steps.{WentOn};
+ghost use Rattle.xact_reads.specs.Apart.{ApartOrMet};
 ghost use Rattle.xact_reads.specs.Glances.{HasGlanced, IsNamed};
 ghost use Rattle.xact_reads.specs.Multis.{AreJudged, IsCarried, IsJudgedNormal, IsVerdictOn, JudgesSlot, judged_refusal, pair_in};
 
@@ -86,6 +87,8 @@ fn judge_glance<R: Passing, L: LogDisk, P: PageDisk>(
     ensures own { IsOf hall.now caller.new.pass }
     ensures ready { IsReady (start_of hall.now) (view caller.new.pass) caller.new.number caller.new.session }
     ensures went { WentOn caller.old.number [] (view caller.old.pass).seen (view caller.new.pass).seen }
+    ensures apart { ApartOrMet (start_of hall.now) (by_at caller.old.number caller.old.session.levels.commands)
+        caller.old.session.levels name.now (view caller.old.pass).seen (view caller.new.pass).seen }
     ensures adds { Adds (by_at caller.old.number caller.old.session.levels.commands) (MayFault result)
         (view caller.old.pass).seen (view caller.new.pass).seen }
     ensures said { IsTrue P.tells → AreFewIds (view caller.new.pass).seen → (k : RegisteredSnapshot)
@@ -125,6 +128,8 @@ fn judge<R: Passing, L: LogDisk, P: PageDisk>(
     ensures own { IsOf hall.now caller.new.pass }
     ensures ready { IsReady (start_of hall.now) (view caller.new.pass) caller.new.number caller.new.session }
     ensures went { WentOn caller.old.number [] (view caller.old.pass).seen (view caller.new.pass).seen }
+    ensures apart { ApartOrMet (start_of hall.now) (by_at caller.old.number caller.old.session.levels.commands)
+        caller.old.session.levels name.now (view caller.old.pass).seen (view caller.new.pass).seen }
     ensures adds { Adds (by_at caller.old.number caller.old.session.levels.commands) (MayFault result)
         (view caller.old.pass).seen (view caller.new.pass).seen }
     ensures said { IsTrue P.tells → AreFewIds (view caller.new.pass).seen → (k : RegisteredSnapshot)
@@ -197,6 +202,8 @@ fn judge_slot<R: Passing, L: LogDisk, P: PageDisk>(
     ensures own { IsOf hall.now caller.new.pass }
     ensures ready { IsReady (start_of hall.now) (view caller.new.pass) caller.new.number caller.new.session }
     ensures went { WentOn caller.old.number [] (view caller.old.pass).seen (view caller.new.pass).seen }
+    ensures apart { ApartOrMet (start_of hall.now) (by_at caller.old.number caller.old.session.levels.commands)
+        caller.old.session.levels name.now (view caller.old.pass).seen (view caller.new.pass).seen }
     ensures adds { Adds (by_at caller.old.number caller.old.session.levels.commands) (MayFault result)
         (view caller.old.pass).seen (view caller.new.pass).seen }
     ensures said { IsTrue P.tells → AreFewIds (view caller.new.pass).seen
@@ -243,6 +250,8 @@ pub(crate) fn judge_all<R: Passing, L: LogDisk, P: PageDisk>(
     ensures own { IsOf hall.now caller.new.pass }
     ensures ready { IsReady (start_of hall.now) (view caller.new.pass) caller.new.number caller.new.session }
     ensures went { WentOn caller.old.number [] (view caller.old.pass).seen (view caller.new.pass).seen }
+    ensures apart { ApartOrMet (start_of hall.now) (by_at caller.old.number caller.old.session.levels.commands)
+        caller.old.session.levels name.now (view caller.old.pass).seen (view caller.new.pass).seen }
     ensures adds { Adds (by_at caller.old.number caller.old.session.levels.commands) (MayFault result)
         (view caller.old.pass).seen (view caller.new.pass).seen }
     ensures said { IsTrue P.tells → AreFewIds (view caller.new.pass).seen

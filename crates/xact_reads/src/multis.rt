@@ -7,6 +7,7 @@ ghost use Rattle.engine_parts.specs.Adding.{Adds, MayFault};
 ghost use Rattle.engine_parts.specs.Answers.{reply_of};
 ghost use Rattle.engine_parts.specs.Calls.{MayRun, Ran, next_command};
 ghost use Rattle.engine_parts.specs.Sessions.{IsReady, by_at};
+ghost use Rattle.xact_reads.specs.Apart.{ApartOrMet, StaysApart};
 ghost use Rattle.xact_reads.specs.Multis.{ReadsMulti};
 
 use crate::gathers::gather;
@@ -41,6 +42,7 @@ fn read_pinned<R: Passing, L: LogDisk, P: PageDisk>(
     requires none { into.old.items ≡ [] }
     requires room { 65 ≤ vec_capacity into.old }
     ensures own { IsOf hall.now caller.new.pass }
+    ensures apart { StaysApart caller.old.number (view caller.old.pass).seen (view caller.new.pass).seen }
     ensures ready { IsReady (start_of hall.now) (view caller.new.pass) caller.new.number caller.new.session }
     ensures adds { Adds (by_at caller.old.number caller.old.session.levels.commands) (MayFault result)
         (view caller.old.pass).seen (view caller.new.pass).seen }
@@ -70,7 +72,8 @@ fn read_pinned<R: Passing, L: LogDisk, P: PageDisk>(
 /// Refused, in this order, with `NoSnapshot` where the session has none of this name, with `Memory`, with `MultiTooOld`
 /// where the number means none or one below the oldest, with `MultiFuture` where it means one that wasn't given yet, with
 /// `NotYet` where the offset of the multixact, or of the one behind it, doesn't stand yet, and with `DiskFault` of a bank of
-/// offsets, members, pg_xact or pg_subtrans. The session has run fewer than 2^48 commands.
+/// offsets, members, pg_xact or pg_subtrans. Enters the ProcArray only where the page with a member's state is cut. The
+/// session has run fewer than 2^48 commands.
 pub fn see_multi<R: Passing, L: LogDisk, P: PageDisk>(
     rt: &R,
     hall: &Hall<EngineLaw<L, P>>,
@@ -82,8 +85,10 @@ pub fn see_multi<R: Passing, L: LogDisk, P: PageDisk>(
 ) -> Result<VerdictList, Refusal>
     requires may { MayRun hall.now banks caller.old }
     requires some { 1 ≤ m.number }
-    ensures { Ran hall.now (next_command caller.old) (commands.SeeMulti name.now m) (reply_of replies.Verdicts result)
+    ensures ran { Ran hall.now (next_command caller.old) (commands.SeeMulti name.now m) (reply_of replies.Verdicts result)
         caller.old caller.new }
+    ensures apart { ApartOrMet (start_of hall.now) (by_at caller.old.number (next_command caller.old))
+        caller.old.session.levels name.now (view caller.old.pass).seen (view caller.new.pass).seen }
 {
     count(caller);
     match registered_as(&caller.session.levels, name) {

@@ -11,7 +11,7 @@ ghost use Rattle.engine_parts.specs.Calls.{MayRun, Ran, next_command};
 ghost use Rattle.engine_parts.specs.Sessions.{IsReady, by_at, stance_of};
 ghost use Rattle.life_law.specs.Refused.{by_standing};
 ghost use Rattle.engine_parts.specs.Steps.{WentOn};
-ghost use Rattle.xact_reads.specs.Apart.{IsMeantCut, KeepsApart};
+ghost use Rattle.xact_reads.specs.Apart.{FoundMeantCut, KeepsApart};
 ghost use Rattle.xact_reads.specs.Glances.{HasGlanced};
 
 use crate::glances::{Glance, glance_at};
@@ -42,8 +42,8 @@ fn see_found<R: Passing, L: LogDisk, P: PageDisk>(
     ensures own { IsOf hall.now caller.new.pass }
     ensures ready { IsReady (start_of hall.now) (view caller.new.pass) caller.new.number caller.new.session }
     ensures went { WentOn caller.old.number [] (view caller.old.pass).seen (view caller.new.pass).seen }
-    ensures apart { KeepsApart (IsMeantCut (start_of hall.now) (view caller.new.pass).seen
-        caller.old.session.levels name.now _x.number)
+    ensures apart { KeepsApart (FoundMeantCut (start_of hall.now) (by_at caller.old.number caller.old.session.levels.commands)
+        (view caller.old.pass).seen (view caller.new.pass).seen caller.old.session.levels name.now _x.number)
         caller.old.number (view caller.old.pass).seen (view caller.new.pass).seen result }
     ensures adds { Adds (by_at caller.old.number caller.old.session.levels.commands) (MayFault result)
         (view caller.old.pass).seen (view caller.new.pass).seen }
@@ -89,8 +89,8 @@ pub fn see<R: Passing, L: LogDisk, P: PageDisk>(
     requires { MayRun hall.now banks caller.old }
     ensures ran { Ran hall.now (next_command caller.old) (commands.See name.now x) (reply_of replies.Seen result)
         caller.old caller.new }
-    ensures apart { KeepsApart (IsMeantCut (start_of hall.now) (view caller.new.pass).seen
-        caller.old.session.levels name.now x.number)
+    ensures apart { KeepsApart (FoundMeantCut (start_of hall.now) (by_at caller.old.number (next_command caller.old))
+        (view caller.old.pass).seen (view caller.new.pass).seen caller.old.session.levels name.now x.number)
         caller.old.number (view caller.old.pass).seen (view caller.new.pass).seen result }
 {
     count(caller);

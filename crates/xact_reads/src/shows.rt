@@ -8,7 +8,7 @@ ghost use Rattle.session_levels.specs.declared.session.RegisteredSnapshot.{Regis
 ghost use Rattle.engine_parts.specs.Adding.{Adds, MayFault};
 ghost use Rattle.engine_parts.specs.Sessions.{IsReady, by_at};
 ghost use Rattle.engine_parts.specs.Steps.{WentOn};
-ghost use Rattle.xact_reads.specs.Apart.{IsStateCut, KeepsApart};
+ghost use Rattle.xact_reads.specs.Apart.{FoundCut, KeepsApart};
 ghost use Rattle.xact_reads.specs.Glances.{HasGlanced, IsNamed};
 ghost use Rattle.xact_reads.specs.Readings.{IsShown, IsUnread};
 
@@ -51,7 +51,8 @@ fn ask_parents<R: Passing, L: LogDisk, P: PageDisk>(
     ensures own { IsOf hall.now caller.new.pass }
     ensures ready { IsReady (start_of hall.now) (view caller.new.pass) caller.new.number caller.new.session }
     ensures went { WentOn caller.old.number [] (view caller.old.pass).seen (view caller.new.pass).seen }
-    ensures apart { KeepsApart (IsStateCut (start_of hall.now) (view caller.new.pass).seen glance.id)
+    ensures apart { KeepsApart (FoundCut (start_of hall.now) (by_at caller.old.number caller.old.session.levels.commands)
+        (view caller.old.pass).seen (view caller.new.pass).seen glance.id)
         caller.old.number (view caller.old.pass).seen (view caller.new.pass).seen result }
     ensures adds { Adds (by_at caller.old.number caller.old.session.levels.commands) (MayFault result)
         (view caller.old.pass).seen (view caller.new.pass).seen }
@@ -92,7 +93,8 @@ pub(crate) fn show<R: Passing, L: LogDisk, P: PageDisk>(
     ensures own { IsOf hall.now caller.new.pass }
     ensures ready { IsReady (start_of hall.now) (view caller.new.pass) caller.new.number caller.new.session }
     ensures went { WentOn caller.old.number [] (view caller.old.pass).seen (view caller.new.pass).seen }
-    ensures apart { KeepsApart (IsStateCut (start_of hall.now) (view caller.new.pass).seen glance.id)
+    ensures apart { KeepsApart (FoundCut (start_of hall.now) (by_at caller.old.number caller.old.session.levels.commands)
+        (view caller.old.pass).seen (view caller.new.pass).seen glance.id)
         caller.old.number (view caller.old.pass).seen (view caller.new.pass).seen result }
     ensures adds { Adds (by_at caller.old.number caller.old.session.levels.commands) (MayFault result)
         (view caller.old.pass).seen (view caller.new.pass).seen }

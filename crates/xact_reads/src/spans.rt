@@ -8,6 +8,7 @@ ghost use Rattle.engine_parts.specs.Sessions.{IsReady, by_at};
 ghost use Rattle.engine_parts.specs.Steps.{WentMulti};
 ghost use Rattle.multi_banks.specs.Offsets.{IsOffsetRead, WasTold};
 ghost use Rattle.multi_sections.specs.Pinnings.{Pins};
+ghost use Rattle.xact_reads.specs.Apart.{StaysApart};
 ghost use Rattle.xact_reads.specs.Multis.{AreEnds, IsMultiFault, IsNotRead, WasPinned, full_upto, slots_between};
 
 use bank_sections::stall;
@@ -44,6 +45,7 @@ fn offset_of<R: Passing, L: LogDisk, P: PageDisk>(
     ensures own { IsOf hall.now caller.new.pass }
     ensures ready { IsReady (start_of hall.now) (view caller.new.pass) caller.new.number caller.new.session }
     ensures went { WentMulti caller.old.number [] (view caller.old.pass).seen (view caller.new.pass).seen }
+    ensures apart { StaysApart caller.old.number (view caller.old.pass).seen (view caller.new.pass).seen }
     ensures adds { Adds (by_at caller.old.number caller.old.session.levels.commands) (MayFault result)
         (view caller.old.pass).seen (view caller.new.pass).seen }
     ensures offset { IsTrue P.tells → oldest_multi (start_of hall.now).base.oldest_multi (multi_history
@@ -86,6 +88,7 @@ pub(crate) fn ends_of<R: Passing, L: LogDisk, P: PageDisk>(
     ensures own { IsOf hall.now caller.new.pass }
     ensures ready { IsReady (start_of hall.now) (view caller.new.pass) caller.new.number caller.new.session }
     ensures went { WentMulti caller.old.number [] (view caller.old.pass).seen (view caller.new.pass).seen }
+    ensures apart { StaysApart caller.old.number (view caller.old.pass).seen (view caller.new.pass).seen }
     ensures adds { Adds (by_at caller.old.number caller.old.session.levels.commands) (MayFault result)
         (view caller.old.pass).seen (view caller.new.pass).seen }
     ensures ends { IsTrue P.tells → AreFewMultis (view caller.new.pass).seen

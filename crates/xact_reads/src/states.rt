@@ -6,7 +6,7 @@ ghost use Rattle.engine_parts.specs.Adding.{Adds, MayFault};
 ghost use Rattle.engine_parts.specs.Sessions.{IsReady, by_at};
 ghost use Rattle.engine_parts.specs.Steps.{WentOn};
 ghost use Rattle.bank_sections.specs.Reads.{IsStateRead};
-ghost use Rattle.xact_reads.specs.Apart.{IsStateCut, KeepsApart};
+ghost use Rattle.xact_reads.specs.Apart.{FoundCut, KeepsApart};
 ghost use Rattle.xact_reads.specs.Readings.{IsCommittedIn, IsStateUnread};
 
 use bank_sections::{read_state, stall};
@@ -42,7 +42,8 @@ pub(crate) fn state_of<R: Passing, L: LogDisk, P: PageDisk>(
     ensures own { IsOf hall.now caller.new.pass }
     ensures ready { IsReady (start_of hall.now) (view caller.new.pass) caller.new.number caller.new.session }
     ensures went { WentOn caller.old.number [] (view caller.old.pass).seen (view caller.new.pass).seen }
-    ensures apart { KeepsApart (IsStateCut (start_of hall.now) (view caller.new.pass).seen x)
+    ensures apart { KeepsApart (FoundCut (start_of hall.now) (by_at caller.old.number caller.old.session.levels.commands)
+        (view caller.old.pass).seen (view caller.new.pass).seen x)
         caller.old.number (view caller.old.pass).seen (view caller.new.pass).seen result }
     ensures adds { Adds (by_at caller.old.number caller.old.session.levels.commands) (MayFault result)
         (view caller.old.pass).seen (view caller.new.pass).seen }
@@ -85,7 +86,8 @@ pub(crate) fn is_committed<R: Passing, L: LogDisk, P: PageDisk>(
     ensures own { IsOf hall.now caller.new.pass }
     ensures ready { IsReady (start_of hall.now) (view caller.new.pass) caller.new.number caller.new.session }
     ensures went { WentOn caller.old.number [] (view caller.old.pass).seen (view caller.new.pass).seen }
-    ensures apart { KeepsApart (IsStateCut (start_of hall.now) (view caller.new.pass).seen x)
+    ensures apart { KeepsApart (FoundCut (start_of hall.now) (by_at caller.old.number caller.old.session.levels.commands)
+        (view caller.old.pass).seen (view caller.new.pass).seen x)
         caller.old.number (view caller.old.pass).seen (view caller.new.pass).seen result }
     ensures adds { Adds (by_at caller.old.number caller.old.session.levels.commands) (MayFault result)
         (view caller.old.pass).seen (view caller.new.pass).seen }

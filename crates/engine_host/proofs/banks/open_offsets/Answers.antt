@@ -13,12 +13,12 @@ returns-clause-new g c =
     let cluster = c.args.cluster.now in
     let left = bytes_left p c.args.removes c.args.disk in
     let opened = c.open_bank.ensures in
-    of_bank c.open_bank.result (IsTrue p.tells) _ _ _ _ _ (λ store last cutoff pages durable counts reached.
+    of_bank c.open_bank.result (IsTrue p.tells) _ _ _ _ _ (λ store last cutoff pages durable gate counts reached.
     let last_is = last ∙ ap (λ n. n % 2 ^ 21) c.offset_page_in_full.ensures.page in
     let cutoff_is = cutoff ∙ c.first_offset_page-cutoff.ensures in
     record {
-      stands = offsets_begin cluster g.begins c.args.bank (faults_of store.value) (last_page store.value) (cutoff_of store.value) p.tells (pages_of store.value) left counts c.requires.1.0 pages
+      stands = offsets_begin cluster g.begins c.args.bank (faults_of store.value) (last_page store.value) (cutoff_of store.value) p.tells (pages_of store.value) left gate counts c.requires.1.0 pages
           c.requires.1.1.0 reached last_is cutoff_is;
-      course = λ told. offsets_came cluster g.begins c.args.bank counts left (c.requires.1.1.0 told) store.value (pages told) (durable told) last_is cutoff_is;
+      course = λ told. offsets_came cluster g.begins c.args.bank gate counts left (c.requires.1.1.0 told) store.value (pages told) (durable told) last_is cutoff_is;
     })
     opened.last opened.cutoff opened.pages (λ told. opened.durable told (λ none. c.requires.1.1.1 told none))

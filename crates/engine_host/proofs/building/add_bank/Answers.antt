@@ -52,7 +52,7 @@ returns-in-Ok-open_multis-clause-stand g c =
     let bank = c.args.bank in
     subst (λ l. AreNew cluster g.begins 1 l) (sym pushed)
     (bank_new cluster g.begins bank xs a b v w c.requires.1.1.1.1.1.1.1.1.0 c.requires.1.1.1.1.1.0
-    (λ counts reached. (bank, refl, states.0 counts reached)) (λ counts reached. (bank, refl, states.1 counts reached)) (λ counts reached. (bank, refl, multis.0 counts reached)) (λ counts reached. (bank, refl, multis.1 counts reached)))
+    (λ gate counts ends reached. (bank, refl, states.0 gate counts reached)) (λ gate counts ends reached. (bank, refl, states.1 gate counts reached)) (λ gate counts ends reached. (bank, refl, multis.0 gate counts reached)) (λ gate counts ends reached. (bank, refl, multis.1 gate counts reached)))
 
 pub returns-in-Ok-open_multis-clause-disks : goal.returns-in-Ok-open_multis-clause-disks
 returns-in-Ok-open_multis-clause-disks g c =

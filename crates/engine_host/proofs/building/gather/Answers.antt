@@ -1,9 +1,9 @@
 use Rattle.std.proofs.Common.{[], ap, arith, length, map, refl, subst, sym, ◌∙◌}
 use Rattle.tx_core.specs.declared.entry.Start.{Start}
 use Rattle.engine_parts.specs.declared.part.Part.TheVariants as parts
-use Rattle.engine_parts.specs.Parts.{PartStands}
+use Rattle.engine_parts.specs.Parts.{IsLogOf, PartStands}
 use Rattle.engine_parts.specs.Sessions.{AreGivenBefore}
-use Rattle.engine_host.specs.Opening.{AreNew, faults_behind}
+use Rattle.engine_host.specs.Opening.{AreNew, at_gate, faults_behind, life_from}
 use Rattle.engine_host.proofs.Starting.{all_stand, cons_new, inserted_first}
 use Rattle.engine_host.proofs.building.gather.Goals as goal
 
@@ -14,7 +14,7 @@ returns-clause-parts g c =
     let cluster = c.args.cluster in
     let life = c.life_note-start.ensures in
     let put = inserted_first c.args.locks.items c.insert-inserted.new.self.items (parts.Log c.args.log) c.insert-inserted.result c.insert-inserted.ensures.items (c.insert-inserted.ensures.succeeds (omega (arith, c.requires.1.1.1.1.1.0, c.requires.1.1.1.1.1.1.0))) in
-    let all = subst (λ l. AreNew cluster g.begins 0 l) (sym put) (cons_new cluster g.begins (parts.Log c.args.log) c.args.locks.items (λ counts reached. (refl, c.requires.1.1.1.1.0 counts reached)) c.requires.1.1.1.1.1.1.1) in
+    let all = subst (λ l. AreNew cluster g.begins 0 l) (sym put) (cons_new cluster g.begins (parts.Log c.args.log) c.args.locks.items (λ gate counts ends reached. (refl, subst (λ n. IsLogOf (life_from cluster (at_gate g.begins n) counts) c.args.log.value []) (sym ends) (c.requires.1.1.1.1.0 counts reached))) c.requires.1.1.1.1.1.1.1) in
     record {
       cluster = c.requires.1.1.0;
       banks = ap (λ (s : Start). s.banks) life;

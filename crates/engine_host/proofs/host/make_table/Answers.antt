@@ -1,4 +1,4 @@
-use Rattle.std.proofs.Common.{ℕ, ◌+◌, ◌-◌, ◌*◌, ◌≡◌, List, [], true, false, ap, arith, inl, length, replicate, slice_index_or, subst, sym, ◌∙◌}
+use Rattle.std.proofs.Common.{ℕ, ◌+◌, ◌-◌, ◌*◌, ◌≡◌, List, [], true, false, ap, arith, inl, length, refl, replicate, slice_index_or, subst, sym, ◌∙◌}
 use Rattle.std.proofs.lemmas.List.{get_or-replicate, length-replicate}
 use Rattle.std.specs.List.{slice_get}
 use Rattle.std.specs.Prelude.{Some}
@@ -95,6 +95,9 @@ returns-in-Err-new-clause-refused g c =
     let same = c.in-Err-new.ensures.refused in
     let r = c.requires in
     record { cluster = r.cluster; banks = r.banks; sessions = r.sessions; base = r.base; before = r.before; count = ap length same ∙ r.count; stand = λ lock part get. r.stand lock part (subst (λ l. slice_get l lock ≡ Some part) same get) }
+
+pub returns-in-Err-new-clause-given : goal.returns-in-Err-new-clause-given
+returns-in-Err-new-clause-given g c = (refl, refl, c.in-Err-new.ensures.refused)
 
 pub returns-in-Ok-new-clause-parked : goal.returns-in-Ok-new-clause-parked
 returns-in-Ok-new-clause-parked g c n s inside new =

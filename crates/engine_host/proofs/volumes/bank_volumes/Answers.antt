@@ -1,11 +1,12 @@
 use Rattle.std.proofs.Common.{None, ◌∷◌, ◌∙◌, ◌+◌, ◌++◌, ◌≡◌, ◌≤◌, ap, arith, length, vec_capacity}
+use Rattle.std.specs.Prelude.{reverse}
 use Rattle.slru_bank.specs.Calls.{volume_of}
 use Rattle.engine_host.specs.Stores.{Store, disk_in, disks_in, of_members, of_offsets, of_subtrans, of_xact, volumes_in}
 use Rattle.engine_host.proofs.Refusing.{each_store, moved, moved_length, passed, still_room}
 use Rattle.engine_host.proofs.volumes.bank_volumes.Goals as goal
 
-pub put_back-requires : goal.put_back-requires
-put_back-requires g c =
+pub put_behind-requires : goal.put_behind-requires
+put_behind-requires g c =
     let full = moved_length (disk_in of_xact) c.loop-part.locks.items c.pop.new.self.items c.in-Some.part (volume_of c.in-Xact.store.value) c.in-Some.ensures.items (ap (disk_in of_xact) c.in-Xact.is) in
     let room = c.loop-part.invariant.room of_xact in
     record { room = omega (arith, room, full) }
@@ -17,25 +18,25 @@ loop-part-preserved-in-Xact g c =
     let new = c.pop.new.self.items in
     let part = c.in-Some.part in
     let disk = volume_of c.in-Xact.store.value in
-    let put = c.put_back.ensures.items ∙ ap (λ d. d ∷ c.loop-part.volumes.xact.items) (c.keep.ensures ∙ ap volume_of c.into_inner.ensures) in
+    let put = c.put_behind.ensures.items ∙ ap (λ d. d ∷ reverse c.loop-part.volumes.xact.items) (c.keep.ensures ∙ ap volume_of c.into_inner.ensures) in
     let held = c.loop-part.invariant.volumes in
     let room = c.loop-part.invariant.room in
     let whole = λ (k : Store). disks_in k c.args.locks.items ++ (volumes_in k c.args.volumes).items in
-    let none = λ (k : Store) (is : disk_in k part ≡ None). passed (disk_in k) old new part (volumes_in k c.loop-part.volumes).items (whole k) e is (held k) in
+    let none = λ (k : Store) (is : disk_in k part ≡ None). passed (disk_in k) old new part (reverse (volumes_in k c.loop-part.volumes).items) (whole k) e is (held k) in
     let same = λ (k : Store) (is : disk_in k part ≡ None). still_room (disk_in k) old new part (length (volumes_in k c.loop-part.volumes).items) (vec_capacity (volumes_in k c.loop-part.volumes)) e is (room k) in
     let more = moved_length (disk_in of_xact) old new part disk e (ap (disk_in of_xact) c.in-Xact.is) in
-    let longer = ap length put in
-    let up = c.put_back.ensures.capacity in
+    let longer = c.put_behind.ensures.count in
+    let up = c.put_behind.ensures.capacity in
     let before = room of_xact in
     record {
-      volumes = each_store (λ k. disks_in k new ++ (volumes_in k (record c.loop-part.volumes { xact = c.put_back.new.volumes })).items ≡ whole k)
-          (moved (disk_in of_xact) old new part disk c.loop-part.volumes.xact.items c.put_back.new.volumes.items (whole of_xact) e (ap (disk_in of_xact) c.in-Xact.is) put (held of_xact)) (none of_subtrans (ap (disk_in of_subtrans) c.in-Xact.is)) (none of_offsets (ap (disk_in of_offsets) c.in-Xact.is)) (none of_members (ap (disk_in of_members) c.in-Xact.is));
-      room = each_store (λ k. length (disks_in k new) + length (volumes_in k (record c.loop-part.volumes { xact = c.put_back.new.volumes })).items ≤ vec_capacity (volumes_in k (record c.loop-part.volumes { xact = c.put_back.new.volumes })))
+      volumes = each_store (λ k. disks_in k new ++ reverse (volumes_in k (record c.loop-part.volumes { xact = c.put_behind.new.volumes })).items ≡ whole k)
+          (moved (disk_in of_xact) old new part disk (reverse c.loop-part.volumes.xact.items) (reverse c.put_behind.new.volumes.items) (whole of_xact) e (ap (disk_in of_xact) c.in-Xact.is) put (held of_xact)) (none of_subtrans (ap (disk_in of_subtrans) c.in-Xact.is)) (none of_offsets (ap (disk_in of_offsets) c.in-Xact.is)) (none of_members (ap (disk_in of_members) c.in-Xact.is));
+      room = each_store (λ k. length (disks_in k new) + length (volumes_in k (record c.loop-part.volumes { xact = c.put_behind.new.volumes })).items ≤ vec_capacity (volumes_in k (record c.loop-part.volumes { xact = c.put_behind.new.volumes })))
           (omega (arith, before, more, longer, up)) (same of_subtrans (ap (disk_in of_subtrans) c.in-Xact.is)) (same of_offsets (ap (disk_in of_offsets) c.in-Xact.is)) (same of_members (ap (disk_in of_members) c.in-Xact.is));
     }
 
-pub put_back-requires-in-Subtrans : goal.put_back-requires-in-Subtrans
-put_back-requires-in-Subtrans g c =
+pub put_behind-requires-in-Subtrans : goal.put_behind-requires-in-Subtrans
+put_behind-requires-in-Subtrans g c =
     let full = moved_length (disk_in of_subtrans) c.loop-part.locks.items c.pop.new.self.items c.in-Some.part (volume_of c.in-Subtrans.store.value) c.in-Some.ensures.items (ap (disk_in of_subtrans) c.in-Subtrans.is) in
     let room = c.loop-part.invariant.room of_subtrans in
     record { room = omega (arith, room, full) }
@@ -47,25 +48,25 @@ loop-part-preserved-in-Subtrans g c =
     let new = c.pop.new.self.items in
     let part = c.in-Some.part in
     let disk = volume_of c.in-Subtrans.store.value in
-    let put = c.put_back-in-Subtrans.ensures.items ∙ ap (λ d. d ∷ c.loop-part.volumes.subtrans.items) (c.keep-in-Subtrans.ensures ∙ ap volume_of c.into_inner-in-Subtrans.ensures) in
+    let put = c.put_behind-in-Subtrans.ensures.items ∙ ap (λ d. d ∷ reverse c.loop-part.volumes.subtrans.items) (c.keep-in-Subtrans.ensures ∙ ap volume_of c.into_inner-in-Subtrans.ensures) in
     let held = c.loop-part.invariant.volumes in
     let room = c.loop-part.invariant.room in
     let whole = λ (k : Store). disks_in k c.args.locks.items ++ (volumes_in k c.args.volumes).items in
-    let none = λ (k : Store) (is : disk_in k part ≡ None). passed (disk_in k) old new part (volumes_in k c.loop-part.volumes).items (whole k) e is (held k) in
+    let none = λ (k : Store) (is : disk_in k part ≡ None). passed (disk_in k) old new part (reverse (volumes_in k c.loop-part.volumes).items) (whole k) e is (held k) in
     let same = λ (k : Store) (is : disk_in k part ≡ None). still_room (disk_in k) old new part (length (volumes_in k c.loop-part.volumes).items) (vec_capacity (volumes_in k c.loop-part.volumes)) e is (room k) in
     let more = moved_length (disk_in of_subtrans) old new part disk e (ap (disk_in of_subtrans) c.in-Subtrans.is) in
-    let longer = ap length put in
-    let up = c.put_back-in-Subtrans.ensures.capacity in
+    let longer = c.put_behind-in-Subtrans.ensures.count in
+    let up = c.put_behind-in-Subtrans.ensures.capacity in
     let before = room of_subtrans in
     record {
-      volumes = each_store (λ k. disks_in k new ++ (volumes_in k (record c.loop-part.volumes { subtrans = c.put_back-in-Subtrans.new.volumes })).items ≡ whole k)
-          (none of_xact (ap (disk_in of_xact) c.in-Subtrans.is)) (moved (disk_in of_subtrans) old new part disk c.loop-part.volumes.subtrans.items c.put_back-in-Subtrans.new.volumes.items (whole of_subtrans) e (ap (disk_in of_subtrans) c.in-Subtrans.is) put (held of_subtrans)) (none of_offsets (ap (disk_in of_offsets) c.in-Subtrans.is)) (none of_members (ap (disk_in of_members) c.in-Subtrans.is));
-      room = each_store (λ k. length (disks_in k new) + length (volumes_in k (record c.loop-part.volumes { subtrans = c.put_back-in-Subtrans.new.volumes })).items ≤ vec_capacity (volumes_in k (record c.loop-part.volumes { subtrans = c.put_back-in-Subtrans.new.volumes })))
+      volumes = each_store (λ k. disks_in k new ++ reverse (volumes_in k (record c.loop-part.volumes { subtrans = c.put_behind-in-Subtrans.new.volumes })).items ≡ whole k)
+          (none of_xact (ap (disk_in of_xact) c.in-Subtrans.is)) (moved (disk_in of_subtrans) old new part disk (reverse c.loop-part.volumes.subtrans.items) (reverse c.put_behind-in-Subtrans.new.volumes.items) (whole of_subtrans) e (ap (disk_in of_subtrans) c.in-Subtrans.is) put (held of_subtrans)) (none of_offsets (ap (disk_in of_offsets) c.in-Subtrans.is)) (none of_members (ap (disk_in of_members) c.in-Subtrans.is));
+      room = each_store (λ k. length (disks_in k new) + length (volumes_in k (record c.loop-part.volumes { subtrans = c.put_behind-in-Subtrans.new.volumes })).items ≤ vec_capacity (volumes_in k (record c.loop-part.volumes { subtrans = c.put_behind-in-Subtrans.new.volumes })))
           (same of_xact (ap (disk_in of_xact) c.in-Subtrans.is)) (omega (arith, before, more, longer, up)) (same of_offsets (ap (disk_in of_offsets) c.in-Subtrans.is)) (same of_members (ap (disk_in of_members) c.in-Subtrans.is));
     }
 
-pub put_back-requires-in-Offsets : goal.put_back-requires-in-Offsets
-put_back-requires-in-Offsets g c =
+pub put_behind-requires-in-Offsets : goal.put_behind-requires-in-Offsets
+put_behind-requires-in-Offsets g c =
     let full = moved_length (disk_in of_offsets) c.loop-part.locks.items c.pop.new.self.items c.in-Some.part (volume_of c.in-Offsets.store.value) c.in-Some.ensures.items (ap (disk_in of_offsets) c.in-Offsets.is) in
     let room = c.loop-part.invariant.room of_offsets in
     record { room = omega (arith, room, full) }
@@ -77,25 +78,25 @@ loop-part-preserved-in-Offsets g c =
     let new = c.pop.new.self.items in
     let part = c.in-Some.part in
     let disk = volume_of c.in-Offsets.store.value in
-    let put = c.put_back-in-Offsets.ensures.items ∙ ap (λ d. d ∷ c.loop-part.volumes.offsets.items) (c.keep-in-Offsets.ensures ∙ ap volume_of c.into_inner-in-Offsets.ensures) in
+    let put = c.put_behind-in-Offsets.ensures.items ∙ ap (λ d. d ∷ reverse c.loop-part.volumes.offsets.items) (c.keep-in-Offsets.ensures ∙ ap volume_of c.into_inner-in-Offsets.ensures) in
     let held = c.loop-part.invariant.volumes in
     let room = c.loop-part.invariant.room in
     let whole = λ (k : Store). disks_in k c.args.locks.items ++ (volumes_in k c.args.volumes).items in
-    let none = λ (k : Store) (is : disk_in k part ≡ None). passed (disk_in k) old new part (volumes_in k c.loop-part.volumes).items (whole k) e is (held k) in
+    let none = λ (k : Store) (is : disk_in k part ≡ None). passed (disk_in k) old new part (reverse (volumes_in k c.loop-part.volumes).items) (whole k) e is (held k) in
     let same = λ (k : Store) (is : disk_in k part ≡ None). still_room (disk_in k) old new part (length (volumes_in k c.loop-part.volumes).items) (vec_capacity (volumes_in k c.loop-part.volumes)) e is (room k) in
     let more = moved_length (disk_in of_offsets) old new part disk e (ap (disk_in of_offsets) c.in-Offsets.is) in
-    let longer = ap length put in
-    let up = c.put_back-in-Offsets.ensures.capacity in
+    let longer = c.put_behind-in-Offsets.ensures.count in
+    let up = c.put_behind-in-Offsets.ensures.capacity in
     let before = room of_offsets in
     record {
-      volumes = each_store (λ k. disks_in k new ++ (volumes_in k (record c.loop-part.volumes { offsets = c.put_back-in-Offsets.new.volumes })).items ≡ whole k)
-          (none of_xact (ap (disk_in of_xact) c.in-Offsets.is)) (none of_subtrans (ap (disk_in of_subtrans) c.in-Offsets.is)) (moved (disk_in of_offsets) old new part disk c.loop-part.volumes.offsets.items c.put_back-in-Offsets.new.volumes.items (whole of_offsets) e (ap (disk_in of_offsets) c.in-Offsets.is) put (held of_offsets)) (none of_members (ap (disk_in of_members) c.in-Offsets.is));
-      room = each_store (λ k. length (disks_in k new) + length (volumes_in k (record c.loop-part.volumes { offsets = c.put_back-in-Offsets.new.volumes })).items ≤ vec_capacity (volumes_in k (record c.loop-part.volumes { offsets = c.put_back-in-Offsets.new.volumes })))
+      volumes = each_store (λ k. disks_in k new ++ reverse (volumes_in k (record c.loop-part.volumes { offsets = c.put_behind-in-Offsets.new.volumes })).items ≡ whole k)
+          (none of_xact (ap (disk_in of_xact) c.in-Offsets.is)) (none of_subtrans (ap (disk_in of_subtrans) c.in-Offsets.is)) (moved (disk_in of_offsets) old new part disk (reverse c.loop-part.volumes.offsets.items) (reverse c.put_behind-in-Offsets.new.volumes.items) (whole of_offsets) e (ap (disk_in of_offsets) c.in-Offsets.is) put (held of_offsets)) (none of_members (ap (disk_in of_members) c.in-Offsets.is));
+      room = each_store (λ k. length (disks_in k new) + length (volumes_in k (record c.loop-part.volumes { offsets = c.put_behind-in-Offsets.new.volumes })).items ≤ vec_capacity (volumes_in k (record c.loop-part.volumes { offsets = c.put_behind-in-Offsets.new.volumes })))
           (same of_xact (ap (disk_in of_xact) c.in-Offsets.is)) (same of_subtrans (ap (disk_in of_subtrans) c.in-Offsets.is)) (omega (arith, before, more, longer, up)) (same of_members (ap (disk_in of_members) c.in-Offsets.is));
     }
 
-pub put_back-requires-in-Members : goal.put_back-requires-in-Members
-put_back-requires-in-Members g c =
+pub put_behind-requires-in-Members : goal.put_behind-requires-in-Members
+put_behind-requires-in-Members g c =
     let full = moved_length (disk_in of_members) c.loop-part.locks.items c.pop.new.self.items c.in-Some.part (volume_of c.in-Members.store.value) c.in-Some.ensures.items (ap (disk_in of_members) c.in-Members.is) in
     let room = c.loop-part.invariant.room of_members in
     record { room = omega (arith, room, full) }
@@ -107,20 +108,20 @@ loop-part-preserved-in-Members g c =
     let new = c.pop.new.self.items in
     let part = c.in-Some.part in
     let disk = volume_of c.in-Members.store.value in
-    let put = c.put_back-in-Members.ensures.items ∙ ap (λ d. d ∷ c.loop-part.volumes.members.items) (c.keep-in-Members.ensures ∙ ap volume_of c.into_inner-in-Members.ensures) in
+    let put = c.put_behind-in-Members.ensures.items ∙ ap (λ d. d ∷ reverse c.loop-part.volumes.members.items) (c.keep-in-Members.ensures ∙ ap volume_of c.into_inner-in-Members.ensures) in
     let held = c.loop-part.invariant.volumes in
     let room = c.loop-part.invariant.room in
     let whole = λ (k : Store). disks_in k c.args.locks.items ++ (volumes_in k c.args.volumes).items in
-    let none = λ (k : Store) (is : disk_in k part ≡ None). passed (disk_in k) old new part (volumes_in k c.loop-part.volumes).items (whole k) e is (held k) in
+    let none = λ (k : Store) (is : disk_in k part ≡ None). passed (disk_in k) old new part (reverse (volumes_in k c.loop-part.volumes).items) (whole k) e is (held k) in
     let same = λ (k : Store) (is : disk_in k part ≡ None). still_room (disk_in k) old new part (length (volumes_in k c.loop-part.volumes).items) (vec_capacity (volumes_in k c.loop-part.volumes)) e is (room k) in
     let more = moved_length (disk_in of_members) old new part disk e (ap (disk_in of_members) c.in-Members.is) in
-    let longer = ap length put in
-    let up = c.put_back-in-Members.ensures.capacity in
+    let longer = c.put_behind-in-Members.ensures.count in
+    let up = c.put_behind-in-Members.ensures.capacity in
     let before = room of_members in
     record {
-      volumes = each_store (λ k. disks_in k new ++ (volumes_in k (record c.loop-part.volumes { members = c.put_back-in-Members.new.volumes })).items ≡ whole k)
-          (none of_xact (ap (disk_in of_xact) c.in-Members.is)) (none of_subtrans (ap (disk_in of_subtrans) c.in-Members.is)) (none of_offsets (ap (disk_in of_offsets) c.in-Members.is)) (moved (disk_in of_members) old new part disk c.loop-part.volumes.members.items c.put_back-in-Members.new.volumes.items (whole of_members) e (ap (disk_in of_members) c.in-Members.is) put (held of_members));
-      room = each_store (λ k. length (disks_in k new) + length (volumes_in k (record c.loop-part.volumes { members = c.put_back-in-Members.new.volumes })).items ≤ vec_capacity (volumes_in k (record c.loop-part.volumes { members = c.put_back-in-Members.new.volumes })))
+      volumes = each_store (λ k. disks_in k new ++ reverse (volumes_in k (record c.loop-part.volumes { members = c.put_behind-in-Members.new.volumes })).items ≡ whole k)
+          (none of_xact (ap (disk_in of_xact) c.in-Members.is)) (none of_subtrans (ap (disk_in of_subtrans) c.in-Members.is)) (none of_offsets (ap (disk_in of_offsets) c.in-Members.is)) (moved (disk_in of_members) old new part disk (reverse c.loop-part.volumes.members.items) (reverse c.put_behind-in-Members.new.volumes.items) (whole of_members) e (ap (disk_in of_members) c.in-Members.is) put (held of_members));
+      room = each_store (λ k. length (disks_in k new) + length (volumes_in k (record c.loop-part.volumes { members = c.put_behind-in-Members.new.volumes })).items ≤ vec_capacity (volumes_in k (record c.loop-part.volumes { members = c.put_behind-in-Members.new.volumes })))
           (same of_xact (ap (disk_in of_xact) c.in-Members.is)) (same of_subtrans (ap (disk_in of_subtrans) c.in-Members.is)) (same of_offsets (ap (disk_in of_offsets) c.in-Members.is)) (omega (arith, before, more, longer, up));
     }
 
@@ -132,10 +133,10 @@ loop-part-preserved-in-Log g c =
     let part = c.in-Some.part in
     let held = c.loop-part.invariant.volumes in
     let room = c.loop-part.invariant.room in
-    let none = λ (k : Store) (is : disk_in k part ≡ None). passed (disk_in k) old new part (volumes_in k c.loop-part.volumes).items (disks_in k c.args.locks.items ++ (volumes_in k c.args.volumes).items) e is (held k) in
+    let none = λ (k : Store) (is : disk_in k part ≡ None). passed (disk_in k) old new part (reverse (volumes_in k c.loop-part.volumes).items) (disks_in k c.args.locks.items ++ (volumes_in k c.args.volumes).items) e is (held k) in
     let same = λ (k : Store) (is : disk_in k part ≡ None). still_room (disk_in k) old new part (length (volumes_in k c.loop-part.volumes).items) (vec_capacity (volumes_in k c.loop-part.volumes)) e is (room k) in
     record {
-      volumes = each_store (λ k. disks_in k new ++ (volumes_in k c.loop-part.volumes).items ≡ disks_in k c.args.locks.items ++ (volumes_in k c.args.volumes).items)
+      volumes = each_store (λ k. disks_in k new ++ reverse (volumes_in k c.loop-part.volumes).items ≡ disks_in k c.args.locks.items ++ (volumes_in k c.args.volumes).items)
           (none of_xact (ap (disk_in of_xact) c.in-Log.is)) (none of_subtrans (ap (disk_in of_subtrans) c.in-Log.is)) (none of_offsets (ap (disk_in of_offsets) c.in-Log.is)) (none of_members (ap (disk_in of_members) c.in-Log.is));
       room = each_store (λ k. length (disks_in k new) + length (volumes_in k c.loop-part.volumes).items ≤ vec_capacity (volumes_in k c.loop-part.volumes))
           (same of_xact (ap (disk_in of_xact) c.in-Log.is)) (same of_subtrans (ap (disk_in of_subtrans) c.in-Log.is)) (same of_offsets (ap (disk_in of_offsets) c.in-Log.is)) (same of_members (ap (disk_in of_members) c.in-Log.is));
@@ -149,10 +150,10 @@ loop-part-preserved-in-Proc g c =
     let part = c.in-Some.part in
     let held = c.loop-part.invariant.volumes in
     let room = c.loop-part.invariant.room in
-    let none = λ (k : Store) (is : disk_in k part ≡ None). passed (disk_in k) old new part (volumes_in k c.loop-part.volumes).items (disks_in k c.args.locks.items ++ (volumes_in k c.args.volumes).items) e is (held k) in
+    let none = λ (k : Store) (is : disk_in k part ≡ None). passed (disk_in k) old new part (reverse (volumes_in k c.loop-part.volumes).items) (disks_in k c.args.locks.items ++ (volumes_in k c.args.volumes).items) e is (held k) in
     let same = λ (k : Store) (is : disk_in k part ≡ None). still_room (disk_in k) old new part (length (volumes_in k c.loop-part.volumes).items) (vec_capacity (volumes_in k c.loop-part.volumes)) e is (room k) in
     record {
-      volumes = each_store (λ k. disks_in k new ++ (volumes_in k c.loop-part.volumes).items ≡ disks_in k c.args.locks.items ++ (volumes_in k c.args.volumes).items)
+      volumes = each_store (λ k. disks_in k new ++ reverse (volumes_in k c.loop-part.volumes).items ≡ disks_in k c.args.locks.items ++ (volumes_in k c.args.volumes).items)
           (none of_xact (ap (disk_in of_xact) c.in-Proc.is)) (none of_subtrans (ap (disk_in of_subtrans) c.in-Proc.is)) (none of_offsets (ap (disk_in of_offsets) c.in-Proc.is)) (none of_members (ap (disk_in of_members) c.in-Proc.is));
       room = each_store (λ k. length (disks_in k new) + length (volumes_in k c.loop-part.volumes).items ≤ vec_capacity (volumes_in k c.loop-part.volumes))
           (same of_xact (ap (disk_in of_xact) c.in-Proc.is)) (same of_subtrans (ap (disk_in of_subtrans) c.in-Proc.is)) (same of_offsets (ap (disk_in of_offsets) c.in-Proc.is)) (same of_members (ap (disk_in of_members) c.in-Proc.is));
@@ -166,10 +167,10 @@ loop-part-preserved g c =
     let part = c.in-Some.part in
     let held = c.loop-part.invariant.volumes in
     let room = c.loop-part.invariant.room in
-    let none = λ (k : Store) (is : disk_in k part ≡ None). passed (disk_in k) old new part (volumes_in k c.loop-part.volumes).items (disks_in k c.args.locks.items ++ (volumes_in k c.args.volumes).items) e is (held k) in
+    let none = λ (k : Store) (is : disk_in k part ≡ None). passed (disk_in k) old new part (reverse (volumes_in k c.loop-part.volumes).items) (disks_in k c.args.locks.items ++ (volumes_in k c.args.volumes).items) e is (held k) in
     let same = λ (k : Store) (is : disk_in k part ≡ None). still_room (disk_in k) old new part (length (volumes_in k c.loop-part.volumes).items) (vec_capacity (volumes_in k c.loop-part.volumes)) e is (room k) in
     record {
-      volumes = each_store (λ k. disks_in k new ++ (volumes_in k c.loop-part.volumes).items ≡ disks_in k c.args.locks.items ++ (volumes_in k c.args.volumes).items)
+      volumes = each_store (λ k. disks_in k new ++ reverse (volumes_in k c.loop-part.volumes).items ≡ disks_in k c.args.locks.items ++ (volumes_in k c.args.volumes).items)
           (none of_xact (ap (disk_in of_xact) c.in-Multi.is)) (none of_subtrans (ap (disk_in of_subtrans) c.in-Multi.is)) (none of_offsets (ap (disk_in of_offsets) c.in-Multi.is)) (none of_members (ap (disk_in of_members) c.in-Multi.is));
       room = each_store (λ k. length (disks_in k new) + length (volumes_in k c.loop-part.volumes).items ≤ vec_capacity (volumes_in k c.loop-part.volumes))
           (same of_xact (ap (disk_in of_xact) c.in-Multi.is)) (same of_subtrans (ap (disk_in of_subtrans) c.in-Multi.is)) (same of_offsets (ap (disk_in of_offsets) c.in-Multi.is)) (same of_members (ap (disk_in of_members) c.in-Multi.is));

@@ -7,6 +7,7 @@ use Rattle.recoverable.specs.Whole.{MembersLeft, OffsetsLeft}
 use Rattle.tx_core.specs.Locks.{log_lock, members_lock, offsets_lock}
 use Rattle.tx_events.specs.Base.{IsBase}
 use Rattle.engine_parts.specs.declared.part.Part.TheVariants as parts
+use Rattle.engine_parts.specs.LogTail.{log_tail}
 use Rattle.engine_parts.proofs.Beginning.{log_begins}
 use Rattle.engine_parts.specs.Parts.{IsLogOf}
 use Rattle.engine_host.specs.Stores.{Store, of_members, of_offsets, of_subtrans, of_xact, volumes_in}
@@ -123,7 +124,7 @@ returns-clause-fit g c tells told right few few_multis =
     let banks = c.args.life.host.cluster.banks in
     let log = c.into_inner-log.result in
     let stands = subst (λ z. IsLogOf start z (list_at seen log_lock)) (sym c.into_inner-log.ensures) (closed.stand 0 (parts.Log taken.result.log) taken.ensures.log).1 in
-    let held = log_held start seen d.tells (d.faults (log_disk log)) (d.images (log_disk log)) (log_recs log) (log_next log) (log_first log) (log_flushed log) (log_counters log) (log_down log) (log_checkpoint log) closed.kept stands tells right.told in
+    let held = log_held start seen d.tells (d.faults (log_disk log)) (d.images (log_disk log)) (log_recs log) (log_next log) (log_first log) (log_flushed log) (log_counters log) (log_down log) (log_checkpoint log) (log_tail log) closed.kept stands tells right.told in
     let states = each_behind start seen locks closed.stand of_xact (FollowsList p start seen) (follows_here p start seen told (λ v x now. g.met.P.PageDisk.only_now v x told now) closed.kept few) banks taken.result.volumes.xact.items c.requires.host.banks closed.count (taken.ensures.volumes of_xact) in
     let count = as_many start seen locks closed.stand of_xact banks taken.result.volumes.xact.items c.requires.host.banks closed.count (taken.ensures.volumes of_xact) in
     end_fit d p start seen _ held.0 (log_recs log) (log_next log) (log_first log) closed.kept right few few_multis

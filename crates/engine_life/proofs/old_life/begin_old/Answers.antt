@@ -5,7 +5,7 @@ use Rattle.wal_core.specs.LogViews.{log_next}
 use Rattle.tx_core.specs.declared.entry.Start.{Start}
 use Rattle.tx_events.specs.declared.record.Counters.{Counters}
 use Rattle.engine_host.specs.Counted.{AreCounted}
-use Rattle.engine_host.specs.Opening.{faults_behind}
+use Rattle.engine_host.specs.Opening.{faults_behind, gate_behind}
 use Rattle.engine_host.specs.Stores.{of_members, of_offsets, of_subtrans}
 use Rattle.engine_life.specs.declared.refusal.NoLife.{NoLife}
 use Rattle.engine_life.specs.Lives.{IsBegun}
@@ -40,6 +40,7 @@ returns-in-Ok-clause-life g c v is =
       sessions_are = k.cluster.1;
       base = k.start.2;
       opened_to = λ told. subst (λ (base : Counters). OpensUpTo (log_next c.args.found.log) base (g.L.LogDisk.reads v)) (sym k.start.1) (opens_up_to g.L.LogDisk v c.args.found is told);
+      gate = gate_behind parts.locks.items;
       faults = map faults_behind parts.locks.items;
       counted = subst (λ (s : Start). AreCounted g.L.LogDisk g.P.PageDisk v c.args.volumes s.faults) k.start.0 (k.counted v is);
       begun = subst (λ (s : Start). IsBegun parts.cluster s life) k.start.0 begun;

@@ -6,7 +6,7 @@ use Rattle.replay_core.specs.Banks.{NoCountFell}
 use Rattle.replay_core.specs.Refused.{IsRefusal}
 use Rattle.replay_core.specs.declared.refusal.RecoverRefusal.{RecoverRefusal}
 use Rattle.engine_host.specs.declared.cluster.Cluster.{Cluster}
-use Rattle.engine_host.specs.Opening.{AllOnDisk, ShowBeginning, faults_behind, new_life}
+use Rattle.engine_host.specs.Opening.{AllOnDisk, ShowBeginning, faults_behind, gate_behind, new_life}
 use Rattle.engine_host.specs.Stores.{volumes_in}
 use Rattle.engine_life.specs.Reopening.{IsBaseAt, KeepsStart, banks_in, behind, cluster_over, volumes_over}
 use Rattle.engine_life.proofs.Living.{of_err, of_oks}
@@ -76,7 +76,7 @@ returns-in-Ok-clause-right g c told =
     let fit = c.requires.1.1.1.1.1.1.2 told in
     of_oks c.open_recovered.result _ _ _ (λ parts cluster start.
     let right = began_right l p v (log_disk r.log) a.xact.items r.xact.items r.offsets.items r.members.items r.from c.args.sessions r.base g.kept e.banks.0 c.requires.1.1.0 c.is_full_multi.ensures
-    (g.met.L.LogDisk.reads_image (log_disk r.log) fit.0) (λ d. g.met.P.PageDisk.reads_image d told) (e.recovers v c.requires.1.1.1.1.1.1.1 fit.0 told g.kept fit.1).0 (map faults_behind parts.locks.items) in
+    (g.met.L.LogDisk.reads_image (log_disk r.log) fit.0) (λ d. g.met.P.PageDisk.reads_image d told) (e.recovers v c.requires.1.1.1.1.1.1.1 fit.0 told g.kept fit.1).0 (gate_behind parts.locks.items) (map faults_behind parts.locks.items) in
     subst BeganRight (sym start)
     (subst (λ (k : Cluster). BeganRight (new_life k (behind p.tells g.kept r.from) parts.locks.items)) (sym cluster)
     (subst (λ (t : Bool). BeganRight (new_life (cluster_over r.base (length r.xact.items) c.args.sessions) (behind t g.kept r.from) parts.locks.items)) (sym told) right)))

@@ -5,7 +5,7 @@ use Rattle.tx_core.specs.declared.entry.Start.{Start}
 use Rattle.wal_core.specs.LogViews.{log_disk}
 use Rattle.engine_host.specs.declared.cluster.Cluster.{Cluster}
 use Rattle.engine_host.specs.Counted.{AreCounted}
-use Rattle.engine_host.specs.Opening.{faults_behind, life_of}
+use Rattle.engine_host.specs.Opening.{faults_behind, gate_behind, life_of}
 use Rattle.engine_host.specs.Stores.{of_members, of_offsets, of_subtrans, of_xact}
 use Rattle.engine_life.specs.declared.refusal.NoLife.{NoLife}
 use Rattle.engine_life.specs.Lives.{IsBegun}
@@ -25,11 +25,12 @@ returns-in-Ok-clause-life g c disk is =
     let v = c.args.volumes in let have = c.requires.banks in let banks = c.requires.cluster.banks in
     IfOk-weaker c.begin_life.result _ _ (λ life begun. record {
       banks = record { some = banks.0; few = banks.1; xact = have of_xact; subtrans = have of_subtrans; offsets = have of_offsets; members = have of_members };
+      gate = gate_behind parts.locks.items;
       faults = map faults_behind parts.locks.items;
       counted = subst (λ (s : Start). AreCounted g.L.LogDisk g.P.PageDisk disk v s.faults) k.start
           (counted_since g.L.LogDisk g.P.PageDisk disk (log_disk c.args.log) v parts.start.value.faults is.count k.counted);
       begun = subst (λ (s : Start). IsBegun c.args.cluster s life) k.start (subst (λ (d : Cluster). IsBegun d parts.start.value life) k.cluster begun);
-      right = (new_begins (life_of c.args.cluster (map faults_behind parts.locks.items)) refl c.is_full_multi.ensures c.requires.cluster.base refl refl).right;
+      right = (new_begins (life_of c.args.cluster (gate_behind parts.locks.items) (map faults_behind parts.locks.items)) refl c.is_full_multi.ensures c.requires.cluster.base refl refl).right;
     }) c.begin_life.ensures.life
 
 pub returns-in-Ok-clause-refused : goal.returns-in-Ok-clause-refused

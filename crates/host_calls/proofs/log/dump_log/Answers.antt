@@ -31,7 +31,7 @@ put_back-requires-clause-stands g c =
     subst (λ (z : ℕ × List (List Entry)). (z.0 ≡ log_lock) × IsLogOf start c.dump-found.new.self (at z.1 z.0)) (λ j. (sym i.cell j, sym i.seen j)) (
       refl,
       log_same start c.deref_mut-log.result.now c.dump-found.new.self (at within.seen log_lock)
-          (record { recs = r.recs; next = r.next; first = r.first; flushed = r.flushed; counters = r.counters; down = r.stays; checkpoint = r.checkpoint; count = r.faults; images = r.crash }) stands,
+          (record { recs = r.recs; next = r.next; first = r.first; flushed = r.flushed; counters = r.counters; down = r.stays; checkpoint = r.checkpoint; end = r.end; count = r.faults; images = r.crash }) stands,
     )
 
 pub returns-clause-stays : goal.returns-clause-stays
@@ -62,7 +62,7 @@ returns-clause-fault g c =
     let i = c.take_log-held.ensures.inside in
     let r = c.dump-found.ensures in
     let log = c.deref_mut-log.result.now in
-    let same : IsSameLog log c.dump-found.new.self = record { recs = r.recs; next = r.next; first = r.first; flushed = r.flushed; counters = r.counters; down = r.stays; checkpoint = r.checkpoint; count = r.faults; images = r.crash } in
+    let same : IsSameLog log c.dump-found.new.self = record { recs = r.recs; next = r.next; first = r.first; flushed = r.flushed; counters = r.counters; down = r.stays; checkpoint = r.checkpoint; end = r.end; count = r.faults; images = r.crash } in
     on_err_weaker c.dump-found.result (λ f. (
       f.0,
       log_failed g.P.PageDisk start within.seen c.take_log-held.result log c.dump-found.new.self c.deref_mut-log.ensures.value same c.take_log-held.ensures.stands f.1,

@@ -1,5 +1,5 @@
 use Rattle.std.proofs.Common.{◌≡◌, ℕ, ◌%◌, List, drop, refl, sym, ap, subst, ◌∙◌, arith, length, take}
-use Rattle.std.specs.Box.{with_value}
+use Rattle.engine_parts.specs.InPlace.{with_value}
 use Rattle.disk_core.specs.Faults.{HasRisen}
 use Rattle.hall.specs.Calls.{start_of, view}
 use Rattle.hall.specs.declared.view.Stage.TheVariants.{Inside}

@@ -15,9 +15,11 @@ use Rattle.tx_core.specs.Locks.{log_lock}
 use Rattle.tx_core.specs.RecordsFollow.{CheckpointOf}
 use Rattle.tx_core.specs.StaysDown.{IsUp}
 use Rattle.tx_core.proofs.Quiet.{hosts_keep}
-use Rattle.wal_core.specs.Log.{MayAppend, counters_or_none}
+use Rattle.wal_core.specs.Log.{counters_or_none}
 use Rattle.wal_core.specs.LogViews.{log_checkpoint, log_counters, log_disk, log_down, log_first, log_flushed, log_next, log_recs}
 use Rattle.engine_parts.specs.declared.part.Part.TheVariants as parts
+use Rattle.engine_parts.specs.LogTail.{log_tail}
+use Rattle.engine_parts.proofs.Tails.{appended_tail, took_room}
 use Rattle.engine_parts.specs.Holds.{Knowledge, Leaves}
 use Rattle.engine_parts.specs.Law.{MayKeep}
 use Rattle.engine_parts.specs.Parts.{IsLogOf}
@@ -37,8 +39,7 @@ append-requires g c =
     let s = subst (λ l. IsLogOf start l (at old log_lock)) (sym c.deref_mut-log.ensures.value) c.take_log-held.ensures.stands in
     let next : c.next.result ≡ next_number start old = c.next.ensures ∙ s.next_is in
     let o = c.deref_mut-log.result.now in
-    subst (λ (k : Counters). MayAppend (log_counters o) (log_next o) (records.Checkpoint c.next.result k)) (sym c.same.ensures)
-    (may_append start o o (at old log_lock) c.args.by s c.next.result c.args.counters.now c.next.ensures (omega arith) c.requires.lawful (subst (λ n. StaysBase start old (records.Checkpoint n c.args.counters.now)) (sym next) c.requires.base))
+    may_append start o o (at old log_lock) c.args.by s c.next.result c.args.counters c.next.ensures (omega arith) c.requires.lawful (subst (λ n. StaysBase start old (records.Checkpoint n c.args.counters)) (sym next) c.requires.base)
 
 pub leave-requires-clause-inside : goal.leave-requires-clause-inside
 leave-requires-clause-inside g c = let i = c.take_log-held.ensures.inside in i.inside ∙ ap Inside (sym i.cell)
@@ -59,14 +60,14 @@ leave-requires-clause-may g c =
     let seen = (view c.take_log-held.new.pass).seen in
     let s = subst (λ l. IsLogOf start l (at old log_lock)) (sym c.deref_mut-log.ensures.value) c.take_log-held.ensures.stands in
     let number : next_number start old ≡ c.in-Ok.number = sym (c.in-Ok.ensures.number ∙ s.next_is) in
-    let base = subst (λ z. StaysBase start z (records.Checkpoint c.in-Ok.number c.args.counters.now)) (sym i.seen) (subst (λ n. StaysBase start old (records.Checkpoint n c.args.counters.now)) number c.requires.base) in
-    let follows = subst (λ z. CheckpointOf start z (at z log_lock) c.in-Ok.number c.args.counters.now) (sym i.seen) (subst (λ n. CheckpointOf start old (at old log_lock) n c.args.counters.now) number c.requires.follows) in
+    let base = subst (λ z. StaysBase start z (records.Checkpoint c.in-Ok.number c.args.counters)) (sym i.seen) (subst (λ n. StaysBase start old (records.Checkpoint n c.args.counters)) number c.requires.base) in
+    let follows = subst (λ z. CheckpointOf start z (at z log_lock) c.in-Ok.number c.args.counters) (sym i.seen) (subst (λ n. CheckpointOf start old (at old log_lock) n c.args.counters) number c.requires.follows) in
     let same : c.next.result ≡ c.in-Ok.number = c.next.ensures ∙ sym c.in-Ok.ensures.number in
-    let told : c.append_note-mark.result.value ≡ checkpoint_by c.args.by c.in-Ok.number c.args.counters.now = c.append_note-mark.ensures ∙ (λ j. checkpoint_by c.args.by (same j) (c.same.ensures j)) in
+    let told : c.append_note-mark.result.value ≡ checkpoint_by c.args.by c.in-Ok.number c.args.counters = c.append_note-mark.ensures ∙ (λ j. checkpoint_by c.args.by (same j) c.args.counters) in
     let up = subst (λ z. IsUp (at z log_lock)) (sym i.seen) (s.up (not_down (log_down c.deref_mut-log.result.now) (λ m put. let refused = c.in-Ok.ensures.is_down m put in cc))) in
     subst (λ z. MayKeep start seen z c.append_note-mark.result.value) (sym i.cell)
-    (may_add start seen log_lock c.args.by (kinds.Append (records.Checkpoint c.in-Ok.number c.args.counters.now)) c.append_note-mark.result.value told
-    ((hosts_keep start seen c.args.by).checkpoint c.in-Ok.number c.args.counters.now base follows up)
+    (may_add start seen log_lock c.args.by (kinds.Append (records.Checkpoint c.in-Ok.number c.args.counters)) c.append_note-mark.result.value told
+    ((hosts_keep start seen c.args.by).checkpoint c.in-Ok.number c.args.counters base follows up)
     c.requires.turn)
 
 pub leave-requires-clause-stands : goal.leave-requires-clause-stands
@@ -82,11 +83,12 @@ leave-requires-clause-stands g c =
     let n = c.append.new.self in
     let a = c.in-Ok.ensures in
     let es = at seen log_lock in
-    let rec : Rec = records.Checkpoint c.next.result c.same.result in
+    let rec : Rec = records.Checkpoint c.next.result c.args.counters in
     subst (λ (z : ℕ). (z ≡ log_lock) × IsLogOf start n (at seen z ++ c.append_note-mark.result.value ∷ [])) (sym i.cell) (
       refl,
       subst (λ (e : Entry). IsLogOf start n (es ++ e ∷ [])) (sym c.append_note-mark.ensures)
-          (appends start d.tells (d.faults (log_disk o)) (d.faults (log_disk n)) (d.images (log_disk o)) (d.images (log_disk n)) (log_recs o) (log_recs n) (log_next o) (log_next n) (log_first o) (log_first n) (log_flushed o) (log_flushed n) (log_counters o) (log_counters n) (log_down o) (log_down n) (log_checkpoint o) (log_checkpoint n) es c.args.by here rec
+          (appends start d.tells (d.faults (log_disk o)) (d.faults (log_disk n)) (d.images (log_disk o)) (d.images (log_disk n)) (log_recs o) (log_recs n) (log_next o) (log_next n) (log_first o) (log_first n) (log_flushed o) (log_flushed n) (log_counters o) (log_counters n) (log_down o) (log_down n) (log_checkpoint o) (log_checkpoint n) (log_tail o) (log_tail n) es c.args.by here rec
+          (appended_tail o n rec a.pending a.end) (took_room (log_down o) (log_tail o) rec c.in-Ok.number a.is_down a.is_full)
           a.recs a.next a.flushed (a.counters ∙ ap (λ (l : Option Counters). Some (after_record (counters_or_none l) rec)) here.counters_are) a.stays (ap d.faults a.disk) a.first a.keeps (begins_untouched o n a.disk a.first)),
     )
 
@@ -109,7 +111,7 @@ returns-in-Ok-clause-adds g c =
     let old = (view c.args.pass.now).seen in
     let s = subst (λ l. IsLogOf start l (at old log_lock)) (sym c.deref_mut-log.ensures.value) c.take_log-held.ensures.stands in
     let same : c.next.result ≡ c.in-Ok.number = c.next.ensures ∙ sym c.in-Ok.ensures.number in
-    let told : c.append_note-mark.result.value ≡ checkpoint_by c.args.by c.in-Ok.number c.args.counters.now = c.append_note-mark.ensures ∙ (λ j. checkpoint_by c.args.by (same j) (c.same.ensures j)) in
+    let told : c.append_note-mark.result.value ≡ checkpoint_by c.args.by c.in-Ok.number c.args.counters = c.append_note-mark.ensures ∙ (λ j. checkpoint_by c.args.by (same j) c.args.counters) in
     (c.in-Ok.ensures.number ∙ s.next_is, c.leave.ensures.left.seen ∙ (λ j. add (i.seen j) (i.cell j) (told j)))
 
 -- nothing was appended
@@ -127,7 +129,7 @@ put_back-requires-clause-stands g c =
     let n = c.append.new.self in
     let a = c.in-Err.ensures in
     subst (λ (z : ℕ). (z ≡ log_lock) × IsLogOf start n (at seen z)) (sym i.cell)
-    (refl, log_untouched start o n (at seen log_lock) a.disk a.err_recs.0 a.err_counters.1 a.first a.flushed a.err_counters.0 a.stays a.checkpoint here)
+    (refl, log_untouched start o n (at seen log_lock) a.disk a.err_recs.0 a.err_counters.1 a.first a.flushed a.err_counters.0 a.stays a.checkpoint a.end here)
 
 pub returns-clause-alone : goal.returns-clause-alone
 returns-clause-alone g c =
@@ -144,7 +146,7 @@ returns-clause-adds g c =
     let s = subst (λ l. IsLogOf start l (at old log_lock)) (sym c.deref_mut-log.ensures.value) c.take_log-held.ensures.stands in
     let a = c.in-Err.ensures in
     let out = came_out c.args.hall.now log_lock c.args.pass.now c.take_log-held.new.pass c.put_back.new.pass c.requires.alone c.take_log-held.ensures.inside c.put_back.ensures.own.0 c.put_back.ensures.view in
-    append_refused start c.args.by c.args.counters.now old (view c.put_back.new.pass).seen c.in-Err.refusal out.seen
+    append_refused start c.args.by c.args.counters old (view c.put_back.new.pass).seen c.in-Err.refusal out.seen
     (λ place q. (s.failed place (a.down place (ap Err q))).0)
     (λ other. s.up (not_down (log_down c.deref_mut-log.result.now) (λ m put. other m (same_err (a.is_down m put)))))
     (λ q. a.no_other.0 (ap Err q)) (λ place q. a.no_other.1 place (ap Err q))
@@ -166,12 +168,13 @@ returns-in-Ok-clause-asks g c =
     let s = subst (λ l. IsLogOf start l (at old log_lock)) (sym c.deref_mut-log.ensures.value) c.take_log-held.ensures.stands in
     let a = c.in-Ok.ensures in
     let es = at old log_lock in
-    let rec : Rec = records.Checkpoint c.next.result c.same.result in
+    let rec : Rec = records.Checkpoint c.next.result c.args.counters in
     asks_with g.L.LogDisk g.P.PageDisk start log_lock old (view c.leave.new.pass).seen (omega (arith, wide, c.requires.alone.laid)) (parts.Log held) (parts.Log (record held { value = n }))
     (refl, c.take_log-held.ensures.stands) (subst (λ z. LogMoments z n) c.deref_mut-log.ensures.value (append_moments o n (λ told e x now. g.met.L.LogDisk.only_now e x told now) a.disk a.first))
     (append_by c.args.by rec) (
       refl,
-      appends start d.tells (d.faults (log_disk o)) (d.faults (log_disk n)) (d.images (log_disk o)) (d.images (log_disk n)) (log_recs o) (log_recs n) (log_next o) (log_next n) (log_first o) (log_first n) (log_flushed o) (log_flushed n) (log_counters o) (log_counters n) (log_down o) (log_down n) (log_checkpoint o) (log_checkpoint n) es c.args.by s rec
+      appends start d.tells (d.faults (log_disk o)) (d.faults (log_disk n)) (d.images (log_disk o)) (d.images (log_disk n)) (log_recs o) (log_recs n) (log_next o) (log_next n) (log_first o) (log_first n) (log_flushed o) (log_flushed n) (log_counters o) (log_counters n) (log_down o) (log_down n) (log_checkpoint o) (log_checkpoint n) (log_tail o) (log_tail n) es c.args.by s rec
+          (appended_tail o n rec a.pending a.end) (took_room (log_down o) (log_tail o) rec c.in-Ok.number a.is_down a.is_full)
           a.recs a.next a.flushed (a.counters ∙ ap (λ (l : Option Counters). Some (after_record (counters_or_none l) rec)) s.counters_are) a.stays (ap d.faults a.disk) a.first a.keeps (begins_untouched o n a.disk a.first),
     )
     (c.leave.ensures.left.seen ∙ (λ j. add (i.seen j) (i.cell j) (c.append_note-mark.ensures j)))
@@ -191,5 +194,5 @@ returns-clause-asks g c =
     let out = came_out c.args.hall.now log_lock c.args.pass.now c.take_log-held.new.pass c.put_back.new.pass c.requires.alone c.take_log-held.ensures.inside c.put_back.ensures.own.0 c.put_back.ensures.view in
     asks_without g.L.LogDisk g.P.PageDisk start log_lock old (view c.put_back.new.pass).seen (omega (arith, wide, c.requires.alone.laid)) (parts.Log held) (parts.Log (record held { value = n }))
     (refl, c.take_log-held.ensures.stands) (subst (λ z. LogMoments z n) c.deref_mut-log.ensures.value (append_moments o n (λ told e x now. g.met.L.LogDisk.only_now e x told now) a.disk a.first))
-    (refl, log_untouched start o n (at old log_lock) a.disk a.err_recs.0 a.err_counters.1 a.first a.flushed a.err_counters.0 a.stays a.checkpoint s)
+    (refl, log_untouched start o n (at old log_lock) a.disk a.err_recs.0 a.err_counters.1 a.first a.flushed a.err_counters.0 a.stays a.checkpoint a.end s)
     out.seen

@@ -60,7 +60,7 @@ leave-requires-clause-stands g c =
     let s = subst (λ l. IsLogOf start l (at old log_lock)) (sym c.deref_mut-log.ensures.value) c.take_log-held.ensures.stands in
     let up = not_down (log_down o) (λ m put. let refused = f.is_down m put in cc) in
     noted_stands c.args.hall.now log_lock c.args.pass.now c.take_log-held.new.pass c.requires.alone c.take_log-held.ensures.inside c.flush_note-flush.result.value (flush_by c.args.by c.next-next.result) c.flush_note-flush.ensures (parts.Log (record c.take_log-held.result { value = n }))
-    (refl, flushed_stands start o n (at old log_lock) c.args.by s c.next-next.result c.next-next.ensures f.recs f.next f.counters f.ok (f.stays (λ q. cc)) up f.faults f.first f.checkpoint f.keeps f.begins_same)
+    (refl, flushed_stands start o n (at old log_lock) c.args.by s c.next-next.result c.next-next.ensures f.recs f.next f.counters f.ok f.end f.same_end (f.stays (λ q. cc)) up f.faults f.first f.checkpoint f.keeps f.begins_same)
 
 pub returns-in-Ok-clause-alone : goal.returns-in-Ok-clause-alone
 returns-in-Ok-clause-alone g c = noted_alone c.args.hall.now log_lock c.args.pass.now c.take_log-held.new.pass c.requires.alone c.take_log-held.ensures.inside c.flush_note-flush.result.value (flush_by c.args.by c.next-next.result) c.flush_note-flush.ensures c.leave.new.pass c.leave.ensures.own c.leave.ensures.left
@@ -112,7 +112,7 @@ leave-requires-in-LogFault-clause-stands g c =
     let s = subst (λ l. IsLogOf start l (at old log_lock)) (sym c.deref_mut-log.ensures.value) c.take_log-held.ensures.stands in
     let noted = c.flush_fault_note-fault.ensures ∙ ap (λ l. flush_fault_by c.args.by (g.L.LogDisk.faults (log_disk l))) c.deref.ensures in
     noted_stands c.args.hall.now log_lock c.args.pass.now c.take_log-held.new.pass c.requires.alone c.take_log-held.ensures.inside c.flush_fault_note-fault.result.value (flush_fault_by c.args.by (g.L.LogDisk.faults (log_disk c.flush.new.self))) noted (parts.Log (record c.take_log-held.result { value = n }))
-    (refl, flush_fails start o n (at old log_lock) c.args.by s f.recs f.next f.counters f.err (f.put_down (ap Err c.in-LogFault.is)) f.first f.keeps f.begins_same)
+    (refl, flush_fails start o n (at old log_lock) c.args.by s f.recs f.next f.counters f.err f.err_end (f.put_down (ap Err c.in-LogFault.is)) f.first f.keeps f.begins_same)
 
 pub returns-in-LogFault-clause-alone : goal.returns-in-LogFault-clause-alone
 returns-in-LogFault-clause-alone g c =
@@ -153,7 +153,7 @@ put_back-requires-clause-stands g c =
     let f = c.in-Err.ensures in
     let down = refused_down c.in-Err.refusal c.in_default.not-LogFault (λ q. f.no_other.0 (ap Err q)) (λ q. f.no_other.1 (ap Err q)) (λ place q. f.no_other.2 place (ap Err q)) in
     subst (λ (z : ℕ). (z ≡ log_lock) × IsLogOf start n (at seen z)) (sym i.cell)
-    (refl, log_untouched start o n (at seen log_lock) (f.down_asks_nothing down.0 (f.down down.0 (ap Err down.1))) f.recs f.next f.first f.err f.counters (f.stays (λ q. c.in_default.not-LogFault (same_err q))) f.err_checkpoint here)
+    (refl, log_untouched start o n (at seen log_lock) (f.down_asks_nothing down.0 (f.down down.0 (ap Err down.1))) f.recs f.next f.first f.err f.counters (f.stays (λ q. c.in_default.not-LogFault (same_err q))) f.err_checkpoint f.err_end here)
 
 pub returns-in_default-clause-alone : goal.returns-in_default-clause-alone
 returns-in_default-clause-alone g c =
@@ -202,7 +202,7 @@ returns-in-Ok-clause-asks g c =
     asks_with g.L.LogDisk g.P.PageDisk start log_lock old (view c.leave.new.pass).seen (omega (arith, wide, c.requires.alone.laid)) (parts.Log held) (parts.Log (record held { value = n }))
     (refl, c.take_log-held.ensures.stands) (subst (λ z. LogMoments z n) c.deref_mut-log.ensures.value (flush_moments o n f.first f.keeps_at_each_moment))
     (flush_by c.args.by c.next-next.result)
-    (refl, flushed_stands start o n (at old log_lock) c.args.by s c.next-next.result c.next-next.ensures f.recs f.next f.counters f.ok (f.stays (λ q. cc)) up f.faults f.first f.checkpoint f.keeps f.begins_same)
+    (refl, flushed_stands start o n (at old log_lock) c.args.by s c.next-next.result c.next-next.ensures f.recs f.next f.counters f.ok f.end f.same_end (f.stays (λ q. cc)) up f.faults f.first f.checkpoint f.keeps f.begins_same)
     (noted_adds c.args.hall.now log_lock c.args.pass.now c.take_log-held.new.pass c.requires.alone c.take_log-held.ensures.inside c.flush_note-flush.result.value (flush_by c.args.by c.next-next.result) c.flush_note-flush.ensures c.leave.new.pass c.leave.ensures.own c.leave.ensures.left)
 
 pub returns-in-LogFault-clause-asks : goal.returns-in-LogFault-clause-asks
@@ -220,7 +220,7 @@ returns-in-LogFault-clause-asks g c =
     asks_with g.L.LogDisk g.P.PageDisk start log_lock old (view c.leave-in-LogFault.new.pass).seen (omega (arith, wide, c.requires.alone.laid)) (parts.Log held) (parts.Log (record held { value = n }))
     (refl, c.take_log-held.ensures.stands) (subst (λ z. LogMoments z n) c.deref_mut-log.ensures.value (flush_moments o n f.first f.keeps_at_each_moment))
     (flush_fault_by c.args.by (d.faults (log_disk n)))
-    (refl, flush_fails start o n (at old log_lock) c.args.by s f.recs f.next f.counters f.err (f.put_down (ap Err c.in-LogFault.is)) f.first f.keeps f.begins_same)
+    (refl, flush_fails start o n (at old log_lock) c.args.by s f.recs f.next f.counters f.err f.err_end (f.put_down (ap Err c.in-LogFault.is)) f.first f.keeps f.begins_same)
     (noted_adds c.args.hall.now log_lock c.args.pass.now c.take_log-held.new.pass c.requires.alone c.take_log-held.ensures.inside c.flush_fault_note-fault.result.value (flush_fault_by c.args.by (g.L.LogDisk.faults (log_disk c.flush.new.self))) noted c.leave-in-LogFault.new.pass c.leave-in-LogFault.ensures.own c.leave-in-LogFault.ensures.left)
 
 pub returns-in_default-clause-asks : goal.returns-in_default-clause-asks
@@ -239,5 +239,5 @@ returns-in_default-clause-asks g c =
     let out = came_out c.args.hall.now log_lock c.args.pass.now c.take_log-held.new.pass c.put_back.new.pass c.requires.alone c.take_log-held.ensures.inside c.put_back.ensures.own.0 c.put_back.ensures.view in
     asks_without g.L.LogDisk g.P.PageDisk start log_lock old (view c.put_back.new.pass).seen (omega (arith, wide, c.requires.alone.laid)) (parts.Log held) (parts.Log (record held { value = n }))
     (refl, c.take_log-held.ensures.stands) (subst (λ z. LogMoments z n) c.deref_mut-log.ensures.value (flush_moments o n f.first f.keeps_at_each_moment))
-    (refl, log_untouched start o n (at old log_lock) (f.down_asks_nothing down.0 (f.down down.0 (ap Err down.1))) f.recs f.next f.first f.err f.counters (f.stays (λ q. c.in_default.not-LogFault (same_err q))) f.err_checkpoint s)
+    (refl, log_untouched start o n (at old log_lock) (f.down_asks_nothing down.0 (f.down down.0 (ap Err down.1))) f.recs f.next f.first f.err f.counters (f.stays (λ q. c.in_default.not-LogFault (same_err q))) f.err_checkpoint f.err_end s)
     out.seen

@@ -57,7 +57,7 @@ leave-requires-clause-stands g c =
     let s = subst (λ l. IsLogOf start l (at old log_lock)) (sym c.deref_mut-log.ensures.value) c.take_log-held.ensures.stands in
     let up = not_down (log_down o) (λ m put. let refused = f.is_down m put in cc) in
     noted_stands c.args.hall.now log_lock c.args.pass.now c.take_log-held.new.pass c.requires.alone c.take_log-held.ensures.inside c.forget_note-forget.result.value (forget_by c.args.by c.args.number) c.forget_note-forget.ensures (parts.Log (record c.take_log-held.result { value = n }))
-    (refl, forgotten_stands start o n (at old log_lock) c.args.by s c.args.number f.recs f.next f.counters f.flushed (f.stays (λ q. cc)) up f.faults (first_is c.args.number (log_checkpoint o) (log_first n) (s.alone c.args.number c.requires.ends) (f.first (λ place q. cc))) f.keeps f.begins)
+    (refl, forgotten_stands start o n (at old log_lock) c.args.by s c.args.number f.recs f.next f.counters f.flushed f.end (f.stays (λ q. cc)) up f.faults (first_is c.args.number (log_checkpoint o) (log_first n) (s.alone c.args.number c.requires.ends) (f.first (λ place q. cc))) f.keeps f.begins)
 
 pub returns-in-Ok-clause-alone : goal.returns-in-Ok-clause-alone
 returns-in-Ok-clause-alone g c = noted_alone c.args.hall.now log_lock c.args.pass.now c.take_log-held.new.pass c.requires.alone c.take_log-held.ensures.inside c.forget_note-forget.result.value (forget_by c.args.by c.args.number) c.forget_note-forget.ensures c.leave.new.pass c.leave.ensures.own c.leave.ensures.left
@@ -105,7 +105,7 @@ leave-requires-in-LogFault-clause-stands g c =
     let noted = c.forget_fault_note-fault.ensures ∙ ap (λ l. forget_fault_by c.args.by c.args.number (g.L.LogDisk.faults (log_disk l))) c.deref.ensures in
     let up = not_down (log_down o) (λ m put. let refused = same_err (f.is_down m put) in let failed = c.in-LogFault.is in cc) in
     noted_stands c.args.hall.now log_lock c.args.pass.now c.take_log-held.new.pass c.requires.alone c.take_log-held.ensures.inside c.forget_fault_note-fault.result.value (forget_fault_by c.args.by c.args.number (g.L.LogDisk.faults (log_disk c.forget_before_checkpoint.new.self))) noted (parts.Log (record c.take_log-held.result { value = n }))
-    (refl, forget_fails start o n (at old log_lock) c.args.by s c.args.number f.recs f.next f.counters f.flushed (f.put_down (ap Err c.in-LogFault.is)) up (first_is c.args.number (log_checkpoint o) (log_first n) (s.alone c.args.number c.requires.ends) (f.first (λ place q. let failed = c.in-LogFault.is in let other = same_err q in cc))) f.keeps f.begins)
+    (refl, forget_fails start o n (at old log_lock) c.args.by s c.args.number f.recs f.next f.counters f.flushed f.end (f.put_down (ap Err c.in-LogFault.is)) up (first_is c.args.number (log_checkpoint o) (log_first n) (s.alone c.args.number c.requires.ends) (f.first (λ place q. let failed = c.in-LogFault.is in let other = same_err q in cc))) f.keeps f.begins)
 
 pub returns-in-LogFault-clause-alone : goal.returns-in-LogFault-clause-alone
 returns-in-LogFault-clause-alone g c =
@@ -146,7 +146,7 @@ put_back-requires-clause-stands g c =
     let f = c.in-Err.ensures in
     let down = refused_down c.in-Err.refusal c.in_default.not-LogFault (λ q. f.no_other.0 (ap Err q)) (λ q. f.no_other.1 (ap Err q)) (λ place q. f.no_other.2 place (ap Err q)) in
     subst (λ (z : ℕ). (z ≡ log_lock) × IsLogOf start n (at seen z)) (sym i.cell)
-    (refl, log_untouched start o n (at seen log_lock) (f.down_asks_nothing down.0 (f.down down.0 (ap Err down.1))) f.recs f.next (f.first_down down.0 (ap Err down.1)) f.flushed f.counters (f.stays (λ q. c.in_default.not-LogFault (same_err q))) f.checkpoint here)
+    (refl, log_untouched start o n (at seen log_lock) (f.down_asks_nothing down.0 (f.down down.0 (ap Err down.1))) f.recs f.next (f.first_down down.0 (ap Err down.1)) f.flushed f.counters (f.stays (λ q. c.in_default.not-LogFault (same_err q))) f.checkpoint f.end here)
 
 pub returns-in_default-clause-alone : goal.returns-in_default-clause-alone
 returns-in_default-clause-alone g c =
@@ -186,7 +186,7 @@ returns-in-Ok-clause-asks g c =
     asks_with g.L.LogDisk g.P.PageDisk start log_lock old (view c.leave.new.pass).seen (omega (arith, wide, c.requires.alone.laid)) (parts.Log held) (parts.Log (record held { value = n }))
     (refl, c.take_log-held.ensures.stands) (subst (λ z. LogMoments z n) c.deref_mut-log.ensures.value f.keeps_at_each_moment)
     (forget_by c.args.by c.args.number)
-    (refl, forgotten_stands start o n (at old log_lock) c.args.by s c.args.number f.recs f.next f.counters f.flushed (f.stays (λ q. cc)) up f.faults (first_is c.args.number (log_checkpoint o) (log_first n) (s.alone c.args.number c.requires.ends) (f.first (λ place q. cc))) f.keeps f.begins)
+    (refl, forgotten_stands start o n (at old log_lock) c.args.by s c.args.number f.recs f.next f.counters f.flushed f.end (f.stays (λ q. cc)) up f.faults (first_is c.args.number (log_checkpoint o) (log_first n) (s.alone c.args.number c.requires.ends) (f.first (λ place q. cc))) f.keeps f.begins)
     (noted_adds c.args.hall.now log_lock c.args.pass.now c.take_log-held.new.pass c.requires.alone c.take_log-held.ensures.inside c.forget_note-forget.result.value (forget_by c.args.by c.args.number) c.forget_note-forget.ensures c.leave.new.pass c.leave.ensures.own c.leave.ensures.left)
 
 pub returns-in-LogFault-clause-asks : goal.returns-in-LogFault-clause-asks
@@ -206,7 +206,7 @@ returns-in-LogFault-clause-asks g c =
     (refl, c.take_log-held.ensures.stands) (subst (λ z. LogMoments z n) c.deref_mut-log.ensures.value f.keeps_at_each_moment)
     (forget_fault_by c.args.by c.args.number (d.faults (log_disk n))) (
       refl,
-      forget_fails start o n (at old log_lock) c.args.by s c.args.number f.recs f.next f.counters f.flushed (f.put_down (ap Err c.in-LogFault.is)) up
+      forget_fails start o n (at old log_lock) c.args.by s c.args.number f.recs f.next f.counters f.flushed f.end (f.put_down (ap Err c.in-LogFault.is)) up
           (first_is c.args.number (log_checkpoint o) (log_first n) (s.alone c.args.number c.requires.ends) (f.first (λ place q. let failed = c.in-LogFault.is in let other = same_err q in cc))) f.keeps f.begins,
     )
     (noted_adds c.args.hall.now log_lock c.args.pass.now c.take_log-held.new.pass c.requires.alone c.take_log-held.ensures.inside c.forget_fault_note-fault.result.value (forget_fault_by c.args.by c.args.number (g.L.LogDisk.faults (log_disk c.forget_before_checkpoint.new.self))) noted c.leave-in-LogFault.new.pass c.leave-in-LogFault.ensures.own c.leave-in-LogFault.ensures.left)
@@ -227,5 +227,5 @@ returns-in_default-clause-asks g c =
     let out = came_out c.args.hall.now log_lock c.args.pass.now c.take_log-held.new.pass c.put_back.new.pass c.requires.alone c.take_log-held.ensures.inside c.put_back.ensures.own.0 c.put_back.ensures.view in
     asks_without g.L.LogDisk g.P.PageDisk start log_lock old (view c.put_back.new.pass).seen (omega (arith, wide, c.requires.alone.laid)) (parts.Log held) (parts.Log (record held { value = n }))
     (refl, c.take_log-held.ensures.stands) (subst (λ z. LogMoments z n) c.deref_mut-log.ensures.value f.keeps_at_each_moment)
-    (refl, log_untouched start o n (at old log_lock) (f.down_asks_nothing down.0 (f.down down.0 (ap Err down.1))) f.recs f.next (f.first_down down.0 (ap Err down.1)) f.flushed f.counters (f.stays (λ q. c.in_default.not-LogFault (same_err q))) f.checkpoint s)
+    (refl, log_untouched start o n (at old log_lock) (f.down_asks_nothing down.0 (f.down down.0 (ap Err down.1))) f.recs f.next (f.first_down down.0 (ap Err down.1)) f.flushed f.counters (f.stays (λ q. c.in_default.not-LogFault (same_err q))) f.checkpoint f.end s)
     out.seen

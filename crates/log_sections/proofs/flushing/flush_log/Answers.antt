@@ -1,3 +1,5 @@
+use Rattle.engine_parts.specs.LogTail.{log_tail}
+use Rattle.engine_parts.proofs.Tails.{flushed_tail, same_tail}
 use Rattle.engine_parts.specs.Parts.{IsLogOf}
 use Rattle.std.proofs.Common.{Err, inl, inr, ◌≡◌, ◌<◌, ◌≤◌, arith, ap, ◌∙◌, subst, sym, refl, ◌++◌, ◌∷◌, []}
 use Rattle.std.proofs.lemmas.List.{length-map}
@@ -57,7 +59,7 @@ leave_flushed-requires-clause-stands g c =
     let es = at (view u.pass).seen log_lock in
     let by = by_at u.number u.session.levels.commands in
     let flush : Entry = record { by = by; kind = kinds.Flush c.next-next.result } in
-    goes_on start d.tells (d.faults (log_disk o)) (d.faults (log_disk n)) (d.images (log_disk o)) (d.images (log_disk n)) (log_recs o) (log_recs n) (log_next o) (log_next n) (log_first o) (log_first n) (log_flushed o) (log_flushed n) (log_counters o) (log_counters n) (log_down o) (log_down n) (log_checkpoint o) (log_checkpoint n) es by s (kinds.Flush c.next-next.result) refl
+    goes_on start d.tells (d.faults (log_disk o)) (d.faults (log_disk n)) (d.images (log_disk o)) (d.images (log_disk n)) (log_recs o) (log_recs n) (log_next o) (log_next n) (log_first o) (log_first n) (log_flushed o) (log_flushed n) (log_counters o) (log_counters n) (log_down o) (log_down n) (log_checkpoint o) (log_checkpoint n) (log_tail o) (log_tail n) es by s (kinds.Flush c.next-next.result) refl (flushed_tail o n c.next-next.result f.next f.ok f.end f.same_end)
     f.recs f.next f.counters (f.ok ∙ (sym c.next-next.ensures ∙ sym (number_push flushed_in start.from es flush c.next-next.result refl)))
     (let same : faults_told start log_lock (es ++ flush ∷ []) ≡ faults_told start log_lock es = number_same count_in (faults_at start log_lock) es flush refl in let before = s.count in let rises = f.faults in omega arith)
     (λ m is. absurd (let refused = f.is_down m (sym (f.stays (λ q. cc)) ∙ is) in cc))
@@ -134,7 +136,7 @@ leave_failed-requires-clause-stands g c =
     let es = at (view u.pass).seen log_lock in
     let by = by_at u.number u.session.levels.commands in
     let fault : Entry = flush_fault_by by (d.faults (log_disk n)) in
-    goes_on start d.tells (d.faults (log_disk o)) (d.faults (log_disk n)) (d.images (log_disk o)) (d.images (log_disk n)) (log_recs o) (log_recs n) (log_next o) (log_next n) (log_first o) (log_first n) (log_flushed o) (log_flushed n) (log_counters o) (log_counters n) (log_down o) (log_down n) (log_checkpoint o) (log_checkpoint n) es by s fault.kind refl
+    goes_on start d.tells (d.faults (log_disk o)) (d.faults (log_disk n)) (d.images (log_disk o)) (d.images (log_disk n)) (log_recs o) (log_recs n) (log_next o) (log_next n) (log_first o) (log_first n) (log_flushed o) (log_flushed n) (log_counters o) (log_counters n) (log_down o) (log_down n) (log_checkpoint o) (log_checkpoint n) (log_tail o) (log_tail n) es by s fault.kind refl (same_tail o n f.recs f.next f.err f.err_end)
     f.recs f.next f.counters (f.err ∙ (s.flushed_is ∙ sym (number_same flushed_in start.from es fault refl)))
     (let here = number_push count_in (faults_at start log_lock) es fault (d.faults (log_disk n)) refl in omega arith)
     (λ m is.
@@ -190,7 +192,7 @@ leave_looked-requires-in-Err-clause-stands g c =
     let by = by_at u.number u.session.levels.commands in
     let look : Entry = record { by = by; kind = kinds.Look } in (
       refl,
-      goes_on start d.tells (d.faults (log_disk o)) (d.faults (log_disk n)) (d.images (log_disk o)) (d.images (log_disk n)) (log_recs o) (log_recs n) (log_next o) (log_next n) (log_first o) (log_first n) (log_flushed o) (log_flushed n) (log_counters o) (log_counters n) (log_down o) (log_down n) (log_checkpoint o) (log_checkpoint n) es by s kinds.Look refl
+      goes_on start d.tells (d.faults (log_disk o)) (d.faults (log_disk n)) (d.images (log_disk o)) (d.images (log_disk n)) (log_recs o) (log_recs n) (log_next o) (log_next n) (log_first o) (log_first n) (log_flushed o) (log_flushed n) (log_counters o) (log_counters n) (log_down o) (log_down n) (log_checkpoint o) (log_checkpoint n) (log_tail o) (log_tail n) es by s kinds.Look refl (same_tail o n f.recs f.next f.err f.err_end)
           f.recs f.next f.counters (f.err ∙ (s.flushed_is ∙ sym (number_same flushed_in start.from es look refl)))
           (let same : faults_told start log_lock (es ++ look ∷ []) ≡ faults_told start log_lock es = number_same count_in (faults_at start log_lock) es look refl in let before = s.count in let rises = f.faults in omega arith)
           (λ m is. let before = s.failed m (sym (f.stays (λ q. c.in_default.not-LogFault (same_err q))) ∙ is) in let still = f.err in (failed_more start es look m before.0, (let le = before.1 in omega arith)))

@@ -10,6 +10,8 @@ use Rattle.tx_core.specs.Locks.{log_lock}
 use Rattle.wal_core.specs.Log.{counters_or_none}
 use Rattle.wal_core.specs.LogViews.{log_checkpoint, log_counters, log_disk, log_down, log_first, log_flushed, log_next, log_recs}
 use Rattle.engine_parts.specs.declared.session.Session.{Session}
+use Rattle.engine_parts.specs.LogTail.{log_tail}
+use Rattle.engine_parts.proofs.Tails.{appended_tail, same_tail, took_room}
 use Rattle.engine_parts.specs.Parts.{IsLogOf}
 use Rattle.engine_parts.specs.Faults.{look_of}
 use Rattle.engine_parts.specs.Sessions.{by_at, inner_id, look_by}
@@ -68,7 +70,8 @@ leave_truncated-requires-clause-stands g c =
     let n = c.append.new.self in
     let a = c.in-Ok.ensures in
     let s = (subst (λ l. IsLogOf (start_of c.args.hall.now) l (at (view c.enter_log-held.new.caller.pass).seen log_lock)) (sym c.deref_mut-log.ensures.value) c.enter_log-held.ensures.stands) in
-    appends (start_of c.args.hall.now) d.tells (d.faults (log_disk o)) (d.faults (log_disk n)) (d.images (log_disk o)) (d.images (log_disk n)) (log_recs o) (log_recs n) (log_next o) (log_next n) (log_first o) (log_first n) (log_flushed o) (log_flushed n) (log_counters o) (log_counters n) (log_down o) (log_down n) (log_checkpoint o) (log_checkpoint n) (at (view u.pass).seen log_lock) (by_at u.number u.session.levels.commands) s c.args.rec.now
+    appends (start_of c.args.hall.now) d.tells (d.faults (log_disk o)) (d.faults (log_disk n)) (d.images (log_disk o)) (d.images (log_disk n)) (log_recs o) (log_recs n) (log_next o) (log_next n) (log_first o) (log_first n) (log_flushed o) (log_flushed n) (log_counters o) (log_counters n) (log_down o) (log_down n) (log_checkpoint o) (log_checkpoint n) (log_tail o) (log_tail n) (at (view u.pass).seen log_lock) (by_at u.number u.session.levels.commands) s c.args.rec.now
+    (appended_tail o n c.args.rec.now a.pending a.end) (took_room (log_down o) (log_tail o) c.args.rec.now c.in-Ok.number a.is_down a.is_full)
     a.recs a.next a.flushed (a.counters ∙ ap (λ (l : _). Some (after_record (counters_or_none l) c.args.rec.now)) s.counters_are) a.stays (ap d.faults a.disk) a.first a.keeps (begins_untouched o n a.disk a.first)
 
 pub leave_looked-requires-clause-stands : goal.leave_looked-requires-clause-stands
@@ -83,7 +86,7 @@ leave_looked-requires-clause-stands g c =
     let es = at (view u.pass).seen log_lock in
     let look : Entry = record { by = by_at u.number u.session.levels.commands; kind = kinds.Look } in (
       refl,
-      goes_on start d.tells (d.faults (log_disk o)) (d.faults (log_disk n)) (d.images (log_disk o)) (d.images (log_disk n)) (log_recs o) (log_recs n) (log_next o) (log_next n) (log_first o) (log_first n) (log_flushed o) (log_flushed n) (log_counters o) (log_counters n) (log_down o) (log_down n) (log_checkpoint o) (log_checkpoint n) es (by_at u.number u.session.levels.commands) s kinds.Look refl
+      goes_on start d.tells (d.faults (log_disk o)) (d.faults (log_disk n)) (d.images (log_disk o)) (d.images (log_disk n)) (log_recs o) (log_recs n) (log_next o) (log_next n) (log_first o) (log_first n) (log_flushed o) (log_flushed n) (log_counters o) (log_counters n) (log_down o) (log_down n) (log_checkpoint o) (log_checkpoint n) (log_tail o) (log_tail n) es (by_at u.number u.session.levels.commands) s kinds.Look refl (same_tail o n a.err_recs.0 a.err_counters.1 a.flushed a.end)
           a.err_recs.0 a.err_counters.1 a.err_counters.0 (a.flushed ∙ (s.flushed_is ∙ sym (number_same flushed_in start.from es look refl)))
           (let same : faults_told start log_lock (es ++ look ∷ []) ≡ faults_told start log_lock es = number_same count_in (faults_at start log_lock) es look refl in let before = s.count in let still = ap d.faults a.disk in omega arith)
           (λ m is. let f = s.failed m (sym a.stays ∙ is) in let same = a.flushed in (failed_more start es look m f.0, (let le = f.1 in omega arith)))

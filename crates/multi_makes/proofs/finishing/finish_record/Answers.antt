@@ -76,4 +76,4 @@ returns-in-Err-set_pending-clause-full g c =
     let seen = (view x.pass).seen in
     let by = by_at old.number old.session.levels.commands in
     let refused : Result (Unit {0}) Refusal = Err c.in-Err-set_pending.refusal in
-    met_never g.L.LogDisk start seen by (IsOneOrBefore start seen by (IsPending x.session.making)) (IsMultiFault seen (by_at w.number w.session.levels.commands)) refused c.in-Err-set_pending.ensures.fault (λ none. none)
+    met_never start seen by (IsOneOrBefore start seen by (IsPending x.session.making)) (IsMultiFault seen (by_at w.number w.session.levels.commands)) refused c.in-Err-set_pending.ensures.fault (λ none. none)

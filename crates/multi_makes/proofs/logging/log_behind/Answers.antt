@@ -79,7 +79,7 @@ returns-in-Err-append_multi-clause-full g c =
     let e = c.log_truncation.ensures in
     let rec = c.args.rec.now in
     let refused : Result (Unit {0}) Refusal = Err c.in-Err-append_multi.refusal in
-    met_for g.L.LogDisk (start_of c.args.hall.now) (view w.pass).seen (by_at t.number t.session.levels.commands) (by_at old.number old.session.levels.commands) (λ z. z ≡ rec) (IsPending w.session.making) refused (same_command old.number t.number old.session t.session e.same.1 e.same.0)
+    met_for (start_of c.args.hall.now) (view w.pass).seen (by_at t.number t.session.levels.commands) (by_at old.number old.session.levels.commands) (λ z. z ≡ rec) (IsPending w.session.making) refused (same_command old.number t.number old.session t.session e.same.1 e.same.0)
     (λ z is. subst (IsPending w.session.making) (sym is) (subst (λ (s : Session). IsPending s.making rec) (sym (c.in-Err-append_multi.ensures.takes.0 ∙ e.same.0)) (making_pending old.session.making rec c.requires.record))) c.in-Err-append_multi.ensures.full
 
 pub returns-in-Err-clause-full : goal.returns-in-Err-clause-full
@@ -92,5 +92,5 @@ returns-in-Err-clause-full g c =
     let more = (view t.pass).seen in
     let e = c.log_truncation.ensures in
     let refused : Result (Unit {0}) Refusal = Err c.in-Err.refusal in
-    met_before g.L.LogDisk start more by (IsPending t.session.making) refused rec (subst (λ (s : Session). IsPending s.making rec) (sym e.same.0) (making_pending old.session.making rec c.requires.record))
+    met_before start more by (IsPending t.session.making) refused rec (subst (λ (s : Session). IsPending s.making rec) (sym e.same.0) (making_pending old.session.making rec c.requires.record))
     (no_base_stays start (view old.pass).seen more by rec e.went.on.grows c.requires.no_base) c.in-Err.ensures.full

@@ -61,7 +61,7 @@ returns-in-Err-clause-full g c =
     let t = c.append_multi.new.caller in
     let by = by_at old.number old.session.levels.commands in
     let refused : Result (Unit {0}) Refusal = Err c.in-Err.refusal in
-    met_for g.L.LogDisk (start_of c.args.hall.now) (view t.pass).seen by by (λ z. z ≡ rec) (IsPending t.session.making) refused refl
+    met_for (start_of c.args.hall.now) (view t.pass).seen by by (λ z. z ≡ rec) (IsPending t.session.making) refused refl
     (λ z is. subst (IsPending t.session.making) (sym is) (subst (λ (s : Session). IsPending s.making rec) (sym c.in-Err.ensures.takes.0) (making_pending old.session.making rec c.requires.record))) c.in-Err.ensures.full
 
 pub log_behind-requires-clause-no_base : goal.log_behind-requires-clause-no_base
@@ -84,5 +84,5 @@ returns-in-Ok-NoBase-clause-full g c =
     let t = c.append_multi.new.caller in
     let x = c.log_behind.new.caller in
     let same = unlogged_same start (view t.pass).seen c.args.rec.now old.session t.session c.in-Ok-NoBase.field-0 c.in-Ok-NoBase.field-0-is c.in-Ok-NoBase.ensures.takes in
-    met_for_then g.L.LogDisk start (view x.pass).seen (by_at t.number t.session.levels.commands) (by_at old.number old.session.levels.commands) (IsPending x.session.making) (IsPending x.session.making) c.log_behind.result
+    met_for_then start (view x.pass).seen (by_at t.number t.session.levels.commands) (by_at old.number old.session.levels.commands) (IsPending x.session.making) (IsPending x.session.making) c.log_behind.result
     (same_command old.number t.number old.session t.session c.append_multi.ensures.number same) (λ z of. of) c.log_behind.ensures.full

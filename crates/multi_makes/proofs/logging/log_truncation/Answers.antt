@@ -84,5 +84,5 @@ returns-clause-full g c =
     let e = c.read_oldest-oldest.ensures in
     let f = c.read_multis-multis.ensures in
     let rec : Rec = records.Truncate c.read_oldest-oldest.result c.read_multis-multis.result.oldest_multi c.read_multis-multis.result.oldest_offset in
-    met_then g.L.LogDisk (start_of c.args.hall.now) (view c.append_truncation.new.caller.pass).seen (by_at t.number t.session.levels.commands) (by_at old.number old.session.levels.commands) (λ z. z ≡ rec) IsTruncation c.append_truncation.result
+    met_then (start_of c.args.hall.now) (view c.append_truncation.new.caller.pass).seen (by_at t.number t.session.levels.commands) (by_at old.number old.session.levels.commands) (λ z. z ≡ rec) IsTruncation c.append_truncation.result
     (same_command old.number t.number old.session t.session (f.same.1 ∙ e.same.1) (f.same.0 ∙ e.same.0)) (λ z is. subst IsTruncation (sym is) tt) c.append_truncation.ensures.full

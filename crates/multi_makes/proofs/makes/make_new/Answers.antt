@@ -116,7 +116,7 @@ returns-in-Ok-clause-full g c =
     let u = c.read_horizons-found.new.caller in
     let x = c.make_of.new.caller in
     let e = c.read_horizons-found.ensures in
-    met_for_then g.L.LogDisk (start_of c.args.hall.now) (view x.pass).seen (by_at u.number u.session.levels.commands) (by_at old.number old.session.levels.commands) (IsPending x.session.making) (IsPending x.session.making) c.make_of.result
+    met_for_then (start_of c.args.hall.now) (view x.pass).seen (by_at u.number u.session.levels.commands) (by_at old.number old.session.levels.commands) (IsPending x.session.making) (IsPending x.session.making) c.make_of.result
     (same_command old.number u.number old.session u.session e.same.1 e.same.0) (λ z of. of) c.make_of.ensures.full
 
 pub returns-in-Err-clause-full : goal.returns-in-Err-clause-full
@@ -127,4 +127,4 @@ returns-in-Err-clause-full g c =
     let u = c.read_horizons-found.new.caller in
     let found = c.read_horizons-found.result in
     let refused : Result (Unit {0}) Refusal = Err c.in-Err.refusal in
-    met_never g.L.LogDisk start (view u.pass).seen by (IsOneOrBefore start (view u.pass).seen by (IsPending u.session.making)) (AreNotFull found.next found.oldest c.args.pairs.now) refused c.in-Err.ensures (λ none. none.refused)
+    met_never start (view u.pass).seen by (IsOneOrBefore start (view u.pass).seen by (IsPending u.session.making)) (AreNotFull found.next found.oldest c.args.pairs.now) refused c.in-Err.ensures (λ none. none.refused)

@@ -45,5 +45,5 @@ returns-in-Ok-clause-full g c =
     let x = c.make_new.new.caller in
     let f = c.in-Ok.ensures in
     let same : t.session ≡ record old.session { making = t.session.making } = f.finishes.0 ∙ (λ j. record old.session { making = (sym f.finishes.0 j).making }) in
-    met_for_then g.L.LogDisk (start_of c.args.hall.now) (view x.pass).seen (by_at t.number t.session.levels.commands) (by_at old.number old.session.levels.commands) (IsPending x.session.making) (IsPending x.session.making) c.make_new.result
+    met_for_then (start_of c.args.hall.now) (view x.pass).seen (by_at t.number t.session.levels.commands) (by_at old.number old.session.levels.commands) (IsPending x.session.making) (IsPending x.session.making) c.make_new.result
     (command_kept old.number t.number old.session t.session f.visited.number same) (λ z of. of) c.make_new.ensures.full

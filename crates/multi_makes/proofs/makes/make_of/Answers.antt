@@ -108,7 +108,7 @@ returns-in-Err-finish-clause-full g c =
     let x = c.finish.new.caller in
     let same = same_taken old.session t.session c.args.members (Ok c.in-Ok.given) c.in-Ok.ensures.session in
     let refused : Result (Unit {0}) Refusal = Err c.in-Err-finish.refusal in
-    met_for_then g.L.LogDisk (start_of c.args.hall.now) (view x.pass).seen (by_at t.number t.session.levels.commands) (by_at old.number old.session.levels.commands) (IsPending x.session.making) (IsPending x.session.making) refused
+    met_for_then (start_of c.args.hall.now) (view x.pass).seen (by_at t.number t.session.levels.commands) (by_at old.number old.session.levels.commands) (IsPending x.session.making) (IsPending x.session.making) refused
     (command_kept old.number t.number old.session t.session c.take_multi.ensures.number same) (λ z of. of) c.in-Err-finish.ensures.full
 
 pub returns-in-Err-clause-full : goal.returns-in-Err-clause-full
@@ -119,4 +119,4 @@ returns-in-Err-clause-full g c =
     let t = c.take_multi.new.caller in
     let seen = (view t.pass).seen in
     let refused : Result (Unit {0}) Refusal = Err c.in-Err.refusal in
-    met_never g.L.LogDisk start seen by (IsOneOrBefore start seen by (IsPending t.session.making)) (IsNotTaken start.base (multi_history seen) (length c.args.members)) refused c.in-Err.ensures.takes.1 (λ none. none)
+    met_never start seen by (IsOneOrBefore start seen by (IsPending t.session.making)) (IsNotTaken start.base (multi_history seen) (length c.args.members)) refused c.in-Err.ensures.takes.1 (λ none. none)

@@ -46,7 +46,7 @@ returns-in-None-clause-full g c =
     let old = c.args.caller.now in
     let u = c.count.new.caller in
     let x = c.make_next.new.caller in
-    met_for_then g.L.LogDisk (start_of c.args.hall.now) (view x.pass).seen (by_at u.number u.session.levels.commands) (by_at old.number (next_command old)) (IsPending x.session.making) (IsPending x.session.making) c.make_next.result
+    met_for_then (start_of c.args.hall.now) (view x.pass).seen (by_at u.number u.session.levels.commands) (by_at old.number (next_command old)) (IsPending x.session.making) (IsPending x.session.making) c.make_next.result
     (counted_by old u c.count.ensures) (λ z of. of) c.make_next.ensures.full
 
 pub returns-in-Some-clause-full : goal.returns-in-Some-clause-full

@@ -1,4 +1,4 @@
-use Rattle.std.proofs.Common.{◌<◌, List, ap, arith, length, refl, subst, sym}
+use Rattle.std.proofs.Common.{List, refl, subst, sym}
 use Rattle.hall.specs.Calls.{view, start_of}
 use Rattle.notes.specs.Lists.{at}
 use Rattle.tx_events.specs.declared.event.Event.{Event}

@@ -1,5 +1,5 @@
 use Rattle.engine_parts.specs.Stand.{ProcStands}
-use Rattle.std.proofs.Common.{subst, sym, refl, ap, ◌∙◌, arith}
+use Rattle.std.proofs.Common.{subst, sym, refl, ◌∙◌}
 use Rattle.hall.specs.Calls.{view, start_of}
 use Rattle.notes.specs.Lists.{at}
 use Rattle.tx_events.specs.History.{next_given}

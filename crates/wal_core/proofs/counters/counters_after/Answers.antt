@@ -1,7 +1,9 @@
 use Rattle.std.proofs.Common.{◌≡◌, ◌⊎◌, ◌+◌, ◌<◌, ◌≤◌, ◌^◌, List, length, false, ap, ◌∙◌, sym, subst}
 use Rattle.tx_events.specs.After.{past_ids, ids_of, after_record}
 use Rattle.tx_events.specs.declared.multi.Member.{Member}
+use Rattle.tx_events.specs.declared.record.Counters.{Counters}
 use Rattle.tx_events.specs.declared.record.Rec.{Rec}
+use Rattle.tx_events.specs.declared.record.Rec.TheVariants as records
 use Rattle.wal_core.specs.BaseTest.{is_base_of}
 use Rattle.wal_core.proofs.Counts.{multi_not_base, tree_not_base}
 use Rattle.wal_core.proofs.counters.counters_after.Goals as goal
@@ -13,7 +15,9 @@ returns-in-Multi-clause-none c none =
     (subst (λ (l : List Member). (2 ^ 63 < past_ids d.next (ids_of l)) ⊎ ((2 ^ 63 ≤ m.multi) ⊎ (2 ^ 64 ≤ m.offset + length l))) c.items.ensures (c.after_multi.ensures.none none)))
 
 pub returns-in-Checkpoint-clause-some : goal.returns-in-Checkpoint-clause-some
-returns-in-Checkpoint-clause-some c = c.after_checkpoint.ensures c.in-Checkpoint.number ∙ ap (after_record c.args.counters.now) (sym c.in-Checkpoint.is)
+returns-in-Checkpoint-clause-some c =
+    let d = c.args.counters.now in let n = c.in-Checkpoint.number in
+    c.after_checkpoint.ensures n ∙ (ap (λ (k : Counters). after_record d (records.Checkpoint n k)) c.get.ensures ∙ ap (after_record d) (sym c.in-Checkpoint.is))
 
 pub returns-in-Commit-clause-none : goal.returns-in-Commit-clause-none
 returns-in-Commit-clause-none c none =

@@ -103,7 +103,7 @@ returns-in-Clear-clause-full g c =
     let u = c.count.new.caller in
     let opened = old.session.levels.open_ids.items in
     let same : u.session.levels.open_ids.items ≡ opened = ap (λ k. k.open_ids.items) c.count.ensures.levels in
-    met_for_then g.L.LogDisk (start_of c.args.hall.now) (view c.commit_anew.new.caller.pass).seen (by_at u.number u.session.levels.commands) (by_at old.number (next_command old)) (IsCommitOf u.session.levels.open_ids.items) (IsCommitOf opened) c.commit_anew.result
+    met_for_then (start_of c.args.hall.now) (view c.commit_anew.new.caller.pass).seen (by_at u.number u.session.levels.commands) (by_at old.number (next_command old)) (IsCommitOf u.session.levels.open_ids.items) (IsCommitOf opened) c.commit_anew.result
     (counted_by old u c.count.ensures) (λ z of. subst (λ (l : List ℕ). IsCommitOf l z) same of) c.commit_anew.ensures.full
 
 pub returns-in-Logged-clause-full : goal.returns-in-Logged-clause-full

@@ -83,7 +83,7 @@ returns-in-Ok-clause-full g c =
     let recorded = c.in-Ok.ensures.recorded in
     let opened = old.session.levels.open_ids.items in
     let same : t.session.levels.open_ids.items ≡ opened = ap (λ (z : Session). z.levels.open_ids.items) recorded in
-    met_for_then g.L.LogDisk (start_of c.args.hall.now) (view c.log_and_finish.new.caller.pass).seen (by_at t.number t.session.levels.commands) (by_at old.number old.session.levels.commands) (IsCommitOf t.session.levels.open_ids.items) (IsCommitOf opened) c.log_and_finish.result
+    met_for_then (start_of c.args.hall.now) (view c.log_and_finish.new.caller.pass).seen (by_at t.number t.session.levels.commands) (by_at old.number old.session.levels.commands) (IsCommitOf t.session.levels.open_ids.items) (IsCommitOf opened) c.log_and_finish.result
     (λ j. by_at (c.record_parent.ensures.number j) (recorded j).levels.commands) (λ z of. subst (λ (l : List ℕ). IsCommitOf l z) same of) c.log_and_finish.ensures.full
 
 pub returns-in-Err-clause-full : goal.returns-in-Err-clause-full
@@ -93,4 +93,4 @@ returns-in-Err-clause-full g c =
     let by = by_at old.number old.session.levels.commands in
     let seen = (view c.record_parent.new.caller.pass).seen in
     let refused : Result (Unit {0}) Refusal = Err c.in-Err.refusal in
-    met_never g.L.LogDisk start seen by (IsOneOrBefore start seen by (IsCommitOf old.session.levels.open_ids.items)) (IsSubtransFault seen by) refused c.in-Err.ensures.recorded.1 (λ none. none)
+    met_never start seen by (IsOneOrBefore start seen by (IsCommitOf old.session.levels.open_ids.items)) (IsSubtransFault seen by) refused c.in-Err.ensures.recorded.1 (λ none. none)

@@ -78,7 +78,7 @@ returns-in-Ok-clause-full g c =
     let e = c.in-Ok.ensures in
     let rec = c.args.rec.now in
     let opened = old.session.levels.open_ids.items in
-    met_for g.L.LogDisk (start_of c.args.hall.now) (view c.append_commit.new.caller.pass).seen (by_at t.number t.session.levels.commands) (by_at old.number old.session.levels.commands) (λ z. z ≡ rec) (IsCommitOf opened) c.append_commit.result
+    met_for (start_of c.args.hall.now) (view c.append_commit.new.caller.pass).seen (by_at t.number t.session.levels.commands) (by_at old.number old.session.levels.commands) (λ z. z ≡ rec) (IsCommitOf opened) c.append_commit.result
     (same_command old.number t.number old.session t.session e.same.1 e.same.0) (λ z is. subst (IsCommitOf opened) (sym is) c.requires.record) c.append_commit.ensures.full
 
 pub returns-in-Err-clause-full : goal.returns-in-Err-clause-full
@@ -88,4 +88,4 @@ returns-in-Err-clause-full g c =
     let by = by_at old.number old.session.levels.commands in
     let more = (view c.log_truncation.new.caller.pass).seen in
     let refused : Result Appended Refusal = Err c.in-Err.refusal in
-    met_before g.L.LogDisk start more by (IsCommitOf old.session.levels.open_ids.items) refused c.args.rec.now c.requires.record (no_base_stays start (view old.pass).seen more by c.args.rec.now c.log_truncation.ensures.went.on.grows c.requires.no_base) c.in-Err.ensures.full
+    met_before start more by (IsCommitOf old.session.levels.open_ids.items) refused c.args.rec.now c.requires.record (no_base_stays start (view old.pass).seen more by c.args.rec.now c.log_truncation.ensures.went.on.grows c.requires.no_base) c.in-Err.ensures.full

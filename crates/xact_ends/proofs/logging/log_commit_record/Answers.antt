@@ -107,7 +107,7 @@ returns-in-NoBase-clause-full g c =
     let old = c.args.caller.now in
     let t = c.append_commit.new.caller in
     let same = unlogged_same start (view t.pass).seen c.args.rec.now old.session t.session c.in-Ok.appended c.in-NoBase.is c.in-Ok.ensures.appends in
-    met_for_then g.L.LogDisk start (view c.log_commit_behind.new.caller.pass).seen (by_at t.number t.session.levels.commands) (by_at old.number old.session.levels.commands) (IsCommitOf t.session.levels.open_ids.items) (IsCommitOf old.session.levels.open_ids.items) c.log_commit_behind.result
+    met_for_then start (view c.log_commit_behind.new.caller.pass).seen (by_at t.number t.session.levels.commands) (by_at old.number old.session.levels.commands) (IsCommitOf t.session.levels.open_ids.items) (IsCommitOf old.session.levels.open_ids.items) c.log_commit_behind.result
     (same_command old.number t.number old.session t.session c.append_commit.ensures.number same) (λ z of. subst (λ (s : Session). IsCommitOf s.levels.open_ids.items z) same of) c.log_commit_behind.ensures.full
 
 pub returns-in-Err-clause-full : goal.returns-in-Err-clause-full
@@ -116,4 +116,4 @@ returns-in-Err-clause-full g c =
     let by = by_at old.number old.session.levels.commands in
     let opened = old.session.levels.open_ids.items in
     let refused : Result Appended Refusal = Err c.in-Err.refusal in
-    met_for g.L.LogDisk (start_of c.args.hall.now) (view c.append_commit.new.caller.pass).seen by by (λ z. z ≡ c.args.rec.now) (IsCommitOf opened) refused refl (λ z is. subst (IsCommitOf opened) (sym is) c.requires.record) c.in-Err.ensures.full
+    met_for (start_of c.args.hall.now) (view c.append_commit.new.caller.pass).seen by by (λ z. z ≡ c.args.rec.now) (IsCommitOf opened) refused refl (λ z is. subst (IsCommitOf opened) (sym is) c.requires.record) c.in-Err.ensures.full

@@ -65,5 +65,5 @@ returns-clause-full g c =
     let t = c.read_truncation-rec.new.caller in
     let e = c.read_truncation-rec.ensures in
     let rec : Rec = c.read_truncation-rec.result in
-    met_then g.L.LogDisk start (view c.append_truncation.new.caller.pass).seen (by_at t.number t.session.levels.commands) (by_at old.number old.session.levels.commands) (λ z. z ≡ rec) IsTruncation c.append_truncation.result
+    met_then start (view c.append_truncation.new.caller.pass).seen (by_at t.number t.session.levels.commands) (by_at old.number old.session.levels.commands) (λ z. z ≡ rec) IsTruncation c.append_truncation.result
     (same_command old.number t.number old.session t.session e.same.1 e.same.0) (λ z is. subst IsTruncation (sym is) (is_truncation start (view t.pass).seen rec e.record)) c.append_truncation.ensures.full

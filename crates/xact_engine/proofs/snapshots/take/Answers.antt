@@ -1,4 +1,4 @@
-use Rattle.std.proofs.Common.{◌≡◌, ℕ, ap, ◌∙◌, subst, sym, refl, List, [], ◌∷◌, ◌++◌, false, map, None}
+use Rattle.std.proofs.Common.{◌≡◌, ap, ◌∙◌, subst, sym, refl, List, [], ◌∷◌, ◌++◌, false, map, None}
 use Rattle.hall.specs.Calls.{view, start_of}
 use Rattle.notes.specs.Lists.{at}
 use Rattle.tx_events.specs.declared.event.Event.{Event}

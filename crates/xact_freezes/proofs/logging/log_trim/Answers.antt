@@ -76,11 +76,11 @@ pub returns-in-Ok-clause-full : goal.returns-in-Ok-clause-full
 returns-in-Ok-clause-full g c =
     let old = c.args.caller.now in
     let mid = c.append_truncation.new.caller in
-    met_flush g.L.LogDisk (start_of c.args.hall.now) (view c.flush_log.new.caller.pass).seen (by_at old.number old.session.levels.commands) (by_at mid.number mid.session.levels.commands) c.in-Ok.number IsTruncation _ c.flush_log.result c.flush_log.ensures.flushes
+    met_flush (start_of c.args.hall.now) (view c.flush_log.new.caller.pass).seen (by_at old.number old.session.levels.commands) (by_at mid.number mid.session.levels.commands) c.in-Ok.number IsTruncation _ c.flush_log.result c.flush_log.ensures.flushes
 
 pub returns-in-Err-clause-full : goal.returns-in-Err-clause-full
 returns-in-Err-clause-full g c =
     let old = c.args.caller.now in
     let by = by_at old.number old.session.levels.commands in
     let refused : Result ℕ Refusal = Err c.in-Err.refusal in
-    met_then g.L.LogDisk (start_of c.args.hall.now) (view c.append_truncation.new.caller.pass).seen by by (λ z. z ≡ c.args.rec.now) IsTruncation refused refl (λ z is. subst IsTruncation (sym (is ∙ c.requires.record.is)) tt) c.in-Err.ensures.full
+    met_then (start_of c.args.hall.now) (view c.append_truncation.new.caller.pass).seen by by (λ z. z ≡ c.args.rec.now) IsTruncation refused refl (λ z is. subst IsTruncation (sym (is ∙ c.requires.record.is)) tt) c.in-Err.ensures.full

@@ -187,7 +187,7 @@ pub returns-in-Ok-clause-full : goal.returns-in-Ok-clause-full
 returns-in-Ok-clause-full g c =
     let f = c.log_trim.new.caller in
     let seen = (view c.cut_all.new.caller.pass).seen in
-    met_never g.L.LogDisk (start_of c.args.hall.now) seen (by_at c.args.caller.now.number (next_command c.args.caller.now)) IsTruncation (IsCutMet seen (by_at f.number f.session.levels.commands)) c.cut_all.result c.cut_all.ensures.met (λ none. none)
+    met_never (start_of c.args.hall.now) seen (by_at c.args.caller.now.number (next_command c.args.caller.now)) IsTruncation (IsCutMet seen (by_at f.number f.session.levels.commands)) c.cut_all.result c.cut_all.ensures.met (λ none. none)
 
 pub returns-clause-full : goal.returns-clause-full
 returns-clause-full g c =
@@ -204,5 +204,5 @@ returns-clause-full g c =
     let looks = trim_looks hall banks u c.read_base-base.new.caller b d (step_counted hall old u c.count.ensures c.requires.may) x.section x.own x.ready x.went x.same y.section y.own y.ready y.went y.same z.section z.own z.ready z.went z.same in
     let seen = looks.all in
     let refused : Result (Unit {0}) Refusal = Err c.in-Err.refusal in
-    met_then g.L.LogDisk start (view c.log_trim.new.caller.pass).seen (by_at d.number d.session.levels.commands) (by_at old.number (next_command old)) IsTruncation IsTruncation refused
+    met_then start (view c.log_trim.new.caller.pass).seen (by_at d.number d.session.levels.commands) (by_at old.number (next_command old)) IsTruncation IsTruncation refused
     (command_kept u.number d.number u.session d.session seen.number seen.session ∙ counted_by old u c.count.ensures) (λ z of. of) c.in-Err.ensures.full

@@ -3,6 +3,7 @@ use Rattle.std.proofs.lemmas.Bool.Decides.{nat_tests}
 use Rattle.hall.specs.Calls.{view, start_of}
 use Rattle.engine_parts.specs.Adding.{IsPlain, MayMeet}
 use Rattle.engine_parts.proofs.Adding.{plain_meets}
+use Rattle.xact_reads.proofs.Aparting.{apart_then}
 use Rattle.xact_reads.proofs.Ending.{end_small}
 use Rattle.xact_reads.proofs.Gathering.{gathered, none_between}
 use Rattle.xact_reads.proofs.Going.{read_adds}
@@ -75,3 +76,15 @@ returns-in-Ok-read_slots-clause-slots g c told few =
     let ends = e.ends told few_then in
     let s = spanned start u e.ready.at.kept e.ready.at.base few_then ends.begun held c.in-Ok.ends p from ends in
     gathered start u w f.ready.at.kept f.ready.at.base held c.in-Ok.ends c.offset_in_full-offset.result c.slots_in-count.result c.args.into.now.items c.read_slots.new.into.items f.went.grows few_then ends.begun s later c.requires.none c.offset_in_full-offset.ensures.value c.slots_in-count.ensures (λ low to. f.slots told few low to)
+
+pub returns-in-Ok-read_slots-clause-apart : goal.returns-in-Ok-read_slots-clause-apart
+returns-in-Ok-read_slots-clause-apart g c =
+    let u = c.ends_of.new.caller in
+    let e = c.in-Ok.ensures in
+    apart_then c.args.caller.now.number u.number (view c.args.caller.now.pass).seen (view u.pass).seen (view c.read_slots.new.caller.pass).seen e.same.1 e.apart c.in-Ok-read_slots.ensures.apart
+
+pub returns-in-Err-read_slots-clause-apart : goal.returns-in-Err-read_slots-clause-apart
+returns-in-Err-read_slots-clause-apart g c =
+    let u = c.ends_of.new.caller in
+    let e = c.in-Ok.ensures in
+    apart_then c.args.caller.now.number u.number (view c.args.caller.now.pass).seen (view u.pass).seen (view c.read_slots.new.caller.pass).seen e.same.1 e.apart c.in-Err-read_slots.ensures.apart

@@ -5,6 +5,7 @@ use Rattle.engine_parts.proofs.Adding.{plain_meets}
 use Rattle.tx_events.specs.Multis.{free_offset}
 use Rattle.tx_core.specs.MultiEntries.{multi_history}
 use Rattle.xact_reads.specs.Multis.{AreReadFrom}
+use Rattle.xact_reads.proofs.Aparting.{apart_then}
 use Rattle.xact_reads.proofs.Gathering.{read_joined, read_since}
 use Rattle.xact_reads.proofs.Banking.{free_later}
 use Rattle.xact_reads.proofs.Going.{read_adds}
@@ -61,3 +62,15 @@ returns-in-Err-read_page-clause-adds g c =
     let u = c.read_page.new.caller in
     let e = c.in-Ok.ensures in
     read_adds old.number u.number old.session u.session (MayMeet c.in-Err-read_page.refusal) (view old.pass).seen (view u.pass).seen (view c.read_page-2.new.caller.pass).seen e.same.1 e.same.0 (plain_meets c.in-Err-read_page.refusal) e.adds c.in-Err-read_page.ensures.adds
+
+pub returns-in-Ok-read_page-clause-apart : goal.returns-in-Ok-read_page-clause-apart
+returns-in-Ok-read_page-clause-apart g c =
+    let u = c.read_page.new.caller in
+    let e = c.in-Ok.ensures in
+    apart_then c.args.caller.now.number u.number (view c.args.caller.now.pass).seen (view u.pass).seen (view c.read_page-2.new.caller.pass).seen e.same.1 e.apart c.in-Ok-read_page.ensures.apart
+
+pub returns-in-Err-read_page-clause-apart : goal.returns-in-Err-read_page-clause-apart
+returns-in-Err-read_page-clause-apart g c =
+    let u = c.read_page.new.caller in
+    let e = c.in-Ok.ensures in
+    apart_then c.args.caller.now.number u.number (view c.args.caller.now.pass).seen (view u.pass).seen (view c.read_page-2.new.caller.pass).seen e.same.1 e.apart c.in-Err-read_page.ensures.apart

@@ -1,9 +1,10 @@
-use Rattle.std.proofs.Common.{◌≤◌, List, [], arith, subst, sym, take, take_all, ◌∙◌}
+use Rattle.std.proofs.Common.{◌≤◌, List, [], arith, inl, subst, sym, take, take_all, ◌∙◌}
 use Rattle.std.specs.List.{AllByRecursion, filter_map}
 use Rattle.hall.specs.Calls.{view, start_of}
 use Rattle.bank_stores.specs.declared.slot.Slot.{Slot}
 use Rattle.tx_model.specs.declared.reply.MemberVerdict.{MemberVerdict}
 use Rattle.life_law.specs.MultiReplies.{IsOfId}
+use Rattle.tx_core.specs.Locks.{proc_lock}
 use Rattle.engine_parts.specs.Adding.{IsPlain, MayMeet}
 use Rattle.engine_parts.specs.Sessions.{by_at}
 use Rattle.engine_parts.proofs.Adding.{adds_wider, plain_meets}
@@ -11,6 +12,7 @@ use Rattle.engine_parts.proofs.Answering.{few_before}
 use Rattle.engine_parts.specs.declared.session.Session.{Session}
 use Rattle.xact_reads.specs.Glances.{IsNamed}
 use Rattle.xact_reads.specs.Multis.{AreJudged, IsCarried, pair_in}
+use Rattle.xact_reads.proofs.Aparting.{met_then, nothing_still}
 use Rattle.xact_reads.proofs.Going.{read_adds, went_both}
 use Rattle.xact_reads.proofs.Judging.{all_later, carried_later}
 use Rattle.xact_reads.proofs.Replying.{named_at}
@@ -36,6 +38,7 @@ loop-place-init g c =
       said = λ told few fits k named. subst (λ (xs : List MemberVerdict). AreJudged start (view u.pass).seen k [] xs) (sym c.requires.none) tt;
       ranges = subst (AllByRecursion IsOfId) (sym c.requires.none) tt;
       adds = adds_wider (by_at old.number old.session.levels.commands) (λ lock kind. ⊥) IsPlain (view old.pass).seen (view u.pass).seen (λ lock kind no. absurd no) e.adds;
+      apart = inl (nothing_still (by_at old.number old.session.levels.commands) (view old.pass).seen (view u.pass).seen proc_lock e.adds);
     }
 
 pub returns-in-Err-clause-went : goal.returns-in-Err-clause-went
@@ -82,6 +85,7 @@ loop-place-preserved g c =
           (judged_slot start (view w.pass).seen k (take c.loop-place.place c.args.slots.now) _ c.loop-place.into.items c.judge_slot.new.into.items before one);
       ranges = e.ranges i.ranges;
       adds = read_adds old.number u.number old.session u.session IsPlain (view old.pass).seen (view u.pass).seen (view w.pass).seen i.same.1 i.same.0 (λ lock kind m. m) i.adds e.adds;
+      apart = met_then start old.number u.number old.session u.session c.args.name.now (view old.pass).seen (view u.pass).seen (view w.pass).seen i.same.1 i.same.0 i.went.on.grows e.went.on.grows i.apart e.apart;
     }
 
 pub returns-clause-said : goal.returns-clause-said
@@ -91,3 +95,14 @@ returns-clause-said g c told few fits k named =
     let past = c.loop-place-test.false in
     let within = i.within in
     subst (λ (t : List Slot). AreJudged start (view c.loop-place.caller.pass).seen k (filter_map pair_in t) c.loop-place.into.items) (take_all c.loop-place.place c.args.slots.now (omega (arith, past, within))) (i.said told few fits k named)
+
+pub returns-in-Err-clause-apart : goal.returns-in-Err-clause-apart
+returns-in-Err-clause-apart g c =
+    let old = c.args.caller.now in
+    let u = c.loop-place.caller in
+    let i = c.loop-place.invariant in
+    let e = c.in-Err.ensures in
+    met_then (start_of c.args.hall.now) old.number u.number old.session u.session c.args.name.now (view old.pass).seen (view u.pass).seen (view c.judge_slot.new.caller.pass).seen i.same.1 i.same.0 i.went.on.grows e.went.on.grows i.apart e.apart
+
+pub returns-clause-apart : goal.returns-clause-apart
+returns-clause-apart g c = c.loop-place.invariant.apart

@@ -1,4 +1,4 @@
-use Rattle.std.proofs.Common.{IfErr, IfOk, Result, Some, arith, subst, sym, ◌≤◌}
+use Rattle.std.proofs.Common.{Bool, Err, IfErr, IfOk, Result, Some, arith, inl, subst, sym, ◌≤◌}
 use Rattle.hall.specs.Calls.{view, start_of}
 use Rattle.tx_events.specs.declared.refusal.Refusal.{Refusal}
 use Rattle.tx_model.specs.declared.reply.Verdict.{Verdict}
@@ -6,6 +6,7 @@ use Rattle.bank_sections.specs.Faults.{IsBankFault}
 use Rattle.engine_parts.specs.Adding.{Adds, MayFault}
 use Rattle.engine_parts.specs.Sessions.{by_at}
 use Rattle.xact_reads.specs.Multis.{IsVerdictOn}
+use Rattle.xact_reads.proofs.Aparting.{shown_apart}
 use Rattle.xact_reads.proofs.Verdicts.{judged_adds, judged_fault, judged_said, verdict_shown}
 use Rattle.xact_reads.proofs.judges.judge_glance.Goals as goal
 
@@ -37,3 +38,12 @@ returns-in-Err-clause-fault g c =
     let old = c.args.caller.now in
     subst (λ (z : Result Verdict Refusal). IfErr z (IsBankFault (view c.show.new.caller.pass).seen (by_at old.number old.session.levels.commands))) (sym c.refused_on.ensures)
     (judged_fault (start_of c.args.hall.now) (view c.show.new.caller.pass).seen (by_at old.number old.session.levels.commands) c.args.glance.id c.in-Err.refusal c.in-Err.ensures.unread)
+
+pub returns-in-Ok-clause-apart : goal.returns-in-Ok-clause-apart
+returns-in-Ok-clause-apart g c = inl c.in-Ok.ensures.apart
+
+pub returns-in-Err-clause-apart : goal.returns-in-Err-clause-apart
+returns-in-Err-clause-apart g c =
+    let old = c.args.caller.now in
+    let r : Result Bool Refusal = Err c.in-Err.refusal in
+    shown_apart (start_of c.args.hall.now) (by_at old.number old.session.levels.commands) (view old.pass).seen (view c.show.new.caller.pass).seen old.session.levels c.args.name.now c.requires.glanced.0 c.args.glance r c.requires.glanced.1 c.in-Err.ensures.apart

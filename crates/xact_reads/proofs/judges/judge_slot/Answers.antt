@@ -1,4 +1,4 @@
-use Rattle.std.proofs.Common.{[], arith, length, refl, subst, sym, ◌+◌, ◌∷◌, ◌≤◌}
+use Rattle.std.proofs.Common.{[], arith, inl, length, refl, subst, sym, ◌+◌, ◌∷◌, ◌≤◌}
 use Rattle.std.specs.List.{filter_map}
 use Rattle.hall.specs.Calls.{view, start_of}
 use Rattle.bank_stores.specs.declared.slot.Slot.{Slot}
@@ -28,6 +28,7 @@ returns-in-Unused g c =
       own = c.requires.own;
       ready = c.requires.ready;
       went = went_nowhere old.number v;
+      apart = inl refl;
       adds = adds_nothing (by_at old.number old.session.levels.commands) IsPlain v;
       said = λ told few room k named. subst (λ (s : Slot). JudgesSlot (start_of c.args.hall.now) v k (pair_in s) c.args.into.now.items c.args.into.now.items) (sym c.in-Unused.is) refl;
       ranges = λ told. told;
@@ -44,6 +45,7 @@ returns-in-Odd g c =
       own = c.requires.own;
       ready = c.requires.ready;
       went = went_nowhere old.number v;
+      apart = inl refl;
       adds = adds_nothing (by_at old.number old.session.levels.commands) IsPlain v;
       said = λ told few room k named. subst (λ (s : Slot). JudgesSlot (start_of c.args.hall.now) v k (pair_in s) c.args.into.now.items c.args.into.now.items) (sym c.in-Odd.is) refl;
       ranges = λ told. told;

@@ -3,15 +3,17 @@ use Rattle.hall.specs.Calls.{view, start_of}
 use Rattle.tx_events.specs.declared.refusal.Refusal.TheVariants as refusals
 use Rattle.tx_model.specs.declared.command.Command.TheVariants as commands
 use Rattle.tx_model.specs.declared.reply.Reply.TheVariants as replies
+use Rattle.notes.specs.Lists.{at, own}
 use Rattle.tx_events.specs.Running.{open_ids}
-use Rattle.tx_core.specs.Entries.{history}
+use Rattle.tx_core.specs.Entries.{history, session_of}
 use Rattle.engine_parts.specs.Adding.{IsPlain, MayMeet}
+use Rattle.engine_parts.specs.Calls.{next_command}
 use Rattle.engine_parts.specs.Holds.{Knowledge}
 use Rattle.engine_parts.specs.Sessions.{by_at, stance_of}
 use Rattle.session_levels.specs.declared.session.Session as plain
-use Rattle.xact_reads.specs.Apart.{IsMeantCut, StaysApart}
+use Rattle.xact_reads.specs.Apart.{FoundMeantCut}
 use Rattle.xact_reads.specs.Glances.{IsNamed}
-use Rattle.xact_reads.proofs.Aparting.{apart_unless}
+use Rattle.xact_reads.proofs.Aparting.{apart_unless, counted_apart, found_later}
 use Rattle.engine_parts.proofs.Adding.{adds_nothing, adds_wider, met_leaves, plain_leaves}
 use Rattle.engine_parts.proofs.Calling.{may_counted, own_counted, ran_refused}
 use Rattle.engine_parts.proofs.Stepping.{went_nowhere}
@@ -67,10 +69,6 @@ returns-in-Err-clause-ran g c =
     (adds_wider (by_at u.number u.session.levels.commands) (MayMeet c.in-Err.refusal) _ (view u.pass).seen (view c.see_found.new.caller.pass).seen (met_leaves (commands.See c.args.name.now c.args.x) (stance_of u.session) u.session.stage (open_ids u.number (history (view u.pass).seen)) c.in-Err.refusal) e.adds) e.allowed
     refl (e.standing ∙ sym (not_refused u.session c.args.name.now c.args.x c.in-Some.registered.now c.in-Some.ensures.found)) refl refl refl refl e.standing
 
--- the count enters no lock
-counted_apart : (n m : ℕ) (v u w : Knowledge) → u ≡ v → m ≡ n → StaysApart m u.seen w.seen → StaysApart n v.seen w.seen
-counted_apart n m v u w pass number apart = subst (λ (z : Knowledge). StaysApart n z.seen w.seen) pass (subst (λ z. StaysApart z u.seen w.seen) number apart)
-
 pub returns-in-None-clause-apart : goal.returns-in-None-clause-apart
 returns-in-None-clause-apart g c =
     let u = c.count.new.caller in
@@ -92,6 +90,17 @@ returns-in-Err-clause-apart g c =
     let u = c.count.new.caller in
     let w = view c.see_found.new.caller.pass in
     let start = start_of c.args.hall.now in
-    apart_unless (IsMeantCut start w.seen u.session.levels c.args.name.now c.args.x.number) (IsMeantCut start w.seen old.session.levels c.args.name.now c.args.x.number) old.number u.number (view old.pass).seen (view u.pass).seen w.seen c.in-Err.refusal c.count.ensures.number
-    (λ (cut : IsMeantCut start w.seen u.session.levels c.args.name.now c.args.x.number). record { registered = cut.registered; named = subst (λ (z : plain.Session). IsNamed z c.args.name.now cut.registered) c.count.ensures.levels cut.named; id = cut.id; near = cut.near; cut = cut.cut })
+    let by = by_at old.number (next_command old) in
+    let by' = by_at u.number u.session.levels.commands in
+    let v = (view old.pass).seen in
+    let v' = (view u.pass).seen in
+    let name = c.args.name.now in
+    apart_unless (FoundMeantCut start by' v' w.seen u.session.levels name c.args.x.number) (FoundMeantCut start by v w.seen old.session.levels name c.args.x.number) old.number u.number v v' w.seen c.in-Err.refusal c.count.ensures.number
+    (λ (cut : FoundMeantCut start by' v' w.seen u.session.levels name c.args.x.number). record {
+      registered = cut.registered;
+      named = subst (λ (z : plain.Session). IsNamed z name cut.registered) c.count.ensures.levels cut.named;
+      id = cut.id;
+      near = cut.near;
+      found = found_later start by by' v v' w.seen cut.id (λ j. by_at (c.count.ensures.number j) (c.count.ensures.levels j).commands) (λ lock. ap (λ (z : Knowledge). own session_of old.number (at z.seen lock)) (ap view c.count.ensures.pass)) cut.found;
+    })
     (counted_apart old.number u.number (view old.pass) (view u.pass) (view u.pass) (ap view c.count.ensures.pass) c.count.ensures.number refl) c.in-Err.ensures.apart

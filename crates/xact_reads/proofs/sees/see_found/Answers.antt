@@ -3,6 +3,7 @@ use Rattle.std.proofs.lemmas.Bool.Decides.{nat_tests}
 use Rattle.hall.specs.Calls.{view, start_of}
 use Rattle.tx_events.specs.declared.event.By.{By}
 use Rattle.tx_events.specs.declared.refusal.Refusal.TheVariants as refusals
+use Rattle.tx_core.specs.Locks.{proc_lock}
 use Rattle.engine_parts.specs.declared.session.Session.{Session}
 use Rattle.engine_parts.specs.Adding.{IsPlain, MayMeet}
 use Rattle.engine_parts.specs.Sessions.{by_at}
@@ -10,10 +11,10 @@ use Rattle.engine_parts.specs.Steps.{WentOn}
 use Rattle.engine_parts.proofs.Adding.{adds_wider, plain_meets}
 use Rattle.engine_parts.proofs.Sectioning.{same_command}
 use Rattle.engine_parts.proofs.Unmoved.{at_same}
-use Rattle.xact_reads.specs.Apart.{IsMeantCut, IsStateCut}
+use Rattle.xact_reads.specs.Apart.{FoundCut, FoundMeantCut}
 use Rattle.xact_reads.specs.Glances.{IsGlance, Shows}
 use Rattle.xact_reads.specs.Readings.{IsShown, IsUnread}
-use Rattle.xact_reads.proofs.Aparting.{apart_then, apart_unless, nothing_apart}
+use Rattle.xact_reads.proofs.Aparting.{apart_then, apart_unless, found_later, nothing_still}
 use Rattle.xact_reads.proofs.Going.{read_adds, went_both}
 use Rattle.xact_reads.proofs.Replying.{old_answer, seen_answer, unread_answer}
 use Rattle.xact_reads.proofs.WordReading.{finds_word}
@@ -39,7 +40,7 @@ returns-in-None-clause-adds g c =
 pub returns-in-None-clause-apart : goal.returns-in-None-clause-apart
 returns-in-None-clause-apart g c =
     let old = c.args.caller.now in
-    inl (nothing_apart (by_at old.number old.session.levels.commands) (view old.pass).seen (view c.read_oldest_word-published.new.caller.pass).seen c.read_oldest_word-published.ensures.adds)
+    inl (nothing_still (by_at old.number old.session.levels.commands) (view old.pass).seen (view c.read_oldest_word-published.new.caller.pass).seen proc_lock c.read_oldest_word-published.ensures.adds)
 
 pub returns-then-lt-clause-allowed : goal.returns-then-lt-clause-allowed
 returns-then-lt-clause-allowed g c =
@@ -63,14 +64,14 @@ returns-then-lt-clause-adds g c =
 pub returns-then-lt-clause-apart : goal.returns-then-lt-clause-apart
 returns-then-lt-clause-apart g c =
     let old = c.args.caller.now in
-    inl (nothing_apart (by_at old.number old.session.levels.commands) (view old.pass).seen (view c.read_oldest_word-published.new.caller.pass).seen c.read_oldest_word-published.ensures.adds)
+    inl (nothing_still (by_at old.number old.session.levels.commands) (view old.pass).seen (view c.read_oldest_word-published.new.caller.pass).seen proc_lock c.read_oldest_word-published.ensures.adds)
 
 pub returns-in-Ok-clause-apart : goal.returns-in-Ok-clause-apart
 returns-in-Ok-clause-apart g c =
     let old = c.args.caller.now in
     let u = c.read_oldest_word-published.new.caller in
     let e = c.read_oldest_word-published.ensures in
-    apart_then old.number u.number (view old.pass).seen (view u.pass).seen (view c.show.new.caller.pass).seen e.same.1 (nothing_apart (by_at old.number old.session.levels.commands) (view old.pass).seen (view u.pass).seen e.adds) c.in-Ok.ensures.apart
+    apart_then old.number u.number (view old.pass).seen (view u.pass).seen (view c.show.new.caller.pass).seen e.same.1 (nothing_still (by_at old.number old.session.levels.commands) (view old.pass).seen (view u.pass).seen proc_lock e.adds) c.in-Ok.ensures.apart
 
 pub returns-in-Err-clause-apart : goal.returns-in-Err-clause-apart
 returns-in-Err-clause-apart g c =
@@ -82,9 +83,19 @@ returns-in-Err-clause-apart g c =
     let start = start_of c.args.hall.now in
     let glance = c.in-Some.glance in
     let shows : Shows h.registered.snapshot c.args._x.number glance = subst (IsGlance h.registered.snapshot c.args._x.number) c.in-Some.is h.glance in
-    apart_unless (IsStateCut start w.seen glance.id) (IsMeantCut start w.seen old.session.levels c.args.name.now c.args._x.number) old.number u.number (view old.pass).seen (view u.pass).seen w.seen c.in-Err.refusal e.same.1
-    (λ (cut : IsStateCut start w.seen glance.id). record { registered = h.registered; named = h.named; id = glance.id; near = shows.near; cut = cut })
-    (nothing_apart (by_at old.number old.session.levels.commands) (view old.pass).seen (view u.pass).seen e.adds) c.in-Err.ensures.apart
+    let by = by_at old.number old.session.levels.commands in
+    let by' = by_at u.number u.session.levels.commands in
+    let v = (view old.pass).seen in
+    let v' = (view u.pass).seen in
+    apart_unless (FoundCut start by' v' w.seen glance.id) (FoundMeantCut start by v w.seen old.session.levels c.args.name.now c.args._x.number) old.number u.number v v' w.seen c.in-Err.refusal e.same.1
+    (λ (found : FoundCut start by' v' w.seen glance.id). record {
+      registered = h.registered;
+      named = h.named;
+      id = glance.id;
+      near = shows.near;
+      found = found_later start by by' v v' w.seen glance.id (same_command old.number u.number old.session u.session e.same.1 e.same.0) (λ lock. nothing_still by v v' lock e.adds) found;
+    })
+    (nothing_still by v v' proc_lock e.adds) c.in-Err.ensures.apart
 
 pub returns-in-Ok-clause-went : goal.returns-in-Ok-clause-went
 returns-in-Ok-clause-went g c =

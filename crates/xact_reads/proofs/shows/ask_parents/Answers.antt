@@ -9,7 +9,7 @@ use Rattle.engine_parts.proofs.Sectioning.{same_command}
 use Rattle.engine_parts.proofs.Unmoved.{at_same}
 use Rattle.xact_reads.specs.Glances.{IsNamed}
 use Rattle.bank_sections.specs.Faults.{IsSubtransFault}
-use Rattle.xact_reads.specs.Apart.{IsStateCut}
+use Rattle.xact_reads.specs.Apart.{FoundCut}
 use Rattle.xact_reads.proofs.Aparting.{apart_any, apart_then}
 use Rattle.xact_reads.proofs.Going.{read_adds, went_both}
 use Rattle.xact_reads.proofs.Looking.{climb_limits, parent_unread, shows_none, shows_parents}
@@ -92,4 +92,4 @@ returns-in-Err-climb-clause-apart g c =
     let u = c.is_committed.new.caller in
     let w = view c.climb.new.caller.pass in
     let e = c.in-Ok.ensures in
-    apart_any (IsStateCut (start_of c.args.hall.now) w.seen c.args.glance.id) n v.seen w.seen c.in-Err-climb.refusal (apart_then n u.number v.seen (view u.pass).seen w.seen e.same.1 e.apart c.in-Err-climb.ensures.apart)
+    apart_any (FoundCut (start_of c.args.hall.now) (by_at n c.args.caller.now.session.levels.commands) v.seen w.seen c.args.glance.id) n v.seen w.seen c.in-Err-climb.refusal (apart_then n u.number v.seen (view u.pass).seen w.seen e.same.1 e.apart c.in-Err-climb.ensures.apart)

@@ -1,7 +1,15 @@
 use Rattle.hall.specs.Calls.{view, start_of}
-use Rattle.xact_reads.proofs.Looking.{hides, shows_state}
+use Rattle.engine_parts.specs.Adding.{IsPlain}
+use Rattle.engine_parts.specs.Sessions.{by_at}
+use Rattle.engine_parts.proofs.Adding.{adds_nothing}
 use Rattle.engine_parts.proofs.Unmoved.{at_same}
+use Rattle.xact_reads.proofs.Looking.{hides, shows_state}
 use Rattle.xact_reads.proofs.shows.show.Goals as goal
+
+pub returns-in-Hidden-clause-adds : goal.returns-in-Hidden-clause-adds
+returns-in-Hidden-clause-adds g c =
+    let old = c.args.caller.now in
+    adds_nothing (by_at old.number old.session.levels.commands) IsPlain (view old.pass).seen
 
 pub returns-in-Hidden-clause-shown : goal.returns-in-Hidden-clause-shown
 returns-in-Hidden-clause-shown g c told =

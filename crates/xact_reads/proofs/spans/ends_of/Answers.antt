@@ -7,6 +7,7 @@ use Rattle.engine_parts.specs.Adding.{IsPlain, MayMeet}
 use Rattle.engine_parts.proofs.Adding.{adds_wider, plain_meets}
 use Rattle.engine_parts.specs.Sessions.{by_at}
 use Rattle.multi_banks.specs.Offsets.{IsOffsetRead}
+use Rattle.xact_reads.proofs.Aparting.{apart_then}
 use Rattle.xact_reads.proofs.Ending.{first_found, first_wanting, next_number, next_read, next_unread, pinned_small}
 use Rattle.xact_reads.proofs.Going.{read_adds}
 use Rattle.xact_reads.proofs.Once.{few_multis_before}
@@ -144,3 +145,21 @@ returns-in-Ok-None-offset_of-clause-unread g c =
           let has = has_later start u w held.multi found.0 f.went.grows found.2 in
           next_unread start w f.ready.at.kept f.ready.at.base few held q (e.begun told few_then) found.0 c.advance-next.result c.advance-next.ensures.value later has (λ last. false≢true (sym c.if-held.false ∙ last)) (λ at. subst (IsOffsetRead start w c.advance-next.result) c.in-Ok-None-offset_of.field-0-is (f.offset told at)),
     )
+
+pub returns-in-Ok-Some-offset_of-clause-apart : goal.returns-in-Ok-Some-offset_of-clause-apart
+returns-in-Ok-Some-offset_of-clause-apart g c =
+    let u = c.offset_of.new.caller in
+    let e = c.in-Ok-Some.ensures in
+    apart_then c.args.caller.now.number u.number (view c.args.caller.now.pass).seen (view u.pass).seen (view c.offset_of-2.new.caller.pass).seen e.same.1 e.apart c.in-Ok-Some-offset_of.ensures.apart
+
+pub returns-in-Ok-None-offset_of-clause-apart : goal.returns-in-Ok-None-offset_of-clause-apart
+returns-in-Ok-None-offset_of-clause-apart g c =
+    let u = c.offset_of.new.caller in
+    let e = c.in-Ok-Some.ensures in
+    apart_then c.args.caller.now.number u.number (view c.args.caller.now.pass).seen (view u.pass).seen (view c.offset_of-2.new.caller.pass).seen e.same.1 e.apart c.in-Ok-None-offset_of.ensures.apart
+
+pub returns-in-Err-offset_of-clause-apart : goal.returns-in-Err-offset_of-clause-apart
+returns-in-Err-offset_of-clause-apart g c =
+    let u = c.offset_of.new.caller in
+    let e = c.in-Ok-Some.ensures in
+    apart_then c.args.caller.now.number u.number (view c.args.caller.now.pass).seen (view u.pass).seen (view c.offset_of-2.new.caller.pass).seen e.same.1 e.apart c.in-Err-offset_of.ensures.apart

@@ -13,7 +13,7 @@ use Rattle.bank_sections.proofs.Faulting.{cut_adds, done_adds, fault_adds}
 use Rattle.bank_sections.proofs.Visiting.{is_xact_lock}
 use Rattle.bank_sections.specs.Sections.{BankRefused, IsXactCut}
 use Rattle.store_pages.specs.Layouts.{xact_page_of}
-use Rattle.xact_reads.proofs.Aparting.{cut_later, section_apart}
+use Rattle.xact_reads.proofs.Aparting.{found_cut, section_apart}
 use Rattle.xact_reads.proofs.Going.{read_adds, went_both}
 use Rattle.xact_reads.proofs.states.state_of.Goals as goal
 
@@ -73,11 +73,13 @@ returns-in-Err-DiskFault-clause-apart g c =
 pub returns-then-lt-clause-apart : goal.returns-then-lt-clause-apart
 returns-then-lt-clause-apart g c =
     let old = c.args.caller.now in
+    let u = c.read_state.new.caller in
+    let e = c.in-Err-Cut.ensures in
     let start = start_of c.args.hall.now in
     let bank = c.bank_of-bank.result in
     let v = view old.pass in
-    let u = view c.read_state.new.caller.pass in
     let w = view c.read_oldest-oldest.new.caller.pass in
     let by = by_at old.number old.session.levels.commands in
-    let met = subst (λ z. BankRefused start (xact_lock bank) by (IsXactCut start u.seen bank (xact_page_of c.args.x)) v u z) c.in-Err-Cut.field-0-is c.in-Err-Cut.ensures.section in
-    inr (cut_later start u.seen w.seen c.args.x c.read_oldest-oldest.ensures.went.on.grows (record { bank = bank; lock = search rules; cutoff = _; cut = met.1 }))
+    let inside : bank < start.banks = subst (λ z. bank < z) c.requires.banks.0 c.bank_of-bank.ensures.within in
+    let met = subst (λ z. BankRefused start (xact_lock bank) by (IsXactCut start (view u.pass).seen bank (xact_page_of c.args.x)) v (view u.pass) z) c.in-Err-Cut.field-0-is e.section in
+    inr (found_cut start v (view u.pass) w old.number u.number old.session u.session bank c.args.x _ inside e.same.1 e.same.0 c.requires.ready.at e.ready.at (search rules) met.0 met.1 c.read_oldest-oldest.ensures.section c.read_oldest-oldest.ensures.went.on.grows)

@@ -1,8 +1,18 @@
 -- A text with pieces between own bytes that grows.
-use Rattle.std.proofs.Common.{◌≡◌, ℕ, ◌+◌, ◌-◌, ◌<◌, ◌≤◌, List, [], ◌∷◌, ◌++◌, refl, sym, ap, subst, ◌∙◌, arith, append_assoc, append-nil, drop, get_or, length, set, take}
+use Rattle.std.proofs.Common.{Bool, true, if◌then◌else◌, ◌≡◌, ℕ, ◌+◌, ◌-◌, ◌<◌, ◌≤◌, List, [], ◌∷◌, ◌++◌, refl, sym, ap, subst, ◌∙◌, arith, append_assoc, append-nil, drop, get_or, length, set, take}
 use Rattle.std.proofs.Math.Seq.{drop-length, take-length}
 use Rattle.std.proofs.lemmas.Grind.{flat_map-append}
 use Rattle.std.proofs.lemmas.List.{drop-append-le, length-append, length-drop, length-set, take-append-le, take_more, take_more_set}
+use Rattle.std.specs.Fmt.{decimal}
+use Rattle.std.specs.Prelude.{codes}
+use Rattle.report_text.specs.CommandText.{command_words}
+use Rattle.report_text.specs.ReplyText.{snapshot_words}
+use Rattle.report_text.specs.ReportText.{command_line, line_front, snapshot_end}
+use Rattle.report_text.specs.Words.{line_text, more, name_at}
+use Rattle.tx_events.specs.declared.event.By.{By}
+use Rattle.tx_events.specs.declared.snapshot.SnapData.{SnapData}
+use Rattle.tx_model.specs.declared.command.Command.{Command}
+use Rattle.tx_model.specs.declared.reply.Reply.TheVariants as replies
 use Rattle.script_rounds.specs.Woven.{Piece, own_before, pieces_in, woven}
 
 pub first_within : (a b n : ℕ) → a + b ≤ n → a ≤ n
@@ -130,3 +140,33 @@ last_same runs new run same n count some is e f =
     f ∙ last_set runs i same l ∙ ap (λ (r : List Piece). take i runs ++ r ∷ []) e ∙ sym (last_is runs i run l is) where
       behind : (n : ℕ) → 0 < n → n - 1 + 1 ≡ n
       behind n l = omega arith
+
+more_both : (xs ys : List (List ℕ)) → more (xs ++ ys) ≡ more xs ++ more ys
+unfolding more
+more_both [] ys = refl
+more_both (x ∷ xs) ys = ap (λ (t : List ℕ). (32 ∷ x) ++ t) (more_both xs ys) ∙ sym (append_assoc (32 ∷ x) (more xs) (more ys))
+
+-- a snapshot's line, front and end
+pub line_parts : (names : List (List ℕ)) (by : By) (command : Command) (s : SnapData) (text : List ℕ) → (text ++ line_front names by command) ++ snapshot_end s ≡ text ++ command_line names (record { by = by; command = command; reply = replies.Snapped s })
+unfolding line_text
+line_parts names by command s text =
+    let name = name_at names by.session in
+    let first = decimal by.command ∷ command_words command in
+    let rest = codes "->" ∷ codes "ok" ∷ snapshot_words s in
+    let end = 10 ∷ [] in
+    append_assoc text (name ++ more first) (more rest ++ end)
+    ∙ ap (λ (t : List ℕ). text ++ t)
+    (append_assoc name (more first) (more rest ++ end) ∙ ap (λ (t : List ℕ). name ++ t) (sym (append_assoc (more first) (more rest) end) ∙ ap (λ (t : List ℕ). t ++ end) (sym (more_both first rest)))
+    ∙ sym (append_assoc name (more (first ++ rest)) end))
+
+-- a list of one piece more
+pub one_pushed : (runs mid new : List (List Piece)) (run none : List Piece) (m : Piece) (n : ℕ) (ok : Bool) → n ≡ length runs → mid ≡ runs → none ≡ [] → run ≡ none ++ m ∷ [] → ok ≡ true
+    → new ≡ (if ok then take n (mid ++ drop (length mid) runs) ++ run ∷ [] else take n (mid ++ drop (length mid) runs)) → pieces_in new ≡ pieces_in runs ++ m ∷ []
+one_pushed runs mid new run none m n ok count e f g good told =
+    let kept = take n (mid ++ drop (length mid) runs) in
+    let same : kept ≡ runs =
+    ap (λ (ms : List (List Piece)). take n (ms ++ drop (length ms) runs)) e ∙ ap (λ (ds : List (List Piece)). take n (runs ++ ds)) (drop-length runs)
+    ∙ ap (take n) (append-nil runs) ∙ ap (λ k. take k runs) count ∙ take-length runs in
+    ap pieces_in (told ∙ ap (λ (b : Bool). if b then kept ++ run ∷ [] else kept) good) ∙ one_more kept run
+    ∙ ap (λ (rs : List (List Piece)). pieces_in rs ++ run) same
+    ∙ ap (λ (t : List Piece). pieces_in runs ++ t) (g ∙ ap (λ (t : List Piece). t ++ m ∷ []) f)

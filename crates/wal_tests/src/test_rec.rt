@@ -1,6 +1,8 @@
 //! Records as tables say them, and their bytes.
 use std::process::Abort;
-use tx_events::{Counters, FullMulti, FullXid, IdList, Member, MemberList, Mode, Rec, Sequence, SharedCounters};
+use tx_events::{
+    Counters, FullMulti, FullXid, IdList, Member, MemberList, Mode, Rec, Sequence, SharedCounters,
+};
 use wal_records::{is_lawful, read_rec, rec_length, write_rec};
 
 #[derive(Clone, Copy)]

@@ -69,8 +69,8 @@ AddsFlush start by old new (Err refusals.LogFault) =
 AddsFlush start by old new (Err (refusals.LogDown down)) = StaysDownAt start old new down
 AddsFlush start by old new (Err refusal) = ⊥
 
--- A checkpoint's record, which has the log's next number. Or the log is down, or it isn't, and has no room for that record
--- or memory was wanting.
+-- A checkpoint's record, which has the log's next number. Or the log is down, or it isn't, and has no room for that
+-- record or memory was wanting.
 abbrev pub AddsCheckpoint : Start → By → Counters → List (List Entry) → List (List Entry) → Result ℕ LogRefusal → Type 0
 AddsCheckpoint start by counters old new (Ok number) =
     (number ≡ next_number start old) × (new ≡ add old log_lock (checkpoint_by by number counters))

@@ -3,12 +3,14 @@ use Rattle.std.proofs.Common.{Err, IfSome, List, None, Option, Result, Some, ref
 use Rattle.notes.specs.Lists.{at}
 use Rattle.tx_events.specs.declared.event.By.{By}
 use Rattle.tx_events.specs.declared.record.Counters.{Counters}
+use Rattle.tx_events.specs.declared.record.Rec.TheVariants as records
 use Rattle.tx_core.specs.declared.entry.Entry.{Entry}
 use Rattle.tx_core.specs.declared.entry.Start.{Start}
 use Rattle.tx_core.specs.Locks.{log_lock}
 use Rattle.tx_core.specs.StaysDown.{IsUp}
+use Rattle.engine_parts.specs.LogTail.{LacksRoom, tail_of}
 use Rattle.engine_parts.specs.Stand.{IsDownAt}
-use Rattle.host_sections.specs.HostEntries.{AddsCheckpoint}
+use Rattle.host_sections.specs.HostEntries.{AddsCheckpoint, next_number}
 use Rattle.slru_bank.specs.declared.refusal.BankRefusal.{BankRefusal}
 use Rattle.wal_core.specs.declared.checkpoint.LastCheckpoint.{LastCheckpoint}
 use Rattle.wal_core.specs.declared.refusal.LogRefusal.{LogRefusal}
@@ -41,12 +43,12 @@ same_bank_err q = cc
 
 -- why no checkpoint was appended
 pub append_refused : (start : Start) (by : By) (counters : Counters) (old new : List (List Entry)) (r : LogRefusal) → new ≡ old → ((down : ℕ) → r ≡ refusals.LogDown down → IsDownAt start (at old log_lock) down) → (((down : ℕ) → r ≡ refusals.LogDown down → ⊥) → IsUp (at old log_lock))
-    → (r ≡ refusals.LogFault → ⊥) → ((place : ℕ) → r ≡ refusals.Damaged place → ⊥) → AddsCheckpoint start by counters old new (Err r)
-append_refused start by counters old new refusals.LogFault same down up fault damaged = absurd (fault refl)
-append_refused start by counters old new (refusals.Damaged place) same down up fault damaged = absurd (damaged place refl)
-append_refused start by counters old new (refusals.LogDown place) same down up fault damaged = record { same = same; is_down = down place refl }
-append_refused start by counters old new refusals.Full same down up fault damaged = (same, up (λ place q. cc))
-append_refused start by counters old new refusals.Memory same down up fault damaged = (same, up (λ place q. cc))
+    → (r ≡ refusals.LogFault → ⊥) → ((place : ℕ) → r ≡ refusals.Damaged place → ⊥) → (r ≡ refusals.Full → LacksRoom (tail_of start (at old log_lock)) (records.Checkpoint (next_number start old) counters)) → AddsCheckpoint start by counters old new (Err r)
+append_refused start by counters old new refusals.LogFault same down up fault damaged lacks = absurd (fault refl)
+append_refused start by counters old new (refusals.Damaged place) same down up fault damaged lacks = absurd (damaged place refl)
+append_refused start by counters old new (refusals.LogDown place) same down up fault damaged lacks = record { same = same; is_down = down place refl }
+append_refused start by counters old new refusals.Full same down up fault damaged lacks = (same, up (λ place q. cc), lacks refl)
+append_refused start by counters old new refusals.Memory same down up fault damaged lacks = (same, up (λ place q. cc))
 
 -- the first record that is kept behind a forget is the checkpoint's
 pub first_is : (number : ℕ) (checkpoint : Option LastCheckpoint) (first : ℕ) → ((k : LastCheckpoint) × (checkpoint ≡ Some k) × (k.number ≡ number)) → IfSome checkpoint (λ k. first ≡ k.number) → first ≡ number

@@ -25,6 +25,7 @@ use Rattle.slru_bank.specs.declared.refusal.BankRefusal.TheVariants as bank_refu
 use Rattle.wal_core.specs.declared.refusal.LogRefusal.{LogRefusal}
 use Rattle.wal_core.specs.declared.refusal.LogRefusal.TheVariants as refusals
 use Rattle.engine_parts.specs.Faults.{fault_by, flush_fault_by}
+use Rattle.engine_parts.specs.LogTail.{LacksRoom, tail_of}
 use Rattle.engine_parts.specs.Stand.{IsDownAt}
 
 abbrev pub flush_by : By → ℕ → Entry
@@ -68,13 +69,15 @@ AddsFlush start by old new (Err refusals.LogFault) =
 AddsFlush start by old new (Err (refusals.LogDown down)) = StaysDownAt start old new down
 AddsFlush start by old new (Err refusal) = ⊥
 
--- A checkpoint's record, which has the log's next number. Or the log is down, or it isn't, and is full or memory was
--- wanting.
+-- A checkpoint's record, which has the log's next number. Or the log is down, or it isn't, and has no room for that
+-- record or memory was wanting.
 abbrev pub AddsCheckpoint : Start → By → Counters → List (List Entry) → List (List Entry) → Result ℕ LogRefusal → Type 0
 AddsCheckpoint start by counters old new (Ok number) =
     (number ≡ next_number start old) × (new ≡ add old log_lock (checkpoint_by by number counters))
 AddsCheckpoint start by counters old new (Err (refusals.LogDown down)) = StaysDownAt start old new down
-AddsCheckpoint start by counters old new (Err refusals.Full) = (new ≡ old) × IsUp (at old log_lock)
+AddsCheckpoint start by counters old new (Err refusals.Full) =
+    (new ≡ old) × IsUp (at old log_lock)
+    × LacksRoom (tail_of start (at old log_lock)) (records.Checkpoint (next_number start old) counters)
 AddsCheckpoint start by counters old new (Err refusals.Memory) = (new ≡ old) × IsUp (at old log_lock)
 AddsCheckpoint start by counters old new (Err refusal) = ⊥
 

@@ -18,7 +18,7 @@ use Rattle.tx_core.proofs.Quiet.{hosts_keep}
 use Rattle.wal_core.specs.Log.{counters_or_none}
 use Rattle.wal_core.specs.LogViews.{log_checkpoint, log_counters, log_disk, log_down, log_first, log_flushed, log_next, log_recs}
 use Rattle.engine_parts.specs.declared.part.Part.TheVariants as parts
-use Rattle.engine_parts.specs.LogTail.{log_tail}
+use Rattle.engine_parts.specs.LogTail.{LacksRoom, LogTail, log_tail}
 use Rattle.engine_parts.proofs.Tails.{appended_tail, took_room}
 use Rattle.engine_parts.specs.Holds.{Knowledge, Leaves}
 use Rattle.engine_parts.specs.Law.{MayKeep}
@@ -150,6 +150,7 @@ returns-clause-adds g c =
     (λ place q. (s.failed place (a.down place (ap Err q))).0)
     (λ other. s.up (not_down (log_down c.deref_mut-log.result.now) (λ m put. other m (same_err (a.is_down m put)))))
     (λ q. a.no_other.0 (ap Err q)) (λ place q. a.no_other.1 place (ap Err q))
+    (λ q. subst (λ (z : LogTail × Rec). LacksRoom z.0 z.1) (λ j. (s.tail_is j, records.Checkpoint ((c.next.ensures ∙ s.next_is) j) c.args.counters)) (a.full (ap Err q)))
 
 pub returns-clause-kept : goal.returns-clause-kept
 returns-clause-kept g c = subst (EngineInvariant (start_of c.args.hall.now)) (sym (ap (λ (z : Knowledge). z.seen) c.put_back.ensures.view)) c.take_log-held.ensures.inside.kept

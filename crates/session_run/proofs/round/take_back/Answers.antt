@@ -41,10 +41,3 @@ loop-member-preserved-in-Some g c =
     one_back c.args.hall.now c.args.host.now c.args.sessions.now c.args.members.now.items c.loop-member.host c.dismiss-session.new.host
     c.loop-member.sessions _ c.loop-member.members.items c.pop.new.self.items c.in-Some.member c.dismiss-session.result
     c.in-Some.ensures.items c.loop-member.invariant d.host d.cluster d.joined d.names d.parked d.session d.stay refl
-
-pub loop-member-preserved-in-Some-2 : goal.loop-member-preserved-in-Some-2
-loop-member-preserved-in-Some-2 g c =
-    let d = c.dismiss-session.ensures in
-    one_back c.args.hall.now c.args.host.now c.args.sessions.now c.args.members.now.items c.loop-member.host c.dismiss-session.new.host
-    c.loop-member.sessions _ c.loop-member.members.items c.pop.new.self.items c.in-Some.member c.dismiss-session.result
-    c.in-Some.ensures.items c.loop-member.invariant d.host d.cluster d.joined d.names d.parked d.session d.stay refl

@@ -23,7 +23,7 @@ use proc_table::{Given, ProcTable};
 use std::alloc::Global;
 use std::marker::Model;
 use tx_events::{
-    By, Counters, Event, FullXid, Memory, SharedSnap, XactEnd, is_listed, make_one_room,
+    Counters, Event, FullXid, Memory, SharedSnap, XactEnd, is_listed, make_one_room,
 };
 
 /// A history that is legal, and what its events say of ids. A contract sees the life's base, the number of sessions and
@@ -48,22 +48,6 @@ impl Model for HistoryReplay {
     ghost view = { λ r. record { base = r.table.base; sessions = r.table.sessions; events = r.table.events } };
 
     ghost invariant = { λ r. IsReplay r.table r.last.items r.opened.items r.given.items };
-}
-
-fn by_of(event: &Event) -> By
-    ensures { result ≡ by_of event.now }
-{
-    match event {
-        Event::Id { by, .. } => by.get(),
-        Event::Sub { by, .. } => by.get(),
-        Event::Undo { by, .. } => by.get(),
-        Event::Commit { by, .. } => by.get(),
-        Event::Abort { by, .. } => by.get(),
-        Event::Snap { by, .. } => by.get(),
-        Event::SnapDrop { by, .. } => by.get(),
-        Event::Oldest { by, .. } => by.get(),
-        Event::Ask { by, .. } => by.get(),
-    }
 }
 
 /// Adds an event that may come to the table. Ids are given with their page made.
@@ -173,7 +157,7 @@ impl HistoryReplay {
         ensures refused { IfOk result (λ b. b ≡ false → (IsLawfulNext self.old event.now → ⊥) × (self.new ≡ self.old)) }
         ensures err { OnErr result (self.new ≡ self.old) }
     {
-        let by = by_of(event);
+        let by = event.by();
         let session = by.session as usize;
         let place = self.table.events().len() as u64;
         if !is_in_turn(self.last.as_slice(), by) {

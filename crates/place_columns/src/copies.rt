@@ -23,17 +23,7 @@ impl Owned for Event {
     ghost by = { by_of };
 
     fn by(&self) -> By {
-        match self {
-            Event::Id { by, .. } => by.get(),
-            Event::Sub { by, .. } => by.get(),
-            Event::Undo { by, .. } => by.get(),
-            Event::Commit { by, .. } => by.get(),
-            Event::Abort { by, .. } => by.get(),
-            Event::Snap { by, .. } => by.get(),
-            Event::SnapDrop { by, .. } => by.get(),
-            Event::Oldest { by, .. } => by.get(),
-            Event::Ask { by, .. } => by.get(),
-        }
+        Event::by(self)
     }
 }
 
@@ -41,12 +31,7 @@ impl Owned for MultiEvent {
     ghost by = { multi_by };
 
     fn by(&self) -> By {
-        match self {
-            MultiEvent::Gen { by, .. } => by.get(),
-            MultiEvent::Hold { by, .. } => by.get(),
-            MultiEvent::Unhold { by, .. } => by.get(),
-            MultiEvent::Raise { by, .. } => by.get(),
-        }
+        MultiEvent::by(self)
     }
 }
 

@@ -20,24 +20,24 @@ pub returns-then-not-is_in_turn-clause-refused : goal.returns-then-not-is_in_tur
 returns-then-not-is_in_turn-clause-refused c = λ f. (
   λ n.
       let its = subst (λ (r : Replayed). IsLawfulNext r c.args.event.now) (sym c.self.view_is) n in
-      false≢true (sym c.if-not-is_in_turn.true ∙ (turn_of c.self.inside.table c.args.self.now c.args.event.now c.by_of-by.result c.self.inside.last.items c.as_slice.result.now c.is_in_turn.result c.self.view_is c.self.invariant.turns c.as_slice.ensures.value c.requires c.by_of-by.ensures c.is_in_turn.ensures).1 its.1),
+      false≢true (sym c.if-not-is_in_turn.true ∙ (turn_of c.self.inside.table c.args.self.now c.args.event.now c.by-by.result c.self.inside.last.items c.as_slice.result.now c.is_in_turn.result c.self.view_is c.self.invariant.turns c.as_slice.ensures.value c.requires c.by-by.ensures c.is_in_turn.ensures).1 its.1),
   refl,
 )
 
 pub invariant_of-self-in_err-make_one_room-2 : goal.invariant_of-self-in_err-make_one_room-2
 invariant_of-self-in_err-make_one_room-2 c =
-    replay_roomier c.self.inside.table c.self.inside.last.items c.self.inside.opened.items c.self.inside.given.items c.make_one_room.new.items.items c.args.event.now c.by_of-by.result c.make_one_room-2.new.items c.index_mut.result.now c.self.invariant
-    (within_table c.self.inside.table c.args.self.now c.args.event.now c.self.view_is c.requires) c.by_of-by.ensures c.index_mut.ensures.value c.make_one_room-2.ensures.items c.make_one_room.ensures.items
+    replay_roomier c.self.inside.table c.self.inside.last.items c.self.inside.opened.items c.self.inside.given.items c.make_one_room.new.items.items c.args.event.now c.by-by.result c.make_one_room-2.new.items c.index_mut.result.now c.self.invariant
+    (within_table c.self.inside.table c.args.self.now c.args.event.now c.self.view_is c.requires) c.by-by.ensures c.index_mut.ensures.value c.make_one_room-2.ensures.items c.make_one_room.ensures.items
 
 pub go_on-requires-clause-turn : goal.go_on-requires-clause-turn
 go_on-requires-clause-turn c =
-    (turn_of c.self.inside.table c.args.self.now c.args.event.now c.by_of-by.result c.self.inside.last.items c.as_slice.result.now c.is_in_turn.result c.self.view_is c.self.invariant.turns c.as_slice.ensures.value c.requires c.by_of-by.ensures c.is_in_turn.ensures).0 c.if-not-is_in_turn.false
+    (turn_of c.self.inside.table c.args.self.now c.args.event.now c.by-by.result c.self.inside.last.items c.as_slice.result.now c.is_in_turn.result c.self.view_is c.self.invariant.turns c.as_slice.ensures.value c.requires c.by-by.ensures c.is_in_turn.ensures).0 c.if-not-is_in_turn.false
 
 pub invariant_of-self-in_err-go_on : goal.invariant_of-self-in_err-go_on
 invariant_of-self-in_err-go_on c =
-    replay_stays c.self.inside.table c.go_on.new.table c.self.inside.last.items (set c.self.inside.opened.items c.by_of-by.result.session c.make_one_room-2.new.items) c.make_one_room.new.items.items c.in_err-go_on.ensures.err
-    (replay_roomier c.self.inside.table c.self.inside.last.items c.self.inside.opened.items c.self.inside.given.items c.make_one_room.new.items.items c.args.event.now c.by_of-by.result c.make_one_room-2.new.items c.index_mut.result.now c.self.invariant
-    (within_table c.self.inside.table c.args.self.now c.args.event.now c.self.view_is c.requires) c.by_of-by.ensures c.index_mut.ensures.value c.make_one_room-2.ensures.items c.make_one_room.ensures.items)
+    replay_stays c.self.inside.table c.go_on.new.table c.self.inside.last.items (set c.self.inside.opened.items c.by-by.result.session c.make_one_room-2.new.items) c.make_one_room.new.items.items c.in_err-go_on.ensures.err
+    (replay_roomier c.self.inside.table c.self.inside.last.items c.self.inside.opened.items c.self.inside.given.items c.make_one_room.new.items.items c.args.event.now c.by-by.result c.make_one_room-2.new.items c.index_mut.result.now c.self.invariant
+    (within_table c.self.inside.table c.args.self.now c.args.event.now c.self.view_is c.requires) c.by-by.ensures c.index_mut.ensures.value c.make_one_room-2.ensures.items c.make_one_room.ensures.items)
 
 pub note_given-requires-clause-order : goal.note_given-requires-clause-order
 note_given-requires-clause-order c =
@@ -46,29 +46,29 @@ note_given-requires-clause-order c =
 pub note_opened-requires-clause-opened : goal.note_opened-requires-clause-opened
 note_opened-requires-clause-opened c =
     let within = within_table c.self.inside.table c.args.self.now c.args.event.now c.self.view_is c.requires in
-    let roomier = replay_roomier c.self.inside.table c.self.inside.last.items c.self.inside.opened.items c.self.inside.given.items c.make_one_room.new.items.items c.args.event.now c.by_of-by.result c.make_one_room-2.new.items c.index_mut.result.now c.self.invariant within c.by_of-by.ensures c.index_mut.ensures.value c.make_one_room-2.ensures.items c.make_one_room.ensures.items in
-    let its = roomier.opened.each c.by_of-by.result.session (subst (λ (b : By). b.session < c.self.inside.table.sessions) (sym c.by_of-by.ensures) within) c.index_mut-2.result.now in
-    subst (λ (v : Vec OpenId). Ascending (opened_ids v.items)) (sym c.index_mut-2.ensures.value) (opened_ascend c.self.inside.table.base c.self.inside.table.events c.by_of-by.result.session _ c.events.ensures.legal its)
+    let roomier = replay_roomier c.self.inside.table c.self.inside.last.items c.self.inside.opened.items c.self.inside.given.items c.make_one_room.new.items.items c.args.event.now c.by-by.result c.make_one_room-2.new.items c.index_mut.result.now c.self.invariant within c.by-by.ensures c.index_mut.ensures.value c.make_one_room-2.ensures.items c.make_one_room.ensures.items in
+    let its = roomier.opened.each c.by-by.result.session (subst (λ (b : By). b.session < c.self.inside.table.sessions) (sym c.by-by.ensures) within) c.index_mut-2.result.now in
+    subst (λ (v : Vec OpenId). Ascending (opened_ids v.items)) (sym c.index_mut-2.ensures.value) (opened_ascend c.self.inside.table.base c.self.inside.table.events c.by-by.result.session _ c.events.ensures.legal its)
 
 pub invariant_of-self-2 : goal.invariant_of-self-2
 invariant_of-self-2 c =
     let within = within_table c.self.inside.table c.args.self.now c.args.event.now c.self.view_is c.requires in
-    let roomier = replay_roomier c.self.inside.table c.self.inside.last.items c.self.inside.opened.items c.self.inside.given.items c.make_one_room.new.items.items c.args.event.now c.by_of-by.result c.make_one_room-2.new.items c.index_mut.result.now c.self.invariant within c.by_of-by.ensures c.index_mut.ensures.value c.make_one_room-2.ensures.items c.make_one_room.ensures.items in
-    replay_after c.self.inside.table c.go_on.new.table c.args.event.now c.self.inside.last.items _ (set c.self.inside.opened.items c.by_of-by.result.session c.make_one_room-2.new.items) _ c.make_one_room.new.items.items c.note_given.new.items.items c.in_ok-closed.closed.items c.note_opened.new.opened c.by_of-by.result (opened_ids c.as_slice-5.result.now)
-    c.events.ensures.legal roomier (c.may_come.ensures.0 c.if-not-may_come.false) within c.by_of-by.ensures
-    (subst (λ l. slice_index l c.by_of-by.result.session ≤ c.by_of-by.result.command) c.as_slice.ensures.value (c.is_in_turn.ensures.0 c.if-not-is_in_turn.false))
+    let roomier = replay_roomier c.self.inside.table c.self.inside.last.items c.self.inside.opened.items c.self.inside.given.items c.make_one_room.new.items.items c.args.event.now c.by-by.result c.make_one_room-2.new.items c.index_mut.result.now c.self.invariant within c.by-by.ensures c.index_mut.ensures.value c.make_one_room-2.ensures.items c.make_one_room.ensures.items in
+    replay_after c.self.inside.table c.go_on.new.table c.args.event.now c.self.inside.last.items _ (set c.self.inside.opened.items c.by-by.result.session c.make_one_room-2.new.items) _ c.make_one_room.new.items.items c.note_given.new.items.items c.in_ok-closed.closed.items c.note_opened.new.opened c.by-by.result (opened_ids c.as_slice-5.result.now)
+    c.events.ensures.legal roomier (c.may_come.ensures.0 c.if-not-may_come.false) within c.by-by.ensures
+    (subst (λ l. slice_index l c.by-by.result.session ≤ c.by-by.result.command) c.as_slice.ensures.value (c.is_in_turn.ensures.0 c.if-not-is_in_turn.false))
     c.in_ok-go_on.ensures.ok c.in_ok-closed.ensures.closed
-    (written_back c.self.inside.last.len c.note.new.last c.self.inside.last.items (ap length c.note.ensures ∙ length-set c.deref_mut.result.now c.by_of-by.result.session c.by_of-by.result.command ∙ ap length c.deref_mut.ensures.value) (omega arith) ∙ c.note.ensures ∙ ap (λ l. set l c.by_of-by.result.session c.by_of-by.result.command) c.deref_mut.ensures.value)
+    (written_back c.self.inside.last.len c.note.new.last c.self.inside.last.items (ap length c.note.ensures ∙ length-set c.deref_mut.result.now c.by-by.result.session c.by-by.result.command ∙ ap length c.deref_mut.ensures.value) (omega arith) ∙ c.note.ensures ∙ ap (λ l. set l c.by-by.result.session c.by-by.result.command) c.deref_mut.ensures.value)
     refl c.index_mut-2.result.now c.index_mut-2.ensures.value
     (c.note_opened.ensures ∙ ap (λ l. opened_after l c.args.event.now c.index_mut-2.result.now.items) c.as_slice-6.ensures.value)
-    (ap opened_ids c.as_slice-5.ensures.value ∙ ap (λ (v : Vec OpenId). opened_ids v.items) (c.index-3.ensures ∙ same_default (set c.self.inside.opened.items c.by_of-by.result.session c.make_one_room-2.new.items) c.by_of-by.result.session c.index-3.result.now c.index_mut-2.result.now (subst (λ n. c.by_of-by.result.session < n) (sym roomier.opened.size) (subst (λ (b : By). b.session < c.self.inside.table.sessions) (sym c.by_of-by.ensures) within)) ∙ sym c.index_mut-2.ensures.value))
+    (ap opened_ids c.as_slice-5.ensures.value ∙ ap (λ (v : Vec OpenId). opened_ids v.items) (c.index-3.ensures ∙ same_default (set c.self.inside.opened.items c.by-by.result.session c.make_one_room-2.new.items) c.by-by.result.session c.index-3.result.now c.index_mut-2.result.now (subst (λ n. c.by-by.result.session < n) (sym roomier.opened.size) (subst (λ (b : By). b.session < c.self.inside.table.sessions) (sym c.by-by.ensures) within)) ∙ sym c.index_mut-2.ensures.value))
     (c.note_given.ensures ∙ ap (λ n. given_after (opened_ids c.as_slice-5.result.now) n c.args.event.now c.make_one_room.new.items.items) (ap length c.events.ensures.value))
 
 pub returns-clause-added : goal.returns-clause-added
 returns-clause-added c = λ f. (
   subst (λ (r : Replayed). IsLawfulNext r c.args.event.now) c.self.view_is (
     c.may_come.ensures.0 c.if-not-may_come.false,
-    (turn_of c.self.inside.table c.args.self.now c.args.event.now c.by_of-by.result c.self.inside.last.items c.as_slice.result.now c.is_in_turn.result c.self.view_is c.self.invariant.turns c.as_slice.ensures.value c.requires c.by_of-by.ensures c.is_in_turn.ensures).0 c.if-not-is_in_turn.false,
+    (turn_of c.self.inside.table c.args.self.now c.args.event.now c.by-by.result c.self.inside.last.items c.as_slice.result.now c.is_in_turn.result c.self.view_is c.self.invariant.turns c.as_slice.ensures.value c.requires c.by-by.ensures c.is_in_turn.ensures).0 c.if-not-is_in_turn.false,
   ),
   view_after c.self.inside.table c.go_on.new.table c.args.self.now c.args.event.now c.self.view_is c.in_ok-go_on.ensures.ok,
 )

@@ -8,3 +8,4 @@ mod RunLemmas
 mod Fronts
 mod Weaving
 mod Spreading
+mod Stepping

@@ -77,7 +77,7 @@ impl Plan {
             (self.old.sessions.items ++ session ∷ []) self.old.sessions.items) }
     {
         let places = &mut self.places[session as usize];
-        if places.items().is_empty() {
+        if places.is_empty() {
             self.sessions.push(session)?;
         }
         places.push(place)

@@ -13,8 +13,8 @@ use tx_events::SharedSnap;
 use tx_io::{Failed, Sink};
 use tx_model::Memory;
 
-/// The end of a snapshot's line, which stands here once for all places where a text has it. A contract sees the pieces: how
-/// many of the text's own bytes stand before each, behind the piece before it, and its bytes.
+/// The end of a snapshot's line, which stands here once for all places where a text has it. A contract sees the pieces:
+/// how many of the text's own bytes stand before each, behind the piece before it, and its bytes.
 #[derive(Drop)]
 pub struct Repeated {
     /// Whose end it is, as long as it may come again.
@@ -52,8 +52,8 @@ impl Repeated {
         })
     }
 
-    /// Adds a place behind so many own bytes, if this snapshot's line ends so. Where there is no memory, or where they are
-    /// too many for four bytes, it isn't added.
+    /// Adds a place behind so many own bytes, if this snapshot's line ends so. Where there is no memory, or where they
+    /// are too many for four bytes, it isn't added.
     pub fn add(&mut self, lists: &SharedSnap, behind: usize) -> bool
         ensures { self.new ≡ cond result (self.old ++ (behind, snapshot_end lists.now) ∷ []) self.old }
     {
@@ -76,7 +76,8 @@ impl Repeated {
         self.of = None;
     }
 
-    /// Gathers the own bytes up to the last place, with it in each place, or writes them. Returns the own bytes behind that.
+    /// Gathers the own bytes up to the last place, with it in each place, or writes them. Returns the own bytes behind
+    /// that.
     pub fn hand<'a, K: Sink>(
         &self,
         sink: &mut K,

@@ -258,8 +258,8 @@ impl Woven {
         self.print_end(lists)
     }
 
-    /// Adds the line of a command that is told what a snapshot holds. Where that is the same again and again, the end of the
-    /// line is neither printed nor kept again. Where there is no memory the text is taken off.
+    /// Adds the line of a command that is told what a snapshot holds. Where that is the same again and again, the end of
+    /// the line is neither printed nor kept again. Where there is no memory the text is taken off.
     pub fn add_snapped(
         &mut self,
         names: &NameList,

@@ -1,5 +1,5 @@
 -- Commands of a session, one after another.
-use Rattle.std.proofs.Common.{◌≡◌, ℕ, ◌+◌, ◌<◌, ◌≤◌, List, [], ◌∷◌, ◌++◌, Result, Ok, Err, IsErr, IsOk, Option, None, Some, IfNone, IfSome, refl, sym, ap, subst, ◌∙◌, arith, append-nil, get_or, length, map, take}
+use Rattle.std.proofs.Common.{◌≡◌, ℕ, suc, zero, ◌+◌, ◌<◌, ◌≤◌, List, [], ◌∷◌, ◌++◌, Result, Ok, Err, IsErr, IsOk, Option, None, Some, IfNone, IfSome, refl, sym, ap, subst, ◌∙◌, arith, append-nil, drop, get_or, length, map, take}
 use Rattle.std.proofs.lemmas.Bool.{false≢true}
 use Rattle.std.proofs.lemmas.List.{map-append}
 use Rattle.std.specs.List.{slice_get}
@@ -41,6 +41,25 @@ module _ {H L P : Type 0} {l : logs.Ghosts L} {p : disks.Ghosts P} where
   ran_on hall a b c [] line same ran = (c, subst (λ (z : Caller L P l p). RanLine hall z c line) same ran, refl)
   ran_on hall a b c (x ∷ lines) line first ran = (first.0, first.1, ran_on hall first.0 b c lines line first.2 ran)
 
+-- places that are taken one after another
+none_is_next : (place : ℕ) (rest : List ℕ) → [] ≡ place ∷ rest → ⊥
+none_is_next place rest e = let n : 0 ≡ length (place ∷ rest) = ap length e in omega (arith, n)
+
+pub next_place : (places : List ℕ) (count place : ℕ) (rest : List ℕ) → drop count places ≡ place ∷ rest
+    → (count < length places) × (get_or places count 0 ≡ place) × (drop (suc count) places ≡ rest)
+next_place [] zero place rest e = absurd (none_is_next place rest e)
+next_place [] (suc n) place rest e = absurd (none_is_next place rest e)
+next_place (p ∷ places) zero place rest e = (omega arith, ap (λ (l : List ℕ). get_or l 0 0) e, ap (drop 1) e)
+next_place (p ∷ places) (suc n) place rest e =
+    let more = next_place places n place rest e in
+    (let l = more.0 in omega (arith, l), more.1, more.2)
+
+pub all_taken : (places : List ℕ) (count : ℕ) → drop count places ≡ [] → take count places ≡ places
+all_taken [] zero e = refl
+all_taken [] (suc n) e = refl
+all_taken (p ∷ places) zero e = absurd (none_is_next p places (sym e))
+all_taken (p ∷ places) (suc n) e = ap (λ (t : List ℕ). p ∷ t) (all_taken places n e)
+
 -- what holds of each keeper
 pub record Keeps {K : Type 0} (keep : keepers.Ghosts K) (names : List (List ℕ)) : Type 0 where
   pub none : (kept : K) → keep.with_lines names kept [] ≡ kept
@@ -60,6 +79,10 @@ module _ {H K L P : Type 0} {l : logs.Ghosts L} {p : disks.Ghosts P} (keep : kee
 
   module _ (hall : Hall H (Part L P l p) Entry Start) (banks : ℕ) (names : List (List ℕ)) (round : List Item)
       (places : List ℕ) (old : Member K L P l p) where
+    -- the same, and these are the places that are left
+    abbrev pub IsAt : List ℕ → Member K L P l p → Type 0
+    IsAt left new = (count : ℕ) × IsSoFar hall banks names round places count old new × (drop count places ≡ left)
+
     pub at_first : (count : ℕ) → Keeps keep names → Begins hall banks count old → IsSoFar hall banks names round places 0 old old
     at_first count laws b = record {
       ran = subst (RanLines hall old.caller old.caller) (sym b.lines) refl;

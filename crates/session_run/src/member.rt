@@ -12,7 +12,7 @@ use crate::commands::run_command;
 use disk_core::{LogDisk, PageDisk};
 use engine_parts::{Caller, EngineLaw, Gate, Gated, Passing, command_of};
 use hall::Hall;
-use script_rounds::{LineKeeper, Plan, ToldLines, command_at};
+use script_rounds::{LineKeeper, PlacesLeft, Plan, ToldLines, command_at};
 use session_lang::Items;
 use std::alloc::Global;
 use std::sync::Wait;
@@ -59,17 +59,18 @@ fn run_places<R: Passing, K: LineKeeper, L: LogDisk, P: PageDisk>(
     banks: u32,
     alloc: Global,
     names: &NameList,
-    places: &[u32],
+    places: PlacesLeft<'_>,
     round: &Items,
 ) -> Result<(), Memory>
-    requires begins { Begins hall.now banks (length places.now) member.old }
+    requires begins { Begins hall.now banks (length places) member.old }
     requires items { All (runnable.MayRun (start_of hall.now).sessions) round.now }
-    requires places { HasPlaces member.old.caller.number round.now round.now places.now }
+    requires places { HasPlaces member.old.caller.number round.now round.now places }
     requires told { AreToldBy P.tells (start_of hall.now) }
     ensures { RunsRound K.LineKeeper hall.now banks names.now round.now (IsOk result) member.old member.new }
 {
-    for place in places {
-        if let Some(command) = command_at(member.caller.number, round, *place as usize)? {
+    let mut left = places;
+    while let Some(place) = left.next() {
+        if let Some(command) = command_at(member.caller.number, round, place as usize)? {
             run_turn(rt, hall, member, banks, alloc, names, &command)?;
         }
     }
@@ -94,7 +95,7 @@ pub fn run_member<R: Wait, K: LineKeeper, L: LogDisk, P: PageDisk, G: Gate>(
     requires told { AreToldBy P.tells (start_of hall.now) }
     ensures { RunsRound K.LineKeeper hall.now banks names.now round.now (member.new.lost ≡ false) member.old member.new }
 {
-    let places = plan.places[member.caller.number as usize].items();
+    let places = plan.places[member.caller.number as usize].left();
     let gated = Gated { rt, gate };
     let ran = run_places(&gated, hall, member, banks, alloc, names, places, round);
     let Gated { rt: _, gate: _ } = gated;

@@ -1,6 +1,9 @@
-use Rattle.session_run.proofs.TurnLemmas.{IsSoFar}
+use Rattle.std.proofs.Common.{length}
+use Rattle.session_run.proofs.TurnLemmas.{IsAt}
 use Rattle.session_run.proofs.member.run_places.Given as goal
 
 abbrev pub invariant-loop-place : goal.invariant-loop-place
-invariant-loop-place g l =
-    IsSoFar g.K.LineKeeper l.hall l.banks l.names l.round l.places l.place-index l.fn.member l.member
+invariant-loop-place g l = IsAt g.K.LineKeeper l.hall l.banks l.names l.round l.places l.fn.member l.left l.member
+
+abbrev pub decreases-loop-place : goal.decreases-loop-place
+decreases-loop-place g l = length l.left

@@ -63,7 +63,8 @@ MayTell tells start lists span by s command reply =
 -- The reply that a command may get, by the lists as they are then or later. A fault is one that this command met, of a
 -- volume that it asks. A log is down behind a fault that its list has, and holds up no commit that was on disk before.
 -- A commit is pending by the session's own record, an abort or an undo by its stage. Memory may be wanting to each
--- command that takes some. That a log is full the lists don't tell, as they have no sizes.
+-- command that takes some, and the log be full to each that appends: for which record its list left no room, the call
+-- itself says (`FoundFull` of log_sections).
 abbrev pub MayAnswer : Bool → Start → List (List Entry) → RoundSpan → By → Stance → Stage → Command → Reply → Type 0
 MayAnswer tells start lists span by s stage command (replies.Refused refusals.Memory) =
     IsTrue (takes_memory command s stage)

@@ -1,27 +1,22 @@
 //! Critical sections of a bank of the members of multixacts.
-ghost use Rattle.std.specs.Prelude.{◌≡◌, ℕ, ◌+◌, ◌*◌, ◌<◌, ◌≤◌, ◌++◌, ◌∷◌, []};
-ghost use Rattle.hall.specs.declared.view.Stage.TheVariants.{Free, Inside};
+ghost use Rattle.std.specs.Prelude.{◌≡◌, ◌+◌, ◌*◌, ◌<◌, ◌≤◌};
 ghost use Rattle.hall.specs.Calls.{view, IsOf, start_of};
 ghost use Rattle.notes.specs.Lists.{at};
-ghost use Rattle.tx_core.specs.EngineInvariant.{EngineInvariant};
-ghost use Rattle.tx_core.specs.Entries.{session_of};
 ghost use Rattle.tx_core.specs.Locks.{members_lock};
-ghost use Rattle.engine_parts.specs.Holds.{Enters, Leaves};
-ghost use Rattle.engine_parts.specs.Law.{MayKeep};
+ghost use Rattle.engine_parts.specs.Holds.{Enters};
 ghost use Rattle.engine_parts.specs.Parts.{IsMembersOf};
 ghost use Rattle.engine_parts.specs.Sessions.{IsAt, IsReady};
 
 use crate::gate::Passing;
-use crate::hold::{enter, leave};
+use crate::hold::enter;
 use crate::in_place::InPlace;
 use crate::law::EngineLaw;
 use crate::part::Part;
 use crate::session::{Caller, knock};
 use disk_core::{LogDisk, PageDisk};
-use hall::{Hall, Note};
+use hall::Hall;
 use slru_bank::SlruBank;
 use store_pages::MemberPages;
-use tx_core::Entry;
 
 /// Waits for a bank of the members of multixacts (its lock of MultiXactMemberSLRU).
 pub fn enter_members<R: Passing, L: LogDisk, P: PageDisk>(
@@ -47,30 +42,4 @@ pub fn enter_members<R: Passing, L: LogDisk, P: PageDisk>(
         unreachable!()
     };
     store
-}
-
-/// Gives the bank back, with one entry more in its list.
-pub fn leave_members<L: LogDisk, P: PageDisk>(
-    hall: &Hall<EngineLaw<L, P>>,
-    caller: &mut Caller<L, P>,
-    _bank: u32,
-    store: InPlace<SlruBank<P, MemberPages>>,
-    entry: Note<Entry>,
-)
-    requires own { IsOf hall.now caller.old.pass }
-    requires laid { hall.now.cells ≡ 3 + 4 * (start_of hall.now).banks }
-    requires bank { _bank < (start_of hall.now).banks }
-    requires inside { (view caller.old.pass).stage ≡ Inside (members_lock _bank) }
-    requires cell { caller.old.pass.cell ≡ members_lock _bank }
-    requires kept { EngineInvariant (start_of hall.now) (view caller.old.pass).seen }
-    requires session { session_of entry.value ≡ (view caller.old.pass).name }
-    requires may { MayKeep (start_of hall.now) (view caller.old.pass).seen (members_lock _bank) entry.value }
-    requires stands { IsMembersOf (start_of hall.now) _bank store.value
-        (at (view caller.old.pass).seen (members_lock _bank) ++ entry.value ∷ []) }
-    ensures own { IsOf hall.now caller.new.pass }
-    ensures left { Leaves (start_of hall.now) (members_lock _bank) entry.value (view caller.old.pass)
-        (view caller.new.pass) }
-    ensures same { (caller.new.session ≡ caller.old.session) × (caller.new.number ≡ caller.old.number) }
-{
-    leave(hall, &mut caller.pass, Part::Members(store), entry);
 }

@@ -1,8 +1,8 @@
 -- Lists of flags that say which names a pass has.
-use Rattle.std.proofs.Common.{◌≡◌, ℕ, ◌+◌, ◌<◌, ◌≤◌, ◌||◌, true, false, Bool, List, length, get_or, set, replicate, refl, sym, ◌∙◌, ap, subst, get_or-set_same, get_or-set_other, length-set, arith}
+use Rattle.std.proofs.Common.{◌≡◌, ℕ, ◌+◌, ◌<◌, ◌≤◌, ◌||◌, true, false, Bool, List, length, get_or, set, replicate, ltb, refl, sym, ◌∙◌, ap, subst, get_or-set_same, get_or-set_other, le-ltb, length-set, lt-ltb, arith}
 use mathlib.Core.Logic.{dite}
 use native.Mathlib.Decide.{dec_le, ℕ_discrete}
-use lib.ListN.{length-replicate}
+use lib.ListN.{get_or-replicate, length-replicate}
 use Rattle.notes.proofs.Names.{blank, past}
 
 -- two lists of one name say the same
@@ -35,3 +35,16 @@ pub united_all : (count : ℕ) (xs ys now : List Bool) → length xs ≡ count �
 united_all count xs ys now left right u k = dite (dec_le count k)
     (λ h. past now k false (let l = u.long in omega arith) ∙ sym ((λ i. past xs k false (omega arith) i || past ys k false (omega arith) i)))
     (λ h. u.before k (omega arith))
+
+-- each flag of a list tells whether its place is below n
+pub told_step : (l : List Bool) (n i : ℕ) → i < length l → ((k : ℕ) → k < i → get_or l k false ≡ ltb k n) → (k : ℕ) → k < i + 1 → get_or (set l i (ltb i n)) k false ≡ ltb k n
+told_step l n i inside told k h = dite (ℕ_discrete k i)
+    (λ (e : k ≡ i). let P : ℕ → Type 0 = λ z. get_or (set l i (ltb i n)) z false ≡ ltb z n in subst P (sym e) (get_or-set_same l i (ltb i n) false inside))
+    (λ ne. get_or-set_other l i k (ltb i n) false ne ∙ told k (omega arith))
+
+pub told_all : (l : List Bool) (n : ℕ) → n ≤ length l → ((k : ℕ) → k < length l → get_or l k false ≡ ltb k n) → (k : ℕ) → get_or (replicate n true) k false ≡ get_or l k false
+told_all l n inside told k = dite (dec_le n k)
+    (λ h. past (replicate n true) k false (let e = length-replicate n true in omega arith) ∙ sym (dite (dec_le (length l) k)
+    (λ far. past l k false far)
+    (λ near. told k (omega arith) ∙ le-ltb k n h)))
+    (λ h. get_or-replicate n k true false (omega arith) ∙ sym (told k (omega arith) ∙ lt-ltb k n (omega arith)))

@@ -20,8 +20,8 @@ impl Names {
         ensures held { AreHeld (replicate passes true) result }
     {
         let mut held = [false; NAMES];
-        for name in 0..passes as usize {
-            held[name] = true;
+        for name in 0..NAMES {
+            held[name] = name < passes as usize;
         }
         Names {
             own: passes - 1,

@@ -22,9 +22,7 @@ use crate::turns::{is_in_turn, no_turns, note};
 use proc_table::{Given, ProcTable};
 use std::alloc::Global;
 use std::marker::Model;
-use tx_events::{
-    Counters, Event, FullXid, Memory, SharedSnap, XactEnd, is_listed, make_one_room,
-};
+use tx_events::{Counters, Event, FullXid, Memory, SharedSnap, XactEnd, is_listed, make_one_room};
 
 /// A history that is legal, and what its events say of ids. A contract sees the life's base, the number of sessions and
 /// the events. An event takes the logarithm of the history's length, and the end of a transaction besides as many steps as

@@ -116,3 +116,7 @@ Distinct-prop (b ∷ bs) = let h = Distinct-prop bs in Prim.hlevel (props, h)
 pub AllAgree-prop : (pages : Pages) (bs : List Buffer) → IsProp (AllAgree pages bs)
 AllAgree-prop pages [] = Prim.hlevel props
 AllAgree-prop pages (b ∷ bs) = let h = AllAgree-prop pages bs in Prim.hlevel (props, h)
+
+pub AllEmpty-prop : (bs : List Buffer) → IsProp (AllEmpty bs)
+AllEmpty-prop [] = Prim.hlevel props
+AllEmpty-prop (b ∷ bs) = let h = AllEmpty-prop bs in Prim.hlevel (props, h)

@@ -1,7 +1,7 @@
 //! The room of banks that are over, for the next ones.
-ghost use Rattle.std.specs.Prelude.{◌≡◌, ◌≤◌, IfErr, IfOk, IfSome, length};
+ghost use Rattle.std.specs.Prelude.{◌≡◌, ◌≤◌, IfErr, IfOk, length};
 ghost use Rattle.disk_core.specs.Pages.{page_bytes};
-ghost use Rattle.slru_bank.specs.Bank.{AllEmpty};
+ghost use Rattle.slru_bank.specs.Bank.{AllEmpty, AllEmpty-prop};
 ghost use Rattle.slru_bank.specs.Crash.{SameMap};
 
 use crate::SlruBank;
@@ -18,20 +18,25 @@ const MOST_BANKS: usize = 64;
 #[derive(Drop)]
 pub struct BankRooms {
     alloc: Global,
-    rooms: Vec<Box<Room>>,
+    rooms: Vec<EmptyRoom>,
+}
+
+// Room with one buffer at least, and no page in any.
+#[derive(Drop)]
+struct EmptyRoom {
+    room: Box<Room>,
+    ghost some: { 1 ≤ length room.value.buffers.items },
+    ghost empty: { AllEmpty room.value.buffers.items } by { AllEmpty-prop room.value.buffers.items },
 }
 
 // The room, if it has a buffer: that one, without its page.
-fn emptied(room: Box<Room>) -> Option<Box<Room>>
-    ensures some { IfSome result (λ room. 1 ≤ length room.value.buffers.items) }
-    ensures empty { IfSome result (λ room. AllEmpty room.value.buffers.items) }
-{
+fn emptied(room: Box<Room>) -> Option<EmptyRoom> {
     let mut room = room;
     room.buffers.truncate(1);
     let buffer = room.buffers.first_mut()?;
     buffer.page = None;
     buffer.changed = false;
-    Some(room)
+    Some(EmptyRoom { room })
 }
 
 impl BankRooms {
@@ -50,10 +55,8 @@ impl BankRooms {
         ensures some { IfOk result (λ room. 1 ≤ length room.value.buffers.items) }
         ensures empty { IfOk result (λ room. AllEmpty room.value.buffers.items) }
     {
-        if let Some(left) = self.rooms.pop()
-            && let Some(room) = emptied(left)
-        {
-            return Ok(room);
+        if let Some(kept) = self.rooms.pop() {
+            return Ok(kept.room);
         }
         // So that `keep` takes no memory. Where there is none, no room is kept.
         let _ = self.rooms.reserve(MOST_BANKS);
@@ -79,16 +82,16 @@ impl BankRooms {
         }
     }
 
-    /// The volume of a bank that is over. Its room is kept, where there is a place for it. Changed pages are not written
-    /// first. Takes no memory.
+    /// The volume of a bank that is over. Its room is kept, where there is a place for it. Changed pages are not
+    /// written first. Takes no memory.
     pub fn keep<P: PageDisk, O: PageRule>(&mut self, bank: SlruBank<P, O>) -> P
         ensures { result ≡ volume_of bank }
     {
         let (disk, room) = bank.into_parts();
-        let mut room = room;
-        if self.rooms.len() < self.rooms.capacity() {
-            room.buffers.truncate(1);
-            self.rooms.push_reserved(room);
+        if self.rooms.len() < self.rooms.capacity()
+            && let Some(kept) = emptied(room)
+        {
+            self.rooms.push_reserved(kept);
         }
         disk
     }

@@ -1,5 +1,4 @@
-use Rattle.std.proofs.Common.{◌≡◌, ◌∷◌, ◌++◌, ◌∙◌, [], List, ℕ, ap, arith, subst, sym}
-use Rattle.script_rounds.specs.Stepped.{EndAt, places_from}
+use Rattle.std.proofs.Common.{◌∷◌, ◌++◌, ◌∙◌, [], List, ℕ, ap, arith, subst, sym}
 use Rattle.script_rounds.specs.declared.places.Places.TheInside.{Inside}
 use Rattle.script_rounds.proofs.Stepping.{IsOneMore, far_more, near_more}
 use Rattle.script_rounds.proofs.places.Places.push.Goals.{After-self-1, then-step-eq0+in_ok-push_far, else-step-eq0+in_ok-push}

@@ -1,25 +1,28 @@
 -- What keeps a session away from the ProcArray.
-use Rattle.std.proofs.Common.{◌≡◌, ◌≢◌, ◌⊎◌, ⊎_elim, inl, inr, ℕ, ◌<◌, ◌==◌, List, [], ◌∷◌, ◌++◌, Result, Ok, Err, Some, append-nil, arith, cond, eq-eqb, length, refl, ap, subst, ◌∙◌}
-use Rattle.std.proofs.lemmas.List.Elements.{filter-append}
-use Rattle.std.specs.List.{AllByRecursion}
+use Rattle.std.proofs.Common.{◌≡◌, ◌≢◌, ◌⊎◌, ⊎_elim, inl, inr, ℕ, ◌<◌, ◌^◌, ◌==◌, List, [], ◌∷◌, ◌++◌, Contains, Result, Ok, Err, None, Some, append-nil, arith, cond, eq-eqb, length, refl, ap, subst, sym, take, ◌∙◌}
+use Rattle.std.proofs.Math.Seq.{take-append_seam}
+use Rattle.std.proofs.lemmas.List.Elements.{Contains-push_cases, filter-append}
+use Rattle.std.specs.List.{AllByRecursion, slice_get}
 use Rattle.notes.specs.Lists.{Grows, Knows, at, own}
 use Rattle.notes.proofs.Growing.{at_else, begins_same}
 use Rattle.store_pages.specs.Layouts.{xact_page_of}
 use Rattle.tx_events.specs.declared.event.By.{By}
 use Rattle.tx_events.specs.declared.refusal.Refusal.{Refusal}
 use Rattle.tx_events.specs.declared.refusal.Refusal.TheVariants as refusals
+use Rattle.tx_events.proofs.PlaceLemmas.{last_at, take-grows}
 use Rattle.tx_core.specs.declared.entry.Entry.{Entry}
 use Rattle.tx_core.specs.declared.entry.Kind.{Kind}
 use Rattle.tx_core.specs.declared.entry.Start.{Start}
-use Rattle.tx_core.specs.Entries.{session_of}
+use Rattle.tx_core.specs.Entries.{cut_in, session_of}
 use Rattle.tx_core.specs.Locks.{proc_lock, xact_lock, xact_lock_of}
-use Rattle.tx_core.proofs.Growing.{contains_begins}
+use Rattle.tx_core.proofs.Growing.{slice_get_begins}
 use Rattle.session_levels.specs.declared.session.Session as plain
 use Rattle.engine_parts.specs.declared.session.Session.{Session}
 use Rattle.engine_parts.specs.Adding.{Adds, AddsNothing}
 use Rattle.engine_parts.specs.Faults.{look_of}
 use Rattle.engine_parts.specs.Holds.{Knowledge, ProcSection, Section}
 use Rattle.engine_parts.specs.Sessions.{IsAt, by_at, look_by}
+use Rattle.engine_parts.specs.Stand.{IsCutoff, first_xact_page}
 use Rattle.engine_parts.proofs.Leaving.{grows_then}
 use Rattle.engine_parts.proofs.Sectioning.{section_list}
 use Rattle.engine_parts.proofs.Unmoved.{look_adds}
@@ -77,20 +80,38 @@ section_own start v w lock e name inside s =
 
 -- ---- a cut page
 
+-- a look cuts nothing, so a cutoff of the list with it is one of the list before
+cutoff_before : (first pages : ℕ) (es : List Entry) (by : By) (cutoff : ℕ) → IsCutoff first pages (es ++ look_of by ∷ []) cutoff → IsCutoff first pages es cutoff
+cutoff_before first pages es by cutoff c = (c.0, c.1, c.2, ⊎_elim inl (λ z. inr (z.0, earlier z.0 z.1 z.2, z.2)) c.3)
+  where
+    earlier : (e : Entry) → Contains (es ++ look_of by ∷ []) e → cut_in e.kind ≡ Some c.0 → Contains es e
+    earlier e has cuts = ⊎_elim
+        (λ (before : Contains es e). before)
+        (λ (last : look_of by ≡ e). let none : None ≡ Some c.0 = ap (λ (f : Entry). cut_in f.kind) last ∙ cuts in absurd cc)
+        (Contains-push_cases es (look_of by) e has)
+
 -- it was found in a critical section of its bank, and then the ProcArray was looked into
 pub found_cut : (start : Start) (v u w : Knowledge) (n n' : ℕ) (s s' : Session) (bank x cutoff : ℕ) → bank < start.banks → n' ≡ n → s' ≡ s → IsAt start v n s → IsAt start u n' s' → xact_lock_of start x ≡ xact_lock bank
     → Section start (xact_lock bank) (look_by n s) v u → IsXactCut start u.seen bank (xact_page_of x) cutoff → ProcSection start (look_by n' s') u w → Grows u.seen w.seen → FoundCut start (by_at n s.levels.commands) v.seen w.seen x
 found_cut start v u w n n' s s' bank x cutoff inside number same a b place section is look g =
     let lock : ℕ = xact_lock bank in
+    let by : By = by_at n s.levels.commands in
     let wide = a.wide in
     let there : xact_lock bank < length v.seen = omega arith in
-    let c = is.0 in
+    let es : List Entry = at section.within.seen lock in
+    let list : at u.seen lock ≡ es ++ look_of by ∷ [] = section_list start v u lock (look_by n s) section there in
+    let seam : take (length es) (at u.seen lock) ≡ es = ap (take (length es)) list ∙ take-append_seam es (look_of by ∷ []) in
+    let here : slice_get (at u.seen lock) (length es) ≡ Some (look_of by) = ap (λ (t : List Entry). slice_get t (length es)) list ∙ last_at es (look_of by) in
+    let front : take (length es) (at w.seen lock) ≡ es = ap (take (length es)) (sym (g.begins lock).1) ∙ (take-grows (at u.seen lock) (g.begins lock).0 _ (length es) here ∙ seam) in
     let still : own session_of n (at w.seen lock) ≡ own session_of n (at u.seen lock) = subst (λ z. own session_of z (at w.seen lock) ≡ own session_of z (at u.seen lock)) number (look_still start u w n' s' bank inside b look) in record {
       bank = bank;
       lock = place;
       looked = still ∙ section_own start v u lock (look_by n s) a.name there section;
+      place = length es;
+      look = slice_get_begins (at u.seen lock) (at w.seen lock) (length es) (look_of by) (g.begins lock) here;
       cutoff = cutoff;
-      cut = ((c.0, c.1, c.2, ⊎_elim inl (λ z. inr (z.0, contains_begins (at u.seen lock) (at w.seen lock) z.0 (g.begins lock) z.1, z.2)) c.3), is.1);
+      is_cutoff = subst (λ (t : List Entry). IsCutoff (first_xact_page start) (2 ^ 17) t cutoff) (sym front) (cutoff_before (first_xact_page start) (2 ^ 17) es by cutoff (subst (λ (t : List Entry). IsCutoff (first_xact_page start) (2 ^ 17) t cutoff) list is.0));
+      cut = is.1;
     }
 
 -- before it the command had added nothing
@@ -101,7 +122,10 @@ found_later start by by' a b c x same still f =
       bank = f.bank;
       lock = f.lock;
       looked = looked ∙ ap (λ (es : List Entry). es ++ look_of by ∷ []) (still lock);
+      place = f.place;
+      look = f.look ∙ ap (λ (z : By). Some (look_of z)) same;
       cutoff = f.cutoff;
+      is_cutoff = f.is_cutoff;
       cut = f.cut;
     }
 
@@ -109,10 +133,11 @@ grows_self : (lists : List (List Entry)) → Grows lists lists
 grows_self lists = record { begins = λ place. begins_same (at lists place) }
 
 -- what is shown of an id
-pub shown_apart : {T : Type 0} (start : Start) (by : By) (lists more : List (List Entry)) (s : plain.Session) (name : List ℕ) (x : ℕ) (g : Glance) (r : Result T Refusal) → HasGlanced s name x (Some g) → KeepsApart (FoundCut start by lists more g.id) by.session lists more r → ApartOrMet start by s name lists more
+pub shown_apart : {T : Type 0} (start : Start) (by : By) (lists more : List (List Entry)) (s : plain.Session) (name : List ℕ) (x : ℕ) (g : Glance) (r : Result T Refusal) → HasGlanced s name x (Some g) → KeepsApart (FoundCut start by lists more g.id) by.session lists more r → ApartOrMet start by s name (λ z. z ≡ x) lists more
 shown_apart start by lists more s name x g (Ok shown) h apart = inl apart
 shown_apart start by lists more s name x g (Err (refusals.TooOld oldest)) h apart = ⊎_elim inl (λ found. inr (record {
   x = x;
+  asked = refl;
   before = lists;
   behind = more;
   since = grows_self lists;
@@ -121,23 +146,37 @@ shown_apart start by lists more s name x g (Err (refusals.TooOld oldest)) h apar
 })) apart
 shown_apart start by lists more s name x g (Err r) h apart = inl apart
 
+-- what was asked for so was asked for otherwise too
+pub met_wider : (start : Start) (by : By) (s : plain.Session) (name : List ℕ) (IsOne IsAsked : ℕ → Type 0) (a b : List (List Entry)) → ((x : ℕ) → IsOne x → IsAsked x) → ApartOrMet start by s name IsOne a b → ApartOrMet start by s name IsAsked a b
+met_wider start by s name IsOne IsAsked a b wider = ⊎_elim inl (λ (met : MetCut start by s name IsOne a b). inr (record {
+  x = met.x;
+  asked = wider met.x met.asked;
+  before = met.before;
+  behind = met.behind;
+  since = met.since;
+  till = met.till;
+  found = met.found;
+}))
+
 -- one step that stayed away or met a cut page after another
-pub met_then : (start : Start) (n m : ℕ) (s t : Session) (name : List ℕ) (a b c : List (List Entry)) → m ≡ n → t ≡ s → Grows a b → Grows b c
-    → ApartOrMet start (by_at n s.levels.commands) s.levels name a b → ApartOrMet start (by_at m t.levels.commands) t.levels name b c → ApartOrMet start (by_at n s.levels.commands) s.levels name a c
-met_then start n m s t name a b c number same before behind first second =
+pub met_then : (start : Start) (n m : ℕ) (s t : Session) (name : List ℕ) (IsAsked : ℕ → Type 0) (a b c : List (List Entry)) → m ≡ n → t ≡ s → Grows a b → Grows b c
+    → ApartOrMet start (by_at n s.levels.commands) s.levels name IsAsked a b → ApartOrMet start (by_at m t.levels.commands) t.levels name IsAsked b c → ApartOrMet start (by_at n s.levels.commands) s.levels name IsAsked a c
+met_then start n m s t name IsAsked a b c number same before behind first second =
     let by : By = by_at n s.levels.commands in
-    let here : ApartOrMet start by s.levels name b c = subst (λ (z : ℕ × Session). ApartOrMet start (by_at z.0 z.1.levels.commands) z.1.levels name b c) (λ j. (number j, same j)) second in
+    let here : ApartOrMet start by s.levels name IsAsked b c = subst (λ (z : ℕ × Session). ApartOrMet start (by_at z.0 z.1.levels.commands) z.1.levels name IsAsked b c) (λ j. (number j, same j)) second in
     ⊎_elim
-    (λ (apart : StaysApart n a b). ⊎_elim (λ (more : StaysApart n b c). inl (more ∙ apart)) (λ (met : MetCut start by s.levels name b c). inr (record {
+    (λ (apart : StaysApart n a b). ⊎_elim (λ (more : StaysApart n b c). inl (more ∙ apart)) (λ (met : MetCut start by s.levels name IsAsked b c). inr (record {
       x = met.x;
+      asked = met.asked;
       before = met.before;
       behind = met.behind;
       since = grows_then a b met.before before met.since;
       till = met.till;
       found = met.found;
     })) here)
-    (λ (met : MetCut start by s.levels name a b). inr (record {
+    (λ (met : MetCut start by s.levels name IsAsked a b). inr (record {
       x = met.x;
+      asked = met.asked;
       before = met.before;
       behind = met.behind;
       since = met.since;
@@ -152,16 +191,17 @@ pub counted_apart : (n m : ℕ) (v u w : Knowledge) → u ≡ v → m ≡ n → 
 counted_apart n m v u w pass number apart = subst (λ (z : Knowledge). StaysApart n z.seen w.seen) pass (subst (λ z. StaysApart z u.seen w.seen) number apart)
 
 -- neither does what comes before the members are judged
-pub counted_met : (start : Start) (n m k : ℕ) (s : Session) (name : List ℕ) (v u a b : Knowledge) (commands : ℕ) (levels : plain.Session) → u ≡ v → m ≡ n → k ≡ m → s.levels ≡ record levels { commands = commands } → Grows u.seen a.seen
-    → StaysApart m u.seen a.seen → ApartOrMet start (by_at k s.levels.commands) s.levels name a.seen b.seen → ApartOrMet start (by_at n commands) levels name v.seen b.seen
-counted_met start n m k s name v u a b commands levels pass number kept is grows first second =
+pub counted_met : (start : Start) (n m k : ℕ) (s : Session) (name : List ℕ) (IsAsked : ℕ → Type 0) (v u a b : Knowledge) (commands : ℕ) (levels : plain.Session) → u ≡ v → m ≡ n → k ≡ m → s.levels ≡ record levels { commands = commands } → Grows u.seen a.seen
+    → StaysApart m u.seen a.seen → ApartOrMet start (by_at k s.levels.commands) s.levels name IsAsked a.seen b.seen → ApartOrMet start (by_at n commands) levels name IsAsked v.seen b.seen
+counted_met start n m k s name IsAsked v u a b commands levels pass number kept is grows first second =
     let counted : plain.Session = record levels { commands = commands } in
     let before : Grows v.seen a.seen = subst (λ (z : Knowledge). Grows z.seen a.seen) pass grows in
-    let here : ApartOrMet start (by_at n commands) counted name a.seen b.seen = subst (λ (z : ℕ × plain.Session). ApartOrMet start (by_at z.0 z.1.commands) z.1 name a.seen b.seen) (λ j. ((kept ∙ number) j, is j)) second in
+    let here : ApartOrMet start (by_at n commands) counted name IsAsked a.seen b.seen = subst (λ (z : ℕ × plain.Session). ApartOrMet start (by_at z.0 z.1.commands) z.1 name IsAsked a.seen b.seen) (λ j. ((kept ∙ number) j, is j)) second in
     ⊎_elim
     (λ (apart : StaysApart n a.seen b.seen). inl (apart ∙ counted_apart n m v u a pass number first))
-    (λ (met : MetCut start (by_at n commands) counted name a.seen b.seen). inr (record {
+    (λ (met : MetCut start (by_at n commands) counted name IsAsked a.seen b.seen). inr (record {
       x = met.x;
+      asked = met.asked;
       before = met.before;
       behind = met.behind;
       since = grows_then v.seen a.seen met.before before met.since;

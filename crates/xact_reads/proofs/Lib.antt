@@ -4,6 +4,7 @@ pub mod Climbing
 pub mod Showing
 pub mod Going
 pub mod Aparting
+pub mod Asking
 pub mod Replying
 pub mod Looking
 pub mod Standing

@@ -8,8 +8,10 @@ use Rattle.tx_events.specs.Nearest.{near_id}
 use Rattle.tx_events.specs.declared.event.By.{By}
 use Rattle.tx_events.specs.declared.event.Event.TheVariants as events
 use Rattle.tx_events.specs.declared.multi.Member.{Member}
+use Rattle.tx_events.specs.declared.multi.Mode.{Mode}
 use Rattle.tx_events.specs.declared.multi.MultiEvent.{MultiEvent}
 use Rattle.tx_events.specs.declared.multi.MultiEvent.TheVariants as multis
+use Rattle.tx_events.specs.declared.order.Xid.{Xid}
 use Rattle.tx_events.specs.declared.record.Rec.TheVariants as records
 use Rattle.tx_events.specs.declared.refusal.Lock.TheVariants as locks
 use Rattle.tx_events.specs.declared.refusal.Refusal.{Refusal}
@@ -95,6 +97,10 @@ pub record AreReadFrom (start : Start) (lists : List (List Entry)) (offset count
 
 -- ---- its members
 
+-- one of these slots has this stored id
+abbrev pub IsStoredIn : List Slot → ℕ → Type 0
+IsStoredIn slots x = (id : Xid) × (mode : Mode) × (id.number ≡ x) × Contains slots (found.Is id mode)
+
 -- a multixact has these members, by its event or by its record from before the life
 abbrev pub HasMembersIn : Start → List (List Entry) → ℕ → List Member → Type 0
 HasMembersIn start lists multi members =
@@ -176,6 +182,22 @@ ReadsMulti start told n s m lists more slots (Ok x) =
 ReadsMulti start told n s m lists more slots (Err r) =
     (WentMulti n [] lists more × IsNotPinned start.base (multi_history more) m r)
     ⊎ ((multi : ℕ) × PinsOnce start n s m lists more multi × IsUnseen start told lists more (by_at n s.levels.commands) r)
+
+-- The stored id is that of a member of the multixact which the number meant when the command pinned it.
+pub record IsOfMember (start : Start) (by : By) (m : ℕ) (lists : List (List Entry)) (x : ℕ) : Type 0 where
+  pub multi : ℕ
+  pub place : ℕ
+  pub pin : slice_get (multi_history lists) place ≡ Some (multis.Hold by multi)
+  pub near : near_id (next_made start.base.multi (take place (multi_history lists))) m ≡ Some multi
+  pub members : List Member
+  pub has : HasMembersIn start lists multi members
+  pub member : Member
+  pub one : Contains members member
+  pub stored : low_half member.id ≡ x
+
+-- so it is in a life of few multixacts, where the volumes tell
+abbrev pub IsAskedMember : Start → Type 0 → By → ℕ → List (List Entry) → ℕ → Type 0
+IsAskedMember start told by m lists x = told → AreFewMultis lists → IsOfMember start by m lists x
 
 -- the verdicts on these stored members
 abbrev pub AreJudged : Start → List (List Entry) → RegisteredSnapshot → List Pair → List MemberVerdict → Type 0

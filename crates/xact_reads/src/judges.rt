@@ -13,7 +13,7 @@ ghost use Rattle.engine_parts.specs.Sessions.{IsReady, by_at};
 ghost use Rattle.engine_parts.specs.Steps.{WentOn};
 ghost use Rattle.xact_reads.specs.Apart.{ApartOrMet};
 ghost use Rattle.xact_reads.specs.Glances.{HasGlanced, IsNamed};
-ghost use Rattle.xact_reads.specs.Multis.{AreJudged, IsCarried, IsJudgedNormal, IsVerdictOn, JudgesSlot, judged_refusal, pair_in};
+ghost use Rattle.xact_reads.specs.Multis.{AreJudged, IsCarried, IsJudgedNormal, IsStoredIn, IsVerdictOn, JudgesSlot, judged_refusal, pair_in};
 
 use crate::glances::{Glance, glance_at};
 use crate::shows::show;
@@ -66,14 +66,16 @@ fn refused_on(refusal: Refusal) -> Result<Verdict, Refusal>
     }
 }
 
-/// The verdict on the full id that a stored member means to the snapshot of this name: too old where it is before this
-/// oldest id, or its state is cut by now (`HeapTupleSatisfiesMVCC` of `src/backend/access/heap/heapam_visibility.c`).
+/// The verdict on the full id that the stored member `_x` means to the snapshot of this name: too old where it is before
+/// this oldest id, or its state is cut by now (`HeapTupleSatisfiesMVCC` of
+/// `src/backend/access/heap/heapam_visibility.c`).
 fn judge_glance<R: Passing, L: LogDisk, P: PageDisk>(
     rt: &R,
     hall: &Hall<EngineLaw<L, P>>,
     caller: &mut Caller<L, P>,
     banks: u32,
     name: &Name,
+    _x: Xid,
     glance: Glance,
     oldest: u64,
 ) -> Result<Verdict, Refusal>
@@ -81,14 +83,14 @@ fn judge_glance<R: Passing, L: LogDisk, P: PageDisk>(
     requires laid { hall.now.cells ≡ 3 + 4 * (start_of hall.now).banks }
     requires banks { (banks ≡ (start_of hall.now).banks) × (1 ≤ banks) × (banks ≤ 16) }
     requires ready { IsReady (start_of hall.now) (view caller.old.pass) caller.old.number caller.old.session }
-    requires glanced { (x : ℕ) × HasGlanced caller.old.session.levels name.now x (Some glance) }
+    requires glanced { HasGlanced caller.old.session.levels name.now _x.number (Some glance) }
     requires oldest { IsCarried (start_of hall.now) (view caller.old.pass).seen oldest }
     requires from { (start_of hall.now).base.oldest ≤ oldest }
     ensures own { IsOf hall.now caller.new.pass }
     ensures ready { IsReady (start_of hall.now) (view caller.new.pass) caller.new.number caller.new.session }
     ensures went { WentOn caller.old.number [] (view caller.old.pass).seen (view caller.new.pass).seen }
     ensures apart { ApartOrMet (start_of hall.now) (by_at caller.old.number caller.old.session.levels.commands)
-        caller.old.session.levels name.now (view caller.old.pass).seen (view caller.new.pass).seen }
+        caller.old.session.levels name.now (λ x. x ≡ _x.number) (view caller.old.pass).seen (view caller.new.pass).seen }
     ensures adds { Adds (by_at caller.old.number caller.old.session.levels.commands) (MayFault result)
         (view caller.old.pass).seen (view caller.new.pass).seen }
     ensures said { IsTrue P.tells → AreFewIds (view caller.new.pass).seen → (k : RegisteredSnapshot)
@@ -129,7 +131,7 @@ fn judge<R: Passing, L: LogDisk, P: PageDisk>(
     ensures ready { IsReady (start_of hall.now) (view caller.new.pass) caller.new.number caller.new.session }
     ensures went { WentOn caller.old.number [] (view caller.old.pass).seen (view caller.new.pass).seen }
     ensures apart { ApartOrMet (start_of hall.now) (by_at caller.old.number caller.old.session.levels.commands)
-        caller.old.session.levels name.now (view caller.old.pass).seen (view caller.new.pass).seen }
+        caller.old.session.levels name.now (λ z. z ≡ x.number) (view caller.old.pass).seen (view caller.new.pass).seen }
     ensures adds { Adds (by_at caller.old.number caller.old.session.levels.commands) (MayFault result)
         (view caller.old.pass).seen (view caller.new.pass).seen }
     ensures said { IsTrue P.tells → AreFewIds (view caller.new.pass).seen → (k : RegisteredSnapshot)
@@ -158,7 +160,7 @@ fn judge<R: Passing, L: LogDisk, P: PageDisk>(
         Some(glance) => {
             let id = glance.id;
             known(id);
-            match judge_glance(rt, hall, caller, banks, name, glance, oldest) {
+            match judge_glance(rt, hall, caller, banks, name, x, glance, oldest) {
                 Ok(verdict) => Ok(MemberVerdict { id, mode, verdict }),
                 Err(refusal) => Err(refusal),
             }
@@ -203,7 +205,7 @@ fn judge_slot<R: Passing, L: LogDisk, P: PageDisk>(
     ensures ready { IsReady (start_of hall.now) (view caller.new.pass) caller.new.number caller.new.session }
     ensures went { WentOn caller.old.number [] (view caller.old.pass).seen (view caller.new.pass).seen }
     ensures apart { ApartOrMet (start_of hall.now) (by_at caller.old.number caller.old.session.levels.commands)
-        caller.old.session.levels name.now (view caller.old.pass).seen (view caller.new.pass).seen }
+        caller.old.session.levels name.now (IsStoredIn (slot ∷ [])) (view caller.old.pass).seen (view caller.new.pass).seen }
     ensures adds { Adds (by_at caller.old.number caller.old.session.levels.commands) (MayFault result)
         (view caller.old.pass).seen (view caller.new.pass).seen }
     ensures said { IsTrue P.tells → AreFewIds (view caller.new.pass).seen
@@ -251,7 +253,7 @@ pub(crate) fn judge_all<R: Passing, L: LogDisk, P: PageDisk>(
     ensures ready { IsReady (start_of hall.now) (view caller.new.pass) caller.new.number caller.new.session }
     ensures went { WentOn caller.old.number [] (view caller.old.pass).seen (view caller.new.pass).seen }
     ensures apart { ApartOrMet (start_of hall.now) (by_at caller.old.number caller.old.session.levels.commands)
-        caller.old.session.levels name.now (view caller.old.pass).seen (view caller.new.pass).seen }
+        caller.old.session.levels name.now (IsStoredIn slots.now) (view caller.old.pass).seen (view caller.new.pass).seen }
     ensures adds { Adds (by_at caller.old.number caller.old.session.levels.commands) (MayFault result)
         (view caller.old.pass).seen (view caller.new.pass).seen }
     ensures said { IsTrue P.tells → AreFewIds (view caller.new.pass).seen

@@ -8,7 +8,7 @@ ghost use Rattle.engine_parts.specs.Answers.{reply_of};
 ghost use Rattle.engine_parts.specs.Calls.{MayRun, Ran, next_command};
 ghost use Rattle.engine_parts.specs.Sessions.{IsReady, by_at};
 ghost use Rattle.xact_reads.specs.Apart.{ApartOrMet, StaysApart};
-ghost use Rattle.xact_reads.specs.Multis.{ReadsMulti};
+ghost use Rattle.xact_reads.specs.Multis.{IsAskedMember, ReadsMulti};
 
 use crate::gathers::gather;
 use crate::judges::{MOST_MEMBERS, judge_all};
@@ -88,7 +88,9 @@ pub fn see_multi<R: Passing, L: LogDisk, P: PageDisk>(
     ensures ran { Ran hall.now (next_command caller.old) (commands.SeeMulti name.now m) (reply_of replies.Verdicts result)
         caller.old caller.new }
     ensures apart { ApartOrMet (start_of hall.now) (by_at caller.old.number (next_command caller.old))
-        caller.old.session.levels name.now (view caller.old.pass).seen (view caller.new.pass).seen }
+        caller.old.session.levels name.now (IsAskedMember (start_of hall.now) (IsTrue P.tells)
+        (by_at caller.old.number (next_command caller.old)) m.number (view caller.new.pass).seen)
+        (view caller.old.pass).seen (view caller.new.pass).seen }
 {
     count(caller);
     match registered_as(&caller.session.levels, name) {

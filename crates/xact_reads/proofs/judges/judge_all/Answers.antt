@@ -11,8 +11,9 @@ use Rattle.engine_parts.proofs.Adding.{adds_wider, plain_meets}
 use Rattle.engine_parts.proofs.Answering.{few_before}
 use Rattle.engine_parts.specs.declared.session.Session.{Session}
 use Rattle.xact_reads.specs.Glances.{IsNamed}
-use Rattle.xact_reads.specs.Multis.{AreJudged, IsCarried, pair_in}
-use Rattle.xact_reads.proofs.Aparting.{met_then, nothing_still}
+use Rattle.xact_reads.specs.Multis.{AreJudged, IsCarried, IsStoredIn, pair_in}
+use Rattle.xact_reads.proofs.Aparting.{met_then, met_wider, nothing_still}
+use Rattle.xact_reads.proofs.Asking.{stored_at}
 use Rattle.xact_reads.proofs.Going.{read_adds, went_both}
 use Rattle.xact_reads.proofs.Judging.{all_later, carried_later}
 use Rattle.xact_reads.proofs.Replying.{named_at}
@@ -85,7 +86,8 @@ loop-place-preserved g c =
           (judged_slot start (view w.pass).seen k (take c.loop-place.place c.args.slots.now) _ c.loop-place.into.items c.judge_slot.new.into.items before one);
       ranges = e.ranges i.ranges;
       adds = read_adds old.number u.number old.session u.session IsPlain (view old.pass).seen (view u.pass).seen (view w.pass).seen i.same.1 i.same.0 (λ lock kind m. m) i.adds e.adds;
-      apart = met_then start old.number u.number old.session u.session c.args.name.now (view old.pass).seen (view u.pass).seen (view w.pass).seen i.same.1 i.same.0 i.went.on.grows e.went.on.grows i.apart e.apart;
+      apart = met_then start old.number u.number old.session u.session c.args.name.now (IsStoredIn c.args.slots.now) (view old.pass).seen (view u.pass).seen (view w.pass).seen i.same.1 i.same.0 i.went.on.grows e.went.on.grows i.apart
+          (met_wider start (by_at u.number u.session.levels.commands) u.session.levels c.args.name.now _ (IsStoredIn c.args.slots.now) (view u.pass).seen (view w.pass).seen (stored_at c.args.slots.now c.loop-place.place _ inside) e.apart);
     }
 
 pub returns-clause-said : goal.returns-clause-said
@@ -102,7 +104,10 @@ returns-in-Err-clause-apart g c =
     let u = c.loop-place.caller in
     let i = c.loop-place.invariant in
     let e = c.in-Err.ensures in
-    met_then (start_of c.args.hall.now) old.number u.number old.session u.session c.args.name.now (view old.pass).seen (view u.pass).seen (view c.judge_slot.new.caller.pass).seen i.same.1 i.same.0 i.went.on.grows e.went.on.grows i.apart e.apart
+    let start = start_of c.args.hall.now in
+    let w = (view c.judge_slot.new.caller.pass).seen in
+    met_then start old.number u.number old.session u.session c.args.name.now (IsStoredIn c.args.slots.now) (view old.pass).seen (view u.pass).seen w i.same.1 i.same.0 i.went.on.grows e.went.on.grows i.apart
+    (met_wider start (by_at u.number u.session.levels.commands) u.session.levels c.args.name.now _ (IsStoredIn c.args.slots.now) (view u.pass).seen w (stored_at c.args.slots.now c.loop-place.place _ c.loop-place-test.true) e.apart)
 
 pub returns-clause-apart : goal.returns-clause-apart
 returns-clause-apart g c = c.loop-place.invariant.apart

@@ -9,7 +9,7 @@ use Rattle.engine_parts.specs.Sessions.{IsReady, by_at}
 use Rattle.engine_parts.specs.Steps.{WentOn}
 use Rattle.xact_reads.specs.Apart.{ApartOrMet}
 use Rattle.xact_reads.specs.Glances.{IsNamed}
-use Rattle.xact_reads.specs.Multis.{AreJudged, IsCarried, pair_in}
+use Rattle.xact_reads.specs.Multis.{AreJudged, IsCarried, IsStoredIn, pair_in}
 use Rattle.xact_reads.proofs.judges.judge_all.Given as goal
 
 abbrev pub invariant-loop-place : goal.invariant-loop-place
@@ -25,7 +25,7 @@ invariant-loop-place g l = record {
   said : IsTrue g.P.PageDisk.tells → AreFewIds (view l.caller.pass).seen → length (filter_map pair_in l.slots) ≤ 64 → (k : RegisteredSnapshot) → IsNamed l.fn.caller.session.levels l.name k → AreJudged (start_of l.hall) (view l.caller.pass).seen k (filter_map pair_in (take l.place l.slots)) l.into.items;
   ranges : AllByRecursion IsOfId l.into.items;
   adds : Adds (by_at l.fn.caller.number l.fn.caller.session.levels.commands) IsPlain (view l.fn.caller.pass).seen (view l.caller.pass).seen;
-  apart : ApartOrMet (start_of l.hall) (by_at l.fn.caller.number l.fn.caller.session.levels.commands) l.fn.caller.session.levels l.name (view l.fn.caller.pass).seen (view l.caller.pass).seen;
+  apart : ApartOrMet (start_of l.hall) (by_at l.fn.caller.number l.fn.caller.session.levels.commands) l.fn.caller.session.levels l.name (IsStoredIn l.slots) (view l.fn.caller.pass).seen (view l.caller.pass).seen;
 }
 
 abbrev pub decreases-loop-place : goal.decreases-loop-place

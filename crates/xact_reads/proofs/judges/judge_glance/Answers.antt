@@ -46,4 +46,7 @@ pub returns-in-Err-clause-apart : goal.returns-in-Err-clause-apart
 returns-in-Err-clause-apart g c =
     let old = c.args.caller.now in
     let r : Result Bool Refusal = Err c.in-Err.refusal in
-    shown_apart (start_of c.args.hall.now) (by_at old.number old.session.levels.commands) (view old.pass).seen (view c.show.new.caller.pass).seen old.session.levels c.args.name.now c.requires.glanced.0 c.args.glance r c.requires.glanced.1 c.in-Err.ensures.apart
+    shown_apart (start_of c.args.hall.now) (by_at old.number old.session.levels.commands) (view old.pass).seen (view c.show.new.caller.pass).seen old.session.levels c.args.name.now c.args._x.number c.args.glance r c.requires.glanced c.in-Err.ensures.apart
+
+pub show-requires-clause-glanced : goal.show-requires-clause-glanced
+show-requires-clause-glanced g c = (c.args._x.number, c.requires.glanced)

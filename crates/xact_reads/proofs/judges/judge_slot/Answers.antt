@@ -1,4 +1,4 @@
-use Rattle.std.proofs.Common.{[], arith, inl, length, refl, subst, sym, ◌+◌, ◌∷◌, ◌≤◌}
+use Rattle.std.proofs.Common.{[], arith, inl, length, refl, subst, sym, ◌+◌, ◌∷◌, ◌≡◌, ◌≤◌}
 use Rattle.std.specs.List.{filter_map}
 use Rattle.hall.specs.Calls.{view, start_of}
 use Rattle.bank_stores.specs.declared.slot.Slot.{Slot}
@@ -6,7 +6,9 @@ use Rattle.engine_parts.specs.Adding.{IsPlain}
 use Rattle.engine_parts.specs.Sessions.{by_at}
 use Rattle.engine_parts.proofs.Adding.{adds_nothing}
 use Rattle.engine_parts.proofs.Stepping.{went_nowhere}
-use Rattle.xact_reads.specs.Multis.{JudgesSlot, pair_in}
+use Rattle.xact_reads.specs.Multis.{IsStoredIn, JudgesSlot, pair_in}
+use Rattle.xact_reads.proofs.Aparting.{met_wider}
+use Rattle.xact_reads.proofs.Asking.{stored_here}
 use Rattle.xact_reads.proofs.judges.judge_slot.Goals as goal
 
 pub returns-in-Ok-clause-said : goal.returns-in-Ok-clause-said
@@ -53,3 +55,15 @@ returns-in-Odd g c =
       fault = tt;
       same = (refl, refl);
     }
+
+pub returns-in-Ok-clause-apart : goal.returns-in-Ok-clause-apart
+returns-in-Ok-clause-apart g c =
+    let old = c.args.caller.now in
+    met_wider (start_of c.args.hall.now) (by_at old.number old.session.levels.commands) old.session.levels c.args.name.now (λ z. z ≡ c.in-Is.x.number) (IsStoredIn (c.args.slot ∷ [])) (view old.pass).seen (view c.judge.new.caller.pass).seen
+    (stored_here c.args.slot c.in-Is.x c.in-Is.mode c.in-Is.is) c.in-Ok.ensures.apart
+
+pub returns-in-Err-clause-apart : goal.returns-in-Err-clause-apart
+returns-in-Err-clause-apart g c =
+    let old = c.args.caller.now in
+    met_wider (start_of c.args.hall.now) (by_at old.number old.session.levels.commands) old.session.levels c.args.name.now (λ z. z ≡ c.in-Is.x.number) (IsStoredIn (c.args.slot ∷ [])) (view old.pass).seen (view c.judge.new.caller.pass).seen
+    (stored_here c.args.slot c.in-Is.x c.in-Is.mode c.in-Is.is) c.in-Err.ensures.apart

@@ -8,7 +8,7 @@ use Rattle.session_levels.proofs.ActsLemmas.{snap_found}
 use Rattle.engine_parts.specs.declared.session.Session.{Session}
 use Rattle.engine_parts.specs.Adding.{IsPlain, MayMeet}
 use Rattle.engine_parts.specs.Calls.{Ran, next_command}
-use Rattle.engine_parts.specs.Sessions.{stance_of}
+use Rattle.engine_parts.specs.Sessions.{by_at, stance_of}
 use Rattle.engine_parts.specs.Steps.{WentOn}
 use Rattle.engine_parts.proofs.Adding.{plain_meets}
 use Rattle.engine_parts.proofs.Calling.{may_counted}
@@ -19,8 +19,10 @@ use Rattle.bank_sections.specs.Faults.{IsBankFault}
 use Rattle.std.specs.List.{filter_map}
 use Rattle.bank_stores.specs.declared.slot.Slot.{Slot}
 use Rattle.xact_reads.specs.Glances.{IsNamed}
-use Rattle.xact_reads.specs.Multis.{AreJudged, pair_in}
-use Rattle.xact_reads.proofs.Aparting.{counted_apart, counted_met}
+use Rattle.xact_reads.specs.Multis.{AreJudged, IsStoredIn, pair_in}
+use Rattle.xact_reads.specs.Apart.{ApartOrMet}
+use Rattle.xact_reads.proofs.Aparting.{counted_apart}
+use Rattle.xact_reads.proofs.Asking.{met_asked}
 use Rattle.xact_reads.proofs.Going.{read_adds}
 use Rattle.xact_reads.proofs.MultiRunning.{ran_judged, ran_short, ran_unjudged, ran_unnamed, ran_unread}
 use Rattle.xact_reads.proofs.Pinning.{multi_quiet}
@@ -128,8 +130,11 @@ returns-in-Ok-judge_all-clause-apart g c =
     let u = c.count.new.caller in
     let mid = c.read_pinned.new.caller in
     let e = c.in-Ok-read_pinned.ensures in
-    counted_met (start_of c.args.hall.now) old.number u.number mid.number mid.session c.args.name.now (view old.pass) (view u.pass) (view mid.pass) (view c.judge_all.new.caller.pass) (next_command old) old.session.levels (ap view c.count.ensures.pass) c.count.ensures.number e.same.1
-    (ap (λ (z : Session). z.levels) e.same.0 ∙ c.count.ensures.levels) e.reads.1.went.grows e.apart c.in-Ok-judge_all.ensures.apart
+    let w = view c.judge_all.new.caller.pass in
+    let f = c.in-Ok-judge_all.ensures in
+    let went = multi_quiet u.number (view mid.pass).seen w.seen (subst (λ z. WentOn z [] (view mid.pass).seen w.seen) e.same.1 f.went) in
+    met_asked (start_of c.args.hall.now) _ old.number u.number mid.number u.session mid.session c.args.name.now c.args.m.number (view old.pass) (view u.pass) (view mid.pass) w (next_command old) old.session.levels c.read_pinned.new.into.items (ap view c.count.ensures.pass) c.count.ensures.number e.same.1 e.same.0 c.count.ensures.levels
+    e.reads went e.apart (subst (λ (t : List Slot). ApartOrMet (start_of c.args.hall.now) (by_at mid.number mid.session.levels.commands) mid.session.levels c.args.name.now (IsStoredIn t) (view mid.pass).seen w.seen) c.deref.ensures.value f.apart)
 
 pub returns-clause-apart : goal.returns-clause-apart
 returns-clause-apart g c =
@@ -137,5 +142,8 @@ returns-clause-apart g c =
     let u = c.count.new.caller in
     let mid = c.read_pinned.new.caller in
     let e = c.in-Ok-read_pinned.ensures in
-    counted_met (start_of c.args.hall.now) old.number u.number mid.number mid.session c.args.name.now (view old.pass) (view u.pass) (view mid.pass) (view c.judge_all.new.caller.pass) (next_command old) old.session.levels (ap view c.count.ensures.pass) c.count.ensures.number e.same.1
-    (ap (λ (z : Session). z.levels) e.same.0 ∙ c.count.ensures.levels) e.reads.1.went.grows e.apart c.in-Err-judge_all.ensures.apart
+    let w = view c.judge_all.new.caller.pass in
+    let f = c.in-Err-judge_all.ensures in
+    let went = multi_quiet u.number (view mid.pass).seen w.seen (subst (λ z. WentOn z [] (view mid.pass).seen w.seen) e.same.1 f.went) in
+    met_asked (start_of c.args.hall.now) _ old.number u.number mid.number u.session mid.session c.args.name.now c.args.m.number (view old.pass) (view u.pass) (view mid.pass) w (next_command old) old.session.levels c.read_pinned.new.into.items (ap view c.count.ensures.pass) c.count.ensures.number e.same.1 e.same.0 c.count.ensures.levels
+    e.reads went e.apart (subst (λ (t : List Slot). ApartOrMet (start_of c.args.hall.now) (by_at mid.number mid.session.levels.commands) mid.session.levels c.args.name.now (IsStoredIn t) (view mid.pass).seen w.seen) c.deref.ensures.value f.apart)

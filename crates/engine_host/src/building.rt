@@ -164,10 +164,10 @@ pub(crate) fn taken_apart<L: LogDisk + Drop, P: PageDisk + Drop>(
     ensures log { result.log ≡ log_disk log.value }
     ensures volumes { (k : Store) → (volumes_in k (banks_of result)).items ≡ disks_in k locks.items ++ (volumes_in k volumes).items }
 {
-    with_log(
-        Box::into_inner(log).into_disk(),
-        bank_volumes(rooms, locks, volumes),
-    )
+    let mut locks = locks;
+    let volumes = bank_volumes(rooms, &mut locks, 0, volumes);
+    locks.destroy_empty();
+    with_log(Box::into_inner(log).into_disk(), volumes)
 }
 
 // A log's volume with those of the banks.

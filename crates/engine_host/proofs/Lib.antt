@@ -1,3 +1,4 @@
+pub mod FirstEnds
 pub mod Starting
 pub mod Hosting
 pub mod Parking

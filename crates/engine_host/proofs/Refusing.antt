@@ -1,5 +1,7 @@
 -- Why no engine was opened, and what its volumes are then.
-use Rattle.std.proofs.Common.{Box, Global, ℕ, zero, suc, ◌≡◌, ◌≢◌, ◌⊎◌, ◌+◌, ◌<◌, ◌≤◌, ◌++◌, ◌∷◌, [], ◌∙◌, ⊎_elim, Bool, List, None, Option, Some, ap, append-nil, append_assoc, arith, drop, false, inl, inr, length, length-append, refl, remove, subst, sym}
+use Rattle.std.proofs.Common.{Box, Global, ℕ, zero, suc, ◌≡◌, ◌≢◌, ◌⊎◌, ◌+◌, ◌<◌, ◌≤◌, ◌++◌, ◌∷◌, [], ◌∙◌, ⊎_elim, Bool, List, None, Option, Some, ap, append-nil, append_assoc, arith, drop, false, inl, inr, length, length-append, refl, remove, subst, sym, take}
+use Rattle.std.proofs.Math.Seq.{take-append_seam}
+use Rattle.std.proofs.lemmas.List.{length-take-le, take-append-le, take_all}
 use Rattle.std.proofs.lemmas.List.Elements.{filter_map-append}
 use Rattle.std.proofs.lemmas.Option.{same_Some}
 use Rattle.std.specs.List.{cons_option, filter_map, slice_get, slice_index_or}
@@ -72,10 +74,6 @@ module _ {X Y : Type 0} (f : X → Option Y) where
   pub still_room : (old new : List X) (x : X) (rest room : ℕ) → old ≡ new ++ x ∷ [] → f x ≡ None → length (filter_map f old) + rest ≤ room → length (filter_map f new) + rest ≤ room
   still_room old new x rest room e is le = let l = passed_length old new x e is in omega (arith, l, le)
 
-  -- the first ones, of which none has one
-  pub first_off : (old rest : List X) (x : X) → old ≡ x ∷ rest → f x ≡ None → filter_map f old ≡ filter_map f rest
-  first_off old rest x e is = ap (filter_map f) e ∙ ap (λ (o : Option Y). cons_option o (filter_map f rest)) is
-
   -- the parts of a bank more
   pub with_four : (xs whole : List X) (a b v w : X) → whole ≡ xs ++ a ∷ b ∷ v ∷ w ∷ [] → filter_map f whole ≡ filter_map f xs ++ filter_map f (a ∷ b ∷ v ∷ w ∷ [])
   with_four xs whole a b v w is = ap (filter_map f) is ∙ filter_map-append f xs (a ∷ b ∷ v ∷ w ∷ [])
@@ -116,29 +114,53 @@ pub none_long : {X : Type 0} (xs : List X) → length xs ≡ 0 → xs ≡ []
 none_long [] e = refl
 none_long (x ∷ xs) e = absurd (omega (arith, e))
 
-pub second_is : {X : Type 0} (xs ys : List X) (x : X) → 2 ≤ length xs → ys ≡ remove xs 0 → x ≡ slice_index_or ys 0 x → slice_get xs 1 ≡ Some x
-second_is [] ys x l e is = absurd (omega arith)
-second_is (y ∷ []) ys x l e is = absurd (omega arith)
-second_is {X} (y ∷ z ∷ xs) ys x l e is = ap (λ (v : X). Some v) (sym (is ∙ ap (λ (l : List X). slice_index_or l 0 x) e))
+past_get : {X : Type 0} (xs ys : List X) → slice_get (xs ++ ys) (length xs) ≡ slice_get ys 0
+past_get [] ys = refl
+past_get (x ∷ xs) ys = past_get xs ys
 
-pub third_is : {X : Type 0} (xs ys zs : List X) (x : X) → 3 ≤ length xs → ys ≡ remove xs 0 → zs ≡ remove ys 0 → x ≡ slice_index_or zs 0 x → slice_get xs 2 ≡ Some x
-third_is [] ys zs x l e f is = absurd (omega arith)
-third_is {X} (y ∷ xs) ys zs x l e f is =
-    let long : length ys ≡ length xs = ap length e in
-    ap (λ (l : List X). slice_get l 1) (sym e) ∙ second_is ys zs x (omega (arith, l, long)) f is
+-- the first ones, of which the last was popped
+take_get : {X : Type 0} (k n : ℕ) (xs : List X) → k < n → slice_get (take n xs) k ≡ slice_get xs k
+take_get k zero xs h = absurd (omega arith)
+take_get k (suc n) [] h = refl
+take_get zero (suc n) (x ∷ xs) h = refl
+take_get (suc k) (suc n) (x ∷ xs) h = take_get k n xs (omega arith)
 
-pub no_longer : {X : Type 0} (xs ys : List X) → ys ≡ remove xs 0 → length ys ≤ length xs
-no_longer [] ys e = omega (arith, ap length e)
-no_longer (x ∷ xs) ys e = omega (arith, ap length e)
+take_fewer : {X : Type 0} (n : ℕ) (xs : List X) → take n (take (suc n) xs) ≡ take n xs
+take_fewer zero xs = refl
+take_fewer (suc n) [] = refl
+take_fewer {X} (suc n) (x ∷ xs) = ap (λ (l : List X). x ∷ l) (take_fewer n xs)
+
+popped_long : {X : Type 0} (n : ℕ) (all long short : List X) (x : X) → suc n ≤ length all → long ≡ take (suc n) all → long ≡ short ++ x ∷ [] → length short ≡ n
+popped_long n all long short x many is e =
+    let one : length long ≡ suc n = ap length is ∙ length-take-le (suc n) all many in
+    let two : length long ≡ length short + 1 = ap length e ∙ length-append short (x ∷ []) in
+    omega (arith, one, two)
+
+pub popped_is : {X : Type 0} (n : ℕ) (all long short : List X) (x : X) → suc n ≤ length all → long ≡ take (suc n) all → long ≡ short ++ x ∷ [] → slice_get all n ≡ Some x
+popped_is {X} n all long short x many is e =
+    let count = popped_long n all long short x many is e in
+    sym (take_get n (suc n) all (omega arith))
+    ∙ (ap (λ (l : List X). slice_get l n) (sym is ∙ e) ∙ (ap (λ (m : ℕ). slice_get (short ++ x ∷ []) m) (sym count) ∙ past_get short (x ∷ [])))
+
+pub popped_left : {X : Type 0} (n : ℕ) (all long short : List X) (x : X) → suc n ≤ length all → long ≡ take (suc n) all → long ≡ short ++ x ∷ [] → short ≡ take n all
+popped_left {X} n all long short x many is e =
+    let count = popped_long n all long short x many is e in
+    sym (take-append_seam short (x ∷ []))
+    ∙ (ap (λ (m : ℕ). take m (short ++ x ∷ [])) count ∙ (ap (λ (l : List X). take n l) (sym e ∙ is) ∙ take_fewer n all))
+
+-- as many are left as are to be
+pub still_left : {X : Type 0} (n : ℕ) (old new all : List X) (x : X) → old ≡ new ++ x ∷ [] → n < length old → take n old ≡ take n all → take n new ≡ take n all
+still_left {X} n old new all x e more left =
+    let longer : length old ≡ length new + 1 = ap length e ∙ length-append new (x ∷ []) in
+    sym (take-append-le n new (x ∷ []) (omega (arith, more, longer))) ∙ (ap (λ (l : List X). take n l) (sym e) ∙ left)
+
+pub all_left : {X : Type 0} (n : ℕ) (xs all : List X) → length xs ≤ n → take n xs ≡ take n all → xs ≡ take n all
+all_left n xs all few left = sym (take_all n xs few) ∙ left
 
 drop_get : {X : Type 0} (n : ℕ) (xs : List X) (x : X) → slice_get (drop n xs) 0 ≡ Some x → slice_get xs n ≡ Some x
 drop_get zero xs x e = e
 drop_get (suc n) [] x e = e
 drop_get (suc n) (y ∷ xs) x e = drop_get n xs x e
-
-past_get : {X : Type 0} (xs ys : List X) → slice_get (xs ++ ys) (length xs) ≡ slice_get ys 0
-past_get [] ys = refl
-past_get (x ∷ xs) ys = past_get xs ys
 
 pub drop_next : {X : Type 0} (n : ℕ) (xs : List X) → remove (drop n xs) 0 ≡ drop (suc n) xs
 drop_next zero [] = refl

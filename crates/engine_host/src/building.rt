@@ -1,9 +1,9 @@
 // The parts of an engine whose life begins, over a log that is begun and the volumes of its banks.
 ghost use Rattle.std.specs.Prelude.{◌≡◌, ◌+◌, ◌*◌, ◌≤◌, ◌<◌, ◌++◌, ◌∷◌, ℕ, [], false, IfErr, IfOk, IsTrue, OnErr, OnOk, drop, length, map, remove, vec_capacity};
-ghost use Rattle.wal_core.specs.LogViews.{log_disk};
+ghost use Rattle.wal_core.specs.LogViews.{log_disk, log_end};
 ghost use Rattle.engine_parts.specs.Sessions.{AreGivenBefore};
 ghost use Rattle.engine_host.specs.Counted.{CountsBank, HaveCounted};
-ghost use Rattle.engine_host.specs.Opening.{AreNew, AreParts, Beginning, IsBegunLog, IsCluster, ShowBeginning, faults_behind, life_from, new_life};
+ghost use Rattle.engine_host.specs.Opening.{AreNew, AreParts, Beginning, IsBegunLog, IsCluster, ShowBeginning, faults_behind, gate_behind, life_from, new_life};
 ghost use Rattle.engine_host.specs.declared.refusal.OpenRefusal.TheVariants as refusals;
 ghost use Rattle.engine_host.specs.Refused.{HaveDisks, IsBankRefusal};
 ghost use Rattle.engine_host.specs.Stores.{HaveEach, Store, banks_of, disks_in, volumes_in};
@@ -164,10 +164,10 @@ pub(crate) fn taken_apart<L: LogDisk + Drop, P: PageDisk + Drop>(
     ensures log { result.log ≡ log_disk log.value }
     ensures volumes { (k : Store) → (volumes_in k (banks_of result)).items ≡ disks_in k locks.items ++ (volumes_in k volumes).items }
 {
-    with_log(
-        Box::into_inner(log).into_disk(),
-        bank_volumes(rooms, locks, volumes),
-    )
+    let mut locks = locks;
+    let volumes = bank_volumes(rooms, &mut locks, 0, volumes);
+    locks.destroy_empty();
+    with_log(Box::into_inner(log).into_disk(), volumes)
 }
 
 // A log's volume with those of the banks.
@@ -221,6 +221,7 @@ pub(crate) fn gather<L: LogDisk, P: PageDisk>(
     ensures parts { AreParts result }
     ensures start { result.start.value ≡ new_life cluster begins result.locks.items }
     ensures faults { map faults_behind result.locks.items ≡ L.faults (log_disk log.value) ∷ map faults_behind locks.items }
+    ensures end { gate_behind result.locks.items ≡ log_end log.value }
 {
     let mut locks = locks;
     let inserted = locks.insert(0, Part::Log(log));

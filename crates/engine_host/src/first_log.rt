@@ -1,8 +1,8 @@
 //! The log of a new cluster (`BootStrapXLOG` of `src/backend/access/transam/xlog.c`).
-ghost use Rattle.std.specs.Prelude.{◌≡◌, ◌≤◌, IfErr, IfOk, OnOk};
+ghost use Rattle.std.specs.Prelude.{◌≡◌, ◌≤◌, ◌+◌, [], ◌∷◌, IfErr, IfOk, OnOk};
 ghost use Rattle.tx_events.specs.Base.{IsBase};
 ghost use Rattle.tx_events.specs.declared.record.Rec.TheVariants as records;
-ghost use Rattle.wal_core.specs.LogViews.{log_disk};
+ghost use Rattle.wal_core.specs.LogViews.{log_disk, log_end, log_pending};
 ghost use Rattle.wal_records.specs.Spelling.{AreCounters};
 ghost use Rattle.engine_host.specs.Opening.{HasFirst, IsBegunLog, IsEmptyLog, nothing_before};
 ghost use Rattle.engine_host.specs.Refused.{IsBeginRefusal};
@@ -26,7 +26,7 @@ fn first_record(alloc: Global, base: Counters) -> Result<Rec, Memory>
     })
 }
 
-// Puts the first checkpoint on disk, which has the number 0.
+// Puts the first checkpoint on disk, which has the number 0: a batch of 5 bytes and the record's 57.
 pub(crate) fn begin_log<L: LogDisk>(
     alloc: Global,
     log: &mut WalLog<L>,
@@ -35,6 +35,7 @@ pub(crate) fn begin_log<L: LogDisk>(
     requires new { IsEmptyLog log.old }
     requires base { IsBase cluster.now.base }
     ensures begun { OnOk result (IsBegunLog cluster.now nothing_before log.new) }
+    ensures end { OnOk result (log_end log.new ≡ log_end log.old + 62) }
     ensures count { L.faults (log_disk log.old) ≤ L.faults (log_disk log.new) }
     ensures refused { IfErr result (λ refusal. IsBeginRefusal cluster.now log.old log.new refusal) }
 {
@@ -49,8 +50,10 @@ pub(crate) fn begin_log<L: LogDisk>(
 
 // Flushes the first checkpoint.
 fn flush_first<L: LogDisk>(log: &mut WalLog<L>, _cluster: &Cluster) -> Result<(), OpenRefusal>
-    requires { HasFirst _cluster.now log.old }
+    requires first { HasFirst _cluster.now log.old }
+    requires pending { log_pending log.old ≡ records.Checkpoint 0 _cluster.now.base ∷ [] }
     ensures begun { OnOk result (IsBegunLog _cluster.now nothing_before log.new) }
+    ensures end { OnOk result (log_end log.new ≡ log_end log.old + 62) }
     ensures count { L.faults (log_disk log.old) ≤ L.faults (log_disk log.new) }
     ensures refused { IfErr result (λ refusal. IsBeginRefusal _cluster.now log.old log.new refusal) }
 {

@@ -1,6 +1,6 @@
 //! The parts of a new engine.
-ghost use Rattle.std.specs.Prelude.{◌≡◌, IfErr, IfOk};
-ghost use Rattle.wal_core.specs.LogViews.{log_disk};
+ghost use Rattle.std.specs.Prelude.{◌≡◌, ◌+◌, IfErr, IfOk};
+ghost use Rattle.wal_core.specs.LogViews.{log_disk, log_end};
 ghost use Rattle.engine_host.specs.Counted.{AreCounted};
 ghost use Rattle.engine_host.specs.Opening.{AreParts, IsCluster, IsEmptyLog, new_life, nothing_before};
 ghost use Rattle.engine_host.specs.Refused.{IsRefusal};
@@ -21,7 +21,7 @@ use wal_core::WalLog;
 /// volume of each store for each bank.
 ///
 /// The parts stand for lists without entries, in a life that begins with the volumes' counts of faults, which aren't
-/// below what they were. After an error the volumes come back, in the order of their banks; pages may be removed then,
+/// below what they were, and with a log that ends 62 bytes further: behind a batch with that checkpoint. After an error the volumes come back, in the order of their banks; pages may be removed then,
 /// and the checkpoint written.
 pub fn open_new<L: LogDisk + Drop, P: PageDisk + Drop>(
     alloc: Global,
@@ -36,6 +36,7 @@ pub fn open_new<L: LogDisk + Drop, P: PageDisk + Drop>(
     ensures cluster { IfOk result (λ parts. parts.cluster ≡ cluster) }
     ensures parts { IfOk result (λ parts. AreParts parts) }
     ensures start { IfOk result (λ parts. parts.start.value ≡ new_life cluster nothing_before parts.locks.items) }
+    ensures end { IfOk result (λ parts. parts.start.value.gate ≡ log_end log + 62) }
     ensures counted { IfOk result (λ parts. AreCounted L.LogDisk P.PageDisk (log_disk log) volumes parts.start.value.faults) }
     ensures refused { IfErr result (λ e. IsRefusal P.PageDisk cluster log volumes e.0 e.1) }
 {

@@ -1,5 +1,5 @@
 //! The volumes of parts that are taken apart.
-ghost use Rattle.std.specs.Prelude.{◌≡◌, ℕ, ◌+◌, ◌<◌, ◌≤◌, ◌++◌, ◌∷◌, [], Some, length, reverse, slice_get, vec_capacity};
+ghost use Rattle.std.specs.Prelude.{◌≡◌, ℕ, ◌+◌, ◌<◌, ◌≤◌, ◌++◌, ◌∷◌, [], Some, length, reverse, slice_get, take, vec_capacity};
 ghost use Rattle.engine_parts.specs.declared.part.Part.TheVariants as parts;
 ghost use Rattle.engine_host.specs.Refused.{AreInPlace};
 ghost use Rattle.engine_host.specs.Stores.{Store, disks_in, volumes_in};
@@ -13,8 +13,8 @@ use proc_table::ProcTable;
 use slru_bank::BankRooms;
 use wal_core::WalLog;
 
-/// The parts of an engine, taken apart: its log, its ProcArray, its generator of multixacts, and the volumes of its banks,
-/// in their order.
+/// The parts of an engine, taken apart: its log, its ProcArray, its generator of multixacts, and the volumes of its
+/// banks, in their order.
 pub struct TakenApart<L: LogDisk, P: PageDisk> {
     pub log: Box<WalLog<L>>,
     pub table: Box<ProcTable>,
@@ -53,20 +53,25 @@ fn turn_round<P: PageDisk>(volumes: &mut BankVolumes<P>)
     volumes.members.reverse();
 }
 
-// Takes parts apart, and puts the volumes of their banks, in their order, before these. The volume of a log is dropped. The
-// last part comes first, so the volumes lie the other way round meanwhile.
+// Takes the parts behind so many first ones apart, and puts the volumes of their banks, in their order, before these.
+// The volume of a log is dropped. The last part comes first, so the volumes lie the other way round meanwhile.
 pub(crate) fn bank_volumes<L: LogDisk + Drop, P: PageDisk + Drop>(
     rooms: &mut BankRooms,
-    locks: Vec<Part<L, P>>,
+    locks: &mut Vec<Part<L, P>>,
+    first: usize,
     volumes: BankVolumes<P>,
 ) -> BankVolumes<P>
-    requires room { (k : Store) → length (disks_in k locks.items) + length (volumes_in k volumes).items ≤ vec_capacity (volumes_in k volumes) }
-    ensures volumes { (k : Store) → (volumes_in k result).items ≡ disks_in k locks.items ++ (volumes_in k volumes).items }
+    requires room { (k : Store) → length (disks_in k locks.old.items) + length (volumes_in k volumes).items ≤ vec_capacity (volumes_in k volumes) }
+    ensures left { locks.new.items ≡ take first locks.old.items }
+    ensures volumes { (k : Store) → disks_in k locks.new.items ++ (volumes_in k result).items
+        ≡ disks_in k locks.old.items ++ (volumes_in k volumes).items }
 {
     let mut volumes = volumes;
-    let mut locks = locks;
     turn_round(&mut volumes);
-    while let Some(part) = locks.pop() {
+    'parts: while locks.len() > first {
+        let Some(part) = locks.pop() else {
+            unreachable!()
+        };
         match part {
             Part::Xact(store) => put_behind(&mut volumes.xact, rooms.keep(store.into_inner())),
             Part::Subtrans(store) => put_behind(
@@ -86,7 +91,6 @@ pub(crate) fn bank_volumes<L: LogDisk + Drop, P: PageDisk + Drop>(
             Part::Multi(_gen) => {}
         }
     }
-    locks.destroy_empty();
     turn_round(&mut volumes);
     volumes
 }
@@ -109,19 +113,26 @@ pub fn take_apart<L: LogDisk + Drop, P: PageDisk + Drop>(
     ensures volumes { (k : Store) → (volumes_in k result.volumes).items ≡ disks_in k locks.items }
 {
     let mut locks = locks;
-    let first = locks.remove(0);
-    let Part::Log(log) = first else {
+    let volumes = bank_volumes(&mut rooms.banks, &mut locks, 3, room);
+    let Some(third) = locks.pop() else {
         unreachable!()
     };
-    let second = locks.remove(0);
-    let Part::Proc(table) = second else {
-        unreachable!()
-    };
-    let third = locks.remove(0);
     let Part::Multi(multis) = third else {
         unreachable!()
     };
-    let volumes = bank_volumes(&mut rooms.banks, locks, room);
+    let Some(second) = locks.pop() else {
+        unreachable!()
+    };
+    let Part::Proc(table) = second else {
+        unreachable!()
+    };
+    let Some(first) = locks.pop() else {
+        unreachable!()
+    };
+    let Part::Log(log) = first else {
+        unreachable!()
+    };
+    locks.destroy_empty();
     TakenApart {
         log,
         table,

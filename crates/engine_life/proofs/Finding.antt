@@ -1,5 +1,5 @@
 -- The log that was found on a volume: what a life begins with over it, and why none does.
-use Rattle.std.proofs.Common.{IsSome, IsTrue, List, None, Ok, Some, ap, arith, inl, inr, length, refl, subst, sym, ℕ, ◌∙◌, ◌≡◌, ◌≤◌}
+use Rattle.std.proofs.Common.{Bool, Err, IsSome, IsTrue, List, None, Ok, Option, Result, Some, ap, arith, cond, false, inl, inr, length, refl, subst, sym, true, ℕ, ◌+◌, ◌∙◌, ◌≡◌, ◌≤◌}
 use Rattle.disk_core.specs.Volume.{Volume}
 use Rattle.disk_core.specs.declared.log_disk.LogDisk as logs
 use Rattle.disk_core.specs.declared.page_disk.PageDisk as disks
@@ -8,7 +8,7 @@ use Rattle.tx_events.specs.declared.refusal.Lock.TheVariants as locks
 use Rattle.tx_core.proofs.FaultCounts.{risen_past}
 use Rattle.wal_core.specs.Log.{EndsWithin, history_in}
 use Rattle.wal_core.specs.LogViews.{log_disk, log_end, log_first, log_next}
-use Rattle.wal_core.specs.Opening.{History, opened}
+use Rattle.wal_core.specs.Opening.{History, Opened, is_new, judged, opened, opened_as, walked}
 use Rattle.wal_core.specs.declared.wal_log.WalLog.{WalLog}
 use Rattle.recoverable.specs.Fit.{KeptLog}
 use Rattle.replay_core.specs.Opened.{IsFound, IsFoundNew, OpensStill}
@@ -61,6 +61,32 @@ opens_up_to g disk found is told = record {
 
 not_both : (v : Volume) (h : History) (gate gate' : ℕ) → opened v ≡ Ok (record { history = None; gate = gate }) → opened v ≡ Ok (record { history = Some h; gate = gate' }) → ⊥
 not_both v h gate gate' a b = let z : None ≡ Some h = sym (ap history_in a) ∙ ap history_in b in absurd cc
+
+-- a log without a record ends where its volume begins
+gate_in : Result Opened ℕ → ℕ
+gate_in (Ok o) = o.gate
+gate_in (Err at) = at
+
+opened_none : (v : Volume) (gate : ℕ) → opened v ≡ Ok (record { history = None; gate = gate }) → gate ≡ 0
+unfolding opened
+opened_none v gate e = by_start (is_new v) e
+  where
+    walked_none : (whole : Bool) (h : History) (reach : ℕ) → cond whole (Ok (record { history = Some h; gate = reach })) (Err reach) ≡ Ok (record { history = None; gate = gate }) → ⊥
+    walked_none true h reach e = let two : Some h ≡ None = ap history_in e in absurd cc
+    walked_none false h reach e = absurd cc
+
+    judged_none : (r : Result (Option History) ℕ) → opened_as v.start (walked v) r ≡ Ok (record { history = None; gate = gate }) → ⊥
+    judged_none (Err at) e = absurd cc
+    judged_none (Ok None) e = absurd cc
+    judged_none (Ok (Some h)) e = walked_none (walked v).whole h (v.start + (walked v).reach) e
+
+    by_start : (new : Bool) → cond new (Ok (record { history = None; gate = 0 })) (opened_as v.start (walked v) (judged (walked v).bodies v.start None)) ≡ Ok (record { history = None; gate = gate }) → gate ≡ 0
+    by_start true e = sym (ap gate_in e)
+    by_start false e = absurd (judged_none (judged (walked v).bodies v.start None) e)
+
+pub first_gate : {D : Type 0} (g : logs.Ghosts D) (disk : D) (log : WalLog D g) (gate : ℕ) → IsFoundNew disk log → IsTrue g.tells → gate ≡ log_end log + 62 → gate ≡ 62
+first_gate g disk log gate found told end =
+    let place : log_end log ≡ 0 = opened_none (g.reads disk) (log_end log) (found.opens told) in omega (arith, end, place)
 
 -- volumes that were put together
 pub together : {L P : Type 0} (new : Volumes L P) (log : L) (banks : BankVolumes P) → new.log ≡ log → banks_of new ≡ banks → new ≡ volumes_over log banks

@@ -1,5 +1,5 @@
 -- How a life begins, and what it leaves.
-use Rattle.std.specs.Prelude.{◌≡◌, ℕ, ◌-◌, ◌<◌, ◌≤◌, List, [], Some, length, slice_get}
+use Rattle.std.specs.Prelude.{◌≡◌, ℕ, ◌-◌, ◌<◌, ◌≤◌, IsTrue, List, [], Some, length, slice_get}
 use Rattle.disk_core.specs.declared.log_disk.LogDisk as logs
 use Rattle.disk_core.specs.declared.page_disk.PageDisk as disks
 use Rattle.disk_core.specs.declared.media.Volumes.{Volumes}
@@ -44,10 +44,12 @@ module _ {L P : Type 0} {l : logs.Ghosts L} {p : disks.Ghosts P} where
     pub parked : (n : ℕ) (s : Session) → n < c.sessions → IsNewSession s → IsParked life.hall life.host n s
 
   -- It begins over a new log, with a base from which a life may start, at counts of faults that aren't below those of
-  -- these volumes.
+  -- these volumes. The log's batches end at its gate: where the volume tells, behind one of 62 bytes, with the first
+  -- checkpoint.
   pub record IsNewLife (c : Cluster) (volumes : Volumes L P) (life : OpenLife L P l p) : Type 0 where
     pub banks : HasBanks c.banks volumes
     pub gate : ℕ
+    pub gate_is : IsTrue l.tells → gate ≡ 62
     pub faults : List ℕ
     pub counted : AreCounted l p volumes.log (banks_of volumes) faults
     pub begun : IsBegun c (life_of c gate faults) life

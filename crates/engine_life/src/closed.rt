@@ -7,8 +7,9 @@ ghost use Rattle.tx_core.specs.Entries.{AreFewIds, history};
 ghost use Rattle.tx_core.specs.Locks.{log_lock};
 ghost use Rattle.tx_core.specs.MultiEntries.{AreFewMultis, multi_history};
 ghost use Rattle.recoverable.specs.Whole.{BeganRight};
-ghost use Rattle.wal_core.specs.LogViews.{log_disk};
+ghost use Rattle.wal_core.specs.LogViews.{log_disk, log_end};
 ghost use Rattle.engine_parts.specs.Begins.{BeginsAsAsked};
+ghost use Rattle.engine_parts.specs.LogTail.{tail_of};
 ghost use Rattle.engine_parts.specs.Parts.{IsLogOf};
 ghost use Rattle.engine_host.specs.Hosts.{HoldsAllBut, IsHost};
 ghost use Rattle.engine_life.specs.Lives.{EndFit, HaveCountedTold, HaveFollowed, HaveFollowedMultis, HaveVolumes, volumes_left};
@@ -45,6 +46,8 @@ pub fn close_life<L: LogDisk + Drop, P: PageDisk + Drop>(
     ensures events { result.events ≡ history (view life.host.pass).seen }
     ensures multis { result.multis.value.events ≡ multi_history (view life.host.pass).seen }
     ensures log { IsLogOf (start_of life.hall) result.log (at (view life.host.pass).seen log_lock) }
+    // Its batches end where the list says: that is the place which a report tells.
+    ensures end { log_end result.log ≡ (tail_of (start_of life.hall) (at (view life.host.pass).seen log_lock)).gate }
     // With which record a crash leaves its volume: so the next life's recovery begins there.
     ensures begins { IsTrue L.tells → BeginsAsAsked (start_of life.hall) (at (view life.host.pass).seen log_lock) (L.images (log_disk result.log)) }
     ensures kept { EngineInvariant (start_of life.hall) (view life.host.pass).seen }

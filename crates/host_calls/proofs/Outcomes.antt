@@ -40,7 +40,7 @@ use Rattle.session_promise.specs.Causes.{failed_volume}
 use Rattle.session_promise.specs.Checkpoints.{AddsFor, IsFlushedBelow}
 use Rattle.session_promise.specs.Promise.{recs_of}
 use Rattle.session_promise.proofs.CheckpointRecords.{recs_append}
-use Rattle.host_calls.specs.Added.{AddsAt, AddsSyncs, FailsAt, IsBuiltBank, WritesCheckpoint, checkpoint_now, host_by}
+use Rattle.host_calls.specs.Added.{AddsAt, AddsSyncs, FailsAt, IsBuiltBank, LacksCheckpointRoom, WritesCheckpoint, checkpoint_now, host_by}
 use Rattle.host_calls.specs.Made.{HasFailed, IsBuilt, IsOfUpLog, IsUntouched, IsWholeCheckpoint, Went}
 use Rattle.host_calls.proofs.Adding.{adds_one}
 use Rattle.host_calls.proofs.Hosts.{AddsHosts, AreHosts, hosts_at, hosts_grow, hosts_idle, hosts_none, hosts_syncs, hosts_then}
@@ -93,6 +93,7 @@ pub record Told (start : Start) (old new : List (List Entry)) (reply : Reply) : 
   pub fault : (lock : Lock) → failed_volume reply ≡ Some lock → HasFailed start old new lock
   pub up : IsOfUpLog old reply
   pub untouched : IsUntouched old new reply
+  pub full : reply ≡ replies.Refused refusals.Full → LacksCheckpointRoom start new
 
 module _ (start : Start) (by : By) (old : List (List Entry)) (his : by.session ≡ start.sessions) (inside : log_lock < length old) where
   abbrev es : List Entry
@@ -124,6 +125,7 @@ module _ (start : Start) (by : By) (old : List (List Entry)) (his : by.session �
         fault = log_failed new es fault a.count refl refl a.risen one.here;
         up = up_before start es fault new k one.here refl;
         untouched = tt;
+        full = λ q. absurd cc;
       })
   flush_told T new (refused.LogDown down) r k a is =
       subst (λ (q : Refusal). Told start old new (replies.Refused q)) (sym is) (record {
@@ -132,6 +134,7 @@ module _ (start : Start) (by : By) (old : List (List Entry)) (his : by.session �
         fault = λ lock q. absurd cc;
         up = tt;
         untouched = a.same;
+        full = λ q. absurd cc;
       })
   flush_told T new refused.Full r k a is = absurd a
   flush_told T new refused.Memory r k a is = absurd a
@@ -166,6 +169,7 @@ module _ (start : Start) (by : By) (old : List (List Entry)) (his : by.session �
           });
           up = was_up;
           untouched = tt;
+          full = λ q. absurd cc;
         }
 
     -- ---- all pages are too
@@ -219,12 +223,13 @@ module _ (start : Start) (by : By) (old : List (List Entry)) (his : by.session �
           went_so start old new (flush ∷ more) reply (hosts_then start old late new hosts_late (hosts_at start log_lock more late new theirs a)) (behind new more a) (his, theirs) (a.others proc_lock (λ q. omega (arith, q)) ∙ proc_late) (a.others multi_lock (λ q. omega (arith, q)) ∙ multis_late) adds flushed
 
       -- nothing more was done
-      stopped : (new : List (List Entry)) (r : Refusal) → new ≡ late → AddsFor start old (flush ∷ []) (replies.Refused r) → ((lock : Lock) → failed_volume (replies.Refused r) ≡ Some lock → ⊥) → IsOfUpLog old (replies.Refused r) → IsUntouched old new (replies.Refused r) → Told start old new (replies.Refused r)
-      stopped new r same adds other up quiet = record {
+      stopped : (new : List (List Entry)) (r : Refusal) → new ≡ late → AddsFor start old (flush ∷ []) (replies.Refused r) → ((lock : Lock) → failed_volume (replies.Refused r) ≡ Some lock → ⊥) → IsOfUpLog old (replies.Refused r) → IsUntouched old new (replies.Refused r) → (replies.Refused r ≡ replies.Refused refusals.Full → LacksCheckpointRoom start new) → Told start old new (replies.Refused r)
+      stopped new r same adds other up quiet full = record {
         went = subst (λ (z : List (List Entry)). Went start old z (replies.Refused r)) (sym same) (went_so start old late (flush ∷ []) (replies.Refused r) hosts_late log_late (his, tt) proc_late multis_late adds (λ q. absurd cc));
         fault = λ lock q. absurd (other lock q);
         up = up;
         untouched = quiet;
+        full = full;
       }
 
       -- the log's volume failed behind the checkpoint
@@ -235,6 +240,7 @@ module _ (start : Start) (by : By) (old : List (List Entry)) (his : by.session �
         fault = log_failed new (es ++ flush ∷ before) fault count is same (subst (λ m. HasRisen m count) (ap (faults_told start log_lock) log_late ∙ told_flush) risen) (behind new (before ++ fault ∷ []) a ∙ sym (append_assoc es (flush ∷ before) (fault ∷ [])));
         up = was_up;
         untouched = tt;
+        full = λ q. absurd cc;
       }
 
       -- ---- the checkpoint was written, or not
@@ -252,8 +258,8 @@ module _ (start : Start) (by : By) (old : List (List Entry)) (his : by.session �
           ∙ (number_same count_in (faults_at start log_lock) ((es ++ flush ∷ []) ++ mark ∷ []) again refl ∙ (number_same count_in (faults_at start log_lock) (es ++ flush ∷ []) mark refl ∙ told_flush)))
           a.risen (inr (record { recs_are = refl; faults_are = refl })) in
           subst (λ (q : Refusal). Told start old new (replies.Refused q)) (sym is) (⊎_elim unflushed unforgotten a.adds)
-      write_told T new refused.Full r a is = subst (λ (q : Refusal). Told start old new (replies.Refused q)) (sym is) (stopped new refusals.Full a (record { recs_are = refl; faults_are = refl }) (λ lock q. cc) was_up tt)
-      write_told T new refused.Memory r a is = subst (λ (q : Refusal). Told start old new (replies.Refused q)) (sym is) (stopped new refusals.Memory a (record { recs_are = refl; faults_are = refl }) (λ lock q. cc) was_up tt)
+      write_told T new refused.Full r a is = subst (λ (q : Refusal). Told start old new (replies.Refused q)) (sym is) (stopped new refusals.Full a.0 (record { recs_are = refl; faults_are = refl }) (λ lock q. cc) was_up tt (λ q. subst (LacksCheckpointRoom start) (sym a.0) a.1))
+      write_told T new refused.Memory r a is = subst (λ (q : Refusal). Told start old new (replies.Refused q)) (sym is) (stopped new refusals.Memory a (record { recs_are = refl; faults_are = refl }) (λ lock q. cc) was_up tt (λ q. absurd cc))
       write_told T new (refused.LogDown down) r a is = absurd a
       write_told T new (refused.Damaged place) r a is = absurd a
 

@@ -8,6 +8,7 @@ use Rattle.notes.specs.Lists.{add, at}
 use Rattle.tx_events.specs.declared.event.By.{By}
 use Rattle.tx_events.specs.declared.record.Counters.{Counters}
 use Rattle.tx_events.specs.declared.record.Rec.{Rec}
+use Rattle.tx_events.specs.declared.record.Rec.TheVariants as records
 use Rattle.life_law.specs.LifeLog.{counters_behind}
 use Rattle.tx_core.specs.declared.entry.Entry.{Entry}
 use Rattle.tx_core.specs.declared.entry.Kind.TheVariants as kinds
@@ -23,6 +24,7 @@ use Rattle.tx_core.proofs.LogBehind.{checkpoints_tell}
 use Rattle.wal_core.specs.declared.refusal.LogRefusal.{LogRefusal}
 use Rattle.wal_core.specs.declared.refusal.LogRefusal.TheVariants as refusals
 use Rattle.engine_parts.specs.Faults.{flush_fault_by}
+use Rattle.engine_parts.specs.LogTail.{LacksRoom, tail_of}
 use Rattle.engine_parts.specs.Stand.{EndsInCheckpoint}
 use Rattle.engine_parts.proofs.Logging.{up_more}
 use Rattle.host_sections.specs.HostEntries.{AddsCheckpoint, AddsFlush, AddsForget, checkpoint_by, flush_by, forget_by, forget_fault_by, next_number}
@@ -125,9 +127,9 @@ module _ (start : Start) (by : By) (seen : List (List Entry)) (inside : log_lock
     forgot number new (Err (refusals.Damaged place)) same up r = absurd r
 
   -- nothing was appended
-  pub append_refused : (T : Type 0) (counters : Counters) (new : List (List Entry)) (refusal : LogRefusal) → IsUp es → AddsCheckpoint start by counters seen new (Err refusal) → WritesCheckpoint {T = T} start by seen new (Err refusal)
-  append_refused T counters new refusals.LogFault up r = absurd r
-  append_refused T counters new (refusals.LogDown down) up r = absurd (false≢true (sym up ∙ down_is start es down r.is_down))
-  append_refused T counters new refusals.Full up r = r.0
-  append_refused T counters new refusals.Memory up r = r.0
-  append_refused T counters new (refusals.Damaged place) up r = absurd r
+  pub append_refused : (T : Type 0) (counters : Counters) (new : List (List Entry)) (refusal : LogRefusal) → counters ≡ counters_behind start.base (history seen) (multi_history seen) → IsUp es → AddsCheckpoint start by counters seen new (Err refusal) → WritesCheckpoint {T = T} start by seen new (Err refusal)
+  append_refused T counters new refusals.LogFault is up r = absurd r
+  append_refused T counters new (refusals.LogDown down) is up r = absurd (false≢true (sym up ∙ down_is start es down r.is_down))
+  append_refused T counters new refusals.Full is up r = (r.0, subst (λ (z : Counters). LacksRoom (tail_of start es) (records.Checkpoint n z)) is r.2)
+  append_refused T counters new refusals.Memory is up r = r.0
+  append_refused T counters new (refusals.Damaged place) is up r = absurd r

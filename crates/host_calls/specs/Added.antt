@@ -5,6 +5,7 @@ use Rattle.notes.specs.Lists.{at}
 use Rattle.tx_events.specs.declared.event.By.{By}
 use Rattle.tx_events.specs.declared.refusal.Lock.{Lock}
 use Rattle.tx_events.specs.declared.refusal.Lock.TheVariants as locks
+use Rattle.tx_events.specs.declared.record.Rec.TheVariants as records
 use Rattle.life_law.specs.LifeLog.{counters_behind}
 use Rattle.tx_core.specs.declared.entry.Entry.{Entry}
 use Rattle.tx_core.specs.declared.entry.Start.{Start}
@@ -15,6 +16,7 @@ use Rattle.tx_core.specs.MultiEntries.{multi_history}
 use Rattle.wal_core.specs.declared.refusal.LogRefusal.{LogRefusal}
 use Rattle.wal_core.specs.declared.refusal.LogRefusal.TheVariants as refusals
 use Rattle.engine_parts.specs.Faults.{fault_by, flush_fault_by}
+use Rattle.engine_parts.specs.LogTail.{LacksRoom, tail_of}
 use Rattle.host_sections.specs.HostEntries.{checkpoint_by, flush_by, forget_by, forget_fault_by, next_number, sync_by}
 
 -- the host's, which has no commands
@@ -56,6 +58,12 @@ abbrev pub SyncsBanks : {T : Type 0} → Start → By → ℕ → ℕ → List (
 SyncsBanks start by from upto old new (Ok done) = AddsSyncs by from upto old new
 SyncsBanks start by from upto old new (Err lock) = FailsAt start by from upto lock old new
 
+-- By the log's list there is no room for the record of a checkpoint of the counters as they stand.
+abbrev pub LacksCheckpointRoom : Start → List (List Entry) → Type 0
+LacksCheckpointRoom start lists =
+    LacksRoom (tail_of start (at lists log_lock))
+    (records.Checkpoint (next_number start lists) (counters_behind start.base (history lists) (multi_history lists)))
+
 -- the checkpoint of the counters as they stand, under the log's next number
 abbrev pub checkpoint_now : Start → By → List (List Entry) → Entry
 checkpoint_now start by lists =
@@ -69,13 +77,13 @@ pub record FailsBehind (start : Start) (by : By) (old new : List (List Entry)) :
       ⊎ AddsAt log_lock (checkpoint_now start by old ∷ flush_by by (next_number start old + 1)
       ∷ forget_fault_by by (next_number start old) count ∷ []) old new
 
--- The checkpoint is appended, put on disk, and the log is forgotten before it. Or the log's volume failed then, or the
--- log was full or memory was wanting before.
+-- The checkpoint is appended, put on disk, and the log is forgotten before it. Or the log's volume failed then, or
+-- before it the log had no room for its record, or memory was wanting.
 abbrev pub WritesCheckpoint : {T : Type 0} → Start → By → List (List Entry) → List (List Entry) → Result T LogRefusal → Type 0
 WritesCheckpoint start by old new (Ok done) =
     AddsAt log_lock (checkpoint_now start by old ∷ flush_by by (next_number start old + 1)
     ∷ forget_by by (next_number start old) ∷ []) old new
 WritesCheckpoint start by old new (Err refusals.LogFault) = FailsBehind start by old new
-WritesCheckpoint start by old new (Err refusals.Full) = new ≡ old
+WritesCheckpoint start by old new (Err refusals.Full) = (new ≡ old) × LacksCheckpointRoom start old
 WritesCheckpoint start by old new (Err refusals.Memory) = new ≡ old
 WritesCheckpoint start by old new (Err refusal) = ⊥

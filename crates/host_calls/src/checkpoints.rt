@@ -2,6 +2,7 @@
 ghost use Rattle.std.specs.Prelude.{◌≡◌, ℕ, Some, length, slice_get};
 ghost use Rattle.hall.specs.Calls.{start_of, view};
 ghost use Rattle.tx_events.specs.declared.refusal.Lock.{Lock};
+ghost use Rattle.tx_events.specs.declared.refusal.Refusal.TheVariants.{Full};
 ghost use Rattle.tx_model.specs.declared.reply.Reply.TheVariants as replies;
 ghost use Rattle.recoverable.specs.Whole.{BeganRight, IsShort};
 ghost use Rattle.engine_parts.specs.declared.session.Session.{Session};
@@ -10,6 +11,7 @@ ghost use Rattle.engine_host.specs.Hosts.{IsParked};
 ghost use Rattle.session_promise.specs.Causes.{failed_volume};
 ghost use Rattle.session_promise.specs.Checkpoints.{WentCheckpoint};
 ghost use Rattle.host_calls.specs.Moments.{FitThroughout};
+ghost use Rattle.host_calls.specs.Added.{LacksCheckpointRoom};
 ghost use Rattle.host_calls.specs.Made.{HasFailed, IsOfUpLog, IsUntouched, IsWholeCheckpoint};
 
 use crate::committing::{first_committing, first_making};
@@ -55,6 +57,7 @@ pub fn checkpoint<R: Wait, L: LogDisk, P: PageDisk>(
     ensures fit { BeganRight (start_of hall.now) → IsShort (view host.old.pass).seen
         → FitThroughout L.LogDisk P.PageDisk (start_of hall.now) (view host.old.pass).seen (view host.new.pass).seen }
     ensures untouched { IsUntouched (view host.old.pass).seen (view host.new.pass).seen result }
+    ensures full { result ≡ replies.Refused Full → LacksCheckpointRoom (start_of hall.now) (view host.new.pass).seen }
 {
     match first_committing(sessions) {
         Some(session) => Reply::Pending {

@@ -2,6 +2,7 @@
 ghost use Rattle.std.specs.Prelude.{◌≡◌, Some};
 ghost use Rattle.hall.specs.Calls.{start_of, view};
 ghost use Rattle.tx_events.specs.declared.refusal.Lock.{Lock};
+ghost use Rattle.tx_events.specs.declared.refusal.Refusal.TheVariants.{Full};
 ghost use Rattle.tx_events.specs.Base.{IsBase};
 ghost use Rattle.tx_model.specs.declared.reply.Reply.TheVariants as replies;
 ghost use Rattle.tx_core.specs.EngineInvariant.{EngineInvariant};
@@ -9,6 +10,7 @@ ghost use Rattle.tx_core.specs.ProgramOrder.{IsHostsTurn};
 ghost use Rattle.engine_parts.specs.Alone.{IsAlone};
 ghost use Rattle.session_promise.specs.Causes.{failed_volume};
 ghost use Rattle.host_calls.specs.Moments.{KeptThroughout};
+ghost use Rattle.host_calls.specs.Added.{LacksCheckpointRoom};
 ghost use Rattle.host_calls.specs.Made.{HasFailed, IsOfUpLog, IsTried, IsUntouched, IsWholeCheckpoint, Went};
 ghost use Rattle.host_calls.specs.Synced.{AreAllMade, IsNoneWaiting};
 
@@ -54,6 +56,7 @@ pub(crate) fn make_checkpoint<R: Wait, L: LogDisk, P: PageDisk>(
         → HasFailed (start_of hall.now) (view pass.old).seen (view pass.new).seen lock }
     ensures up { IsOfUpLog (view pass.old).seen result }
     ensures untouched { IsUntouched (view pass.old).seen (view pass.new).seen result }
+    ensures full { result ≡ replies.Refused Full → LacksCheckpointRoom (start_of hall.now) (view pass.new).seen }
 {
     match flush_records(rt, hall, pass, by) {
         Ok(()) => match sync_all(rt, hall, pass, by, cluster.banks) {

@@ -1,5 +1,5 @@
 use Rattle.std.proofs.Common.{ap, false, ◌∙◌, ◌≡◌}
-use Rattle.slru_bank.specs.Calls.{IsDurable, pages_of, volume_of}
+use Rattle.slru_bank.specs.Calls.{pages_of, volume_of}
 use Rattle.engine_host.proofs.Starting.{bytes_are, opened_durable}
 use Rattle.engine_host.proofs.banks.open_bank.Goals as goal
 

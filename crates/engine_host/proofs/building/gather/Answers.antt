@@ -3,7 +3,7 @@ use Rattle.tx_core.specs.declared.entry.Start.{Start}
 use Rattle.engine_parts.specs.declared.part.Part.TheVariants as parts
 use Rattle.engine_parts.specs.Parts.{IsLogOf, PartStands}
 use Rattle.engine_parts.specs.Sessions.{AreGivenBefore}
-use Rattle.engine_host.specs.Opening.{AreNew, at_gate, faults_behind, life_from}
+use Rattle.engine_host.specs.Opening.{AreNew, at_gate, faults_behind, gate_behind, life_from}
 use Rattle.engine_host.proofs.Starting.{all_stand, cons_new, inserted_first}
 use Rattle.engine_host.proofs.building.gather.Goals as goal
 
@@ -28,3 +28,7 @@ returns-clause-parts g c =
 pub returns-clause-faults : goal.returns-clause-faults
 returns-clause-faults g c =
     ap (map faults_behind) (inserted_first c.args.locks.items c.insert-inserted.new.self.items (parts.Log c.args.log) c.insert-inserted.result c.insert-inserted.ensures.items (c.insert-inserted.ensures.succeeds (omega (arith, c.requires.1.1.1.1.1.0, c.requires.1.1.1.1.1.1.0))))
+
+pub returns-clause-end : goal.returns-clause-end
+returns-clause-end g c =
+    ap gate_behind (inserted_first c.args.locks.items c.insert-inserted.new.self.items (parts.Log c.args.log) c.insert-inserted.result c.insert-inserted.ensures.items (c.insert-inserted.ensures.succeeds (omega (arith, c.requires.1.1.1.1.1.0, c.requires.1.1.1.1.1.1.0))))

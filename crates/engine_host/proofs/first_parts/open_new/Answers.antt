@@ -1,5 +1,5 @@
 use Rattle.std.proofs.Common.{[], IsTrue, ap, refl, rules, subst, sym, true, ◌+◌, ◌∙◌, ◌≤◌}
-use Rattle.wal_core.specs.LogViews.{log_disk}
+use Rattle.wal_core.specs.LogViews.{log_disk, log_end}
 use Rattle.tx_core.specs.declared.entry.Start.{Start}
 use Rattle.tx_events.proofs.Membership.{contains_has}
 use Rattle.engine_parts.specs.Sessions.{AreGivenBefore}
@@ -80,3 +80,9 @@ returns-clause-counted g c =
     all_counted disk g.P.PageDisk c.args.cluster.banks (log_disk c.args.log) c.begin_log.new.log v c.add_banks.new.locks.items c.gather.result.start.value.faults
     up c.requires.volumes c.in_default.ensures.counted
     (ap (λ (s : Start). s.faults) parts.start ∙ parts.faults)
+
+pub returns-clause-end : goal.returns-clause-end
+returns-clause-end g c =
+    let parts = c.gather.ensures in
+    let same = c.deref_mut-fresh.ensures.value ∙ c.in-Ok.ensures.ok in
+    ap (λ (s : Start). s.gate) parts.start ∙ (parts.end ∙ (c.in_default-begin_log.ensures.end ∙ ap (λ l. log_end l + 62) same))

@@ -7,7 +7,7 @@ use Rattle.recoverable.specs.Whole.{MembersLeft, OffsetsLeft}
 use Rattle.tx_core.specs.Locks.{log_lock, members_lock, offsets_lock}
 use Rattle.tx_events.specs.Base.{IsBase}
 use Rattle.engine_parts.specs.declared.part.Part.TheVariants as parts
-use Rattle.engine_parts.specs.LogTail.{log_tail}
+use Rattle.engine_parts.specs.LogTail.{LogTail, log_tail}
 use Rattle.engine_parts.proofs.Beginning.{log_begins}
 use Rattle.engine_parts.specs.Parts.{IsLogOf}
 use Rattle.engine_host.specs.Stores.{Store, of_members, of_offsets, of_subtrans, of_xact, volumes_in}
@@ -36,6 +36,9 @@ returns-clause-log g c =
     let taken = c.take_apart-log in
     let es = list_at (view c.args.life.host.pass).seen log_lock in
     subst (λ l. IsLogOf (start_of c.args.life.hall) l es) (sym c.into_inner-log.ensures) (c.close-parts.ensures.stand 0 (parts.Log taken.result.log) taken.ensures.log).1
+
+pub returns-clause-end : goal.returns-clause-end
+returns-clause-end g c = ap (λ (t : LogTail). t.gate) (returns-clause-log g c).tail_is
 
 pub returns-clause-begins : goal.returns-clause-begins
 returns-clause-begins g c tells = log_begins g.L.LogDisk (start_of c.args.life.hall) c.into_inner-log.result (list_at (view c.args.life.host.pass).seen log_lock) (returns-clause-log g c) tells

@@ -1,4 +1,4 @@
-use Rattle.std.proofs.Common.{map, refl, subst, sym}
+use Rattle.std.proofs.Common.{ap, map, refl, subst, sym, ◌∙◌}
 use Rattle.std.proofs.lemmas.Result.{IfOk-weaker}
 use Rattle.recoverable.proofs.NewBegins.{new_begins}
 use Rattle.tx_core.specs.declared.entry.Start.{Start}
@@ -11,7 +11,7 @@ use Rattle.engine_life.specs.declared.refusal.NoLife.{NoLife}
 use Rattle.engine_life.specs.Lives.{IsBegun}
 use Rattle.engine_life.specs.Refusals.{IsNoLife}
 use Rattle.engine_life.specs.Reopening.{volumes_over}
-use Rattle.engine_life.proofs.Finding.{counted_since, new_log, not_begun}
+use Rattle.engine_life.proofs.Finding.{counted_since, first_gate, new_log, not_begun}
 use Rattle.engine_life.proofs.Living.{of_err}
 use Rattle.engine_life.proofs.opened.begin_new.Goals as goal
 
@@ -26,6 +26,7 @@ returns-in-Ok-clause-life g c disk is =
     IfOk-weaker c.begin_life.result _ _ (λ life begun. record {
       banks = record { some = banks.0; few = banks.1; xact = have of_xact; subtrans = have of_subtrans; offsets = have of_offsets; members = have of_members };
       gate = gate_behind parts.locks.items;
+      gate_is = λ told. first_gate g.L.LogDisk disk c.args.log (gate_behind parts.locks.items) is told (ap (λ (s : Start). s.gate) (sym k.start) ∙ k.end);
       faults = map faults_behind parts.locks.items;
       counted = subst (λ (s : Start). AreCounted g.L.LogDisk g.P.PageDisk disk v s.faults) k.start
           (counted_since g.L.LogDisk g.P.PageDisk disk (log_disk c.args.log) v parts.start.value.faults is.count k.counted);

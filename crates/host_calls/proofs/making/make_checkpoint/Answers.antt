@@ -288,3 +288,43 @@ pub returns-in-Err-clause-stages : goal.returns-in-Err-clause-stages
 returns-in-Err-clause-stages g c =
     let f = c.flush_records.ensures in
     flushed (start_of c.args.hall.now) c.args.by (view c.args.pass.now).seen (view c.flush_records.new.pass).seen c.flush_records.result f.asks f.adds f.kept
+
+pub returns-in-Err-write_checkpoint-clause-full : goal.returns-in-Err-write_checkpoint-clause-full
+returns-in-Err-write_checkpoint-clause-full g c =
+    let start = start_of c.args.hall.now in
+    let by = c.args.by in
+    let his = c.requires.turn.known in
+    let old = (view c.args.pass.now).seen in
+    let wide = c.requires.alone.own.wide in
+    let inside : log_lock < length old = omega (arith, wide, c.requires.alone.laid) in
+    let mid = (view c.flush_records.new.pass).seen in
+    let kept = c.flush_records.ensures.kept in
+    let f = adds_one log_lock (flush_by by (next_number start old)) old mid inside c.in-Ok.ensures.adds in
+    let late = (view c.sync_all.new.pass).seen in
+    let s = subst (λ b. AddsSyncs by 3 (3 + 4 * b) mid late) c.requires.banks c.in-Ok-sync_all.ensures.adds in
+    (write_told start by old his inside mid kept f late s (Unit {0}) (view c.write_checkpoint.new.pass).seen c.in-Err-write_checkpoint.refusal c.refusal_of.result c.in-Err-write_checkpoint.ensures.adds c.refusal_of.ensures).full
+
+pub returns-in-Err-sync_all-clause-full : goal.returns-in-Err-sync_all-clause-full
+returns-in-Err-sync_all-clause-full g c =
+    let start = start_of c.args.hall.now in
+    let by = c.args.by in
+    let his = c.requires.turn.known in
+    let old = (view c.args.pass.now).seen in
+    let wide = c.requires.alone.own.wide in
+    let inside : log_lock < length old = omega (arith, wide, c.requires.alone.laid) in
+    let mid = (view c.flush_records.new.pass).seen in
+    let kept = c.flush_records.ensures.kept in
+    let f = adds_one log_lock (flush_by by (next_number start old)) old mid inside c.in-Ok.ensures.adds in
+    let late = (view c.sync_all.new.pass).seen in
+    (sync_told start by old his inside mid kept f late (3 + 4 * c.args.cluster.banks) c.in-Err-sync_all.lock c.in-Err-sync_all.ensures.adds).full
+
+pub returns-in-Err-clause-full : goal.returns-in-Err-clause-full
+returns-in-Err-clause-full g c =
+    let start = start_of c.args.hall.now in
+    let by = c.args.by in
+    let his = c.requires.turn.known in
+    let old = (view c.args.pass.now).seen in
+    let wide = c.requires.alone.own.wide in
+    let inside : log_lock < length old = omega (arith, wide, c.requires.alone.laid) in
+    let mid = (view c.flush_records.new.pass).seen in
+    (flush_told start by old his inside (Unit {0}) mid c.in-Err.refusal c.refusal_of-in-Err.result c.flush_records.ensures.kept c.in-Err.ensures.adds c.refusal_of-in-Err.ensures).full

@@ -121,7 +121,7 @@ returns-in-Err-clause-adds g c =
     let inside : log_lock < length old = omega (arith, wide, c.requires.alone.laid) in
     let counters = c.in-Ok.shared in
     let mid = (view c.append_checkpoint.new.pass).seen in
-    append_refused start by old inside (Unit {0}) counters mid c.in-Err.refusal c.requires.up
+    append_refused start by old inside (Unit {0}) counters mid c.in-Err.refusal (c.in-Ok.ensures ∙ c.read_counters-counters.ensures.counters) c.requires.up
     (subst (λ (z : List (List Entry)). AddsCheckpoint start by counters z mid (Err c.in-Err.refusal)) r.stays.seen c.in-Err.ensures.adds)
 
 -- each section is a stage

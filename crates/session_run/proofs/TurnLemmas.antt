@@ -45,14 +45,17 @@ module _ {H L P : Type 0} {l : logs.Ghosts L} {p : disks.Ghosts P} where
 none_is_next : (place : ℕ) (rest : List ℕ) → [] ≡ place ∷ rest → ⊥
 none_is_next place rest e = let n : 0 ≡ length (place ∷ rest) = ap length e in omega (arith, n)
 
+plus_one : (n : ℕ) → n + 1 ≡ suc n
+plus_one n = omega arith
+
 pub next_place : (places : List ℕ) (count place : ℕ) (rest : List ℕ) → drop count places ≡ place ∷ rest
-    → (count < length places) × (get_or places count 0 ≡ place) × (drop (suc count) places ≡ rest)
+    → (count < length places) × (get_or places count 0 ≡ place) × (drop (count + 1) places ≡ rest)
 next_place [] zero place rest e = absurd (none_is_next place rest e)
 next_place [] (suc n) place rest e = absurd (none_is_next place rest e)
 next_place (p ∷ places) zero place rest e = (omega arith, ap (λ (l : List ℕ). get_or l 0 0) e, ap (drop 1) e)
 next_place (p ∷ places) (suc n) place rest e =
     let more = next_place places n place rest e in
-    (let l = more.0 in omega (arith, l), more.1, more.2)
+    (let l = more.0 in omega (arith, l), more.1, ap (λ k. drop k (p ∷ places)) (plus_one (suc n)) ∙ ap (λ k. drop k places) (sym (plus_one n)) ∙ more.2)
 
 pub all_taken : (places : List ℕ) (count : ℕ) → drop count places ≡ [] → take count places ≡ places
 all_taken [] zero e = refl
@@ -152,3 +155,17 @@ module _ {H K L P : Type 0} {l : logs.Ghosts L} {p : disks.Ghosts P} (keep : kee
           kept_is = i.kept_is;
           few = (let f = i.few in omega (arith, f));
         }
+
+    -- the same of the next one of the places that are left
+    pub at_on : {T E : Type 0} (command : Command) (x : T) (place : ℕ) (left rest : List ℕ) (now new : Member K L P l p) → Keeps keep names
+        → left ≡ place ∷ rest → slice_get round place ≡ Some (items.Run now.caller.number command)
+        → IsAt left now → RunsNext keep {E = E} hall banks names command (Ok x) now new → IsAt rest new
+    at_on {E = E} command x place left rest now new laws e stands i r =
+        let next = next_place places i.0 place rest (i.2 ∙ e) in
+        (i.0 + 1, so_far_on {E = E} i.0 command x now new laws next.0 (ap (slice_get round) next.1 ∙ stands) i.1 r, next.2)
+
+    pub at_same : (place : ℕ) (left rest : List ℕ) (now : Member K L P l p)
+        → left ≡ place ∷ rest → turns_at now.caller.number round (place ∷ []) ≡ [] → IsAt left now → IsAt rest now
+    at_same place left rest now e none i =
+        let next = next_place places i.0 place rest (i.2 ∙ e) in
+        (i.0 + 1, so_far_same i.0 now next.0 (ap (λ k. turns_at now.caller.number round (k ∷ [])) next.1 ∙ none) i.1, next.2)

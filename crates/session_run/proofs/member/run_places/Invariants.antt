@@ -3,7 +3,7 @@ use Rattle.session_run.proofs.TurnLemmas.{IsAt}
 use Rattle.session_run.proofs.member.run_places.Given as goal
 
 abbrev pub invariant-loop-place : goal.invariant-loop-place
-invariant-loop-place g l = IsAt g.K.LineKeeper l.hall l.banks l.names l.round l.places l.fn.member l.left l.member
+invariant-loop-place g l = IsAt g.K.LineKeeper l.hall l.banks l.names l.round l.fn.places l.fn.member l.left l.member
 
 abbrev pub decreases-loop-place : goal.decreases-loop-place
 decreases-loop-place g l = length l.left

@@ -21,8 +21,8 @@ use wal_core::WalLog;
 /// volume of each store for each bank.
 ///
 /// The parts stand for lists without entries, in a life that begins with the volumes' counts of faults, which aren't
-/// below what they were, and with a log that ends 62 bytes further: behind a batch with that checkpoint. After an error the volumes come back, in the order of their banks; pages may be removed then,
-/// and the checkpoint written.
+/// below what they were, and with a log that ends 62 bytes further: behind a batch with that checkpoint. After an error
+/// the volumes come back, in the order of their banks; pages may be removed then, and the checkpoint written.
 pub fn open_new<L: LogDisk + Drop, P: PageDisk + Drop>(
     alloc: Global,
     rooms: &mut LifeRooms<P>,

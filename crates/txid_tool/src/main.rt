@@ -4,8 +4,10 @@
 #![tactic(auto)]
 
 ghost use Rattle.std.specs.Prelude.{◌≡◌, ◌↔◌, ◌∷◌, ℕ, List, [], IfNone, IfSome, IsTrue, codes, map, string_bytes};
+ghost use Rattle.session_run.specs.Guarantee.{MayRunOver, RunsTool};
+ghost use Rattle.session_run.specs.Unknown.{no_log};
 
-use disk_core::MemMedia;
+use disk_core::{Media, MemMedia};
 use disk_folder::FolderMedia;
 use engine_parts::OpenGate;
 use report_check::check_tool;
@@ -67,35 +69,32 @@ fn is_check(words: &[String]) -> bool
     }
 }
 
-/// Runs the tool over volumes in memory.
-fn run_in_memory<S: Source, K: Sink>(
+/// Runs the tool over this media.
+fn run_over<S: Source, K: Sink, M: Media>(
     rt: &(impl AllocGlobal + Threads + Wait + Sync),
     words: &[String],
     source: &mut S,
     sink: &mut K,
-) -> u8 {
-    let alloc = rt.alloc();
-    let mut media = MemMedia::new(alloc);
+    media: &mut M,
+) -> u8
+where
+    M::Log: Sync,
+    M::Pages: Sync,
+    requires idle { IsTrue (M.is_idle media.old) }
+    requires may { MayRunOver M.Media M.Log.LogDisk M.Pages.PageDisk no_log media.old }
+    ensures runs { RunsTool S.Source K.Sink M.Media M.Log.LogDisk M.Pages.PageDisk no_log
+        (map string_bytes words.now) source.old source.new sink.old sink.new media.old media.new result }
+{
     let threads = threads(rt);
     run_tool(
-        rt, alloc, words, source, sink, &mut media, threads, &OpenGate,
-    )
-}
-
-/// The same over volumes in this folder.
-fn run_in_folder<S: Source, K: Sink>(
-    rt: &(impl AllocGlobal + Threads + Wait + Sync),
-    files: HostRuntime,
-    folder: String,
-    words: &[String],
-    source: &mut S,
-    sink: &mut K,
-) -> u8 {
-    let alloc = rt.alloc();
-    let mut media = FolderMedia::new(files, alloc, folder);
-    let threads = threads(rt);
-    run_tool(
-        rt, alloc, words, source, sink, &mut media, threads, &OpenGate,
+        rt,
+        rt.alloc(),
+        words,
+        source,
+        sink,
+        media,
+        threads,
+        &OpenGate,
     )
 }
 
@@ -114,8 +113,14 @@ fn main(rt: HostRuntime) -> ExitCode {
         return ExitCode::from(check_tool(rt.alloc(), &mut source, &mut sink));
     }
     let status = match take_folder(&mut words) {
-        Some(path) => run_in_folder(&rt, rt, path, words.as_slice(), &mut source, &mut sink),
-        None => run_in_memory(&rt, words.as_slice(), &mut source, &mut sink),
+        Some(path) => {
+            let mut folder = FolderMedia::new(rt, rt.alloc(), path);
+            run_over(&rt, words.as_slice(), &mut source, &mut sink, &mut folder)
+        }
+        None => {
+            let mut memory = MemMedia::new(rt.alloc());
+            run_over(&rt, words.as_slice(), &mut source, &mut sink, &mut memory)
+        }
     };
     ExitCode::from(status)
 }

@@ -68,10 +68,10 @@ gate_in (Ok o) = o.gate
 gate_in (Err at) = at
 
 opened_none : (v : Volume) (gate : ℕ) → opened v ≡ Ok (record { history = None; gate = gate }) → gate ≡ 0
-unfolding opened
+unfolding opened gate_in
 opened_none v gate e = by_start (is_new v) e
   where
-    walked_none : (whole : Bool) (h : History) (reach : ℕ) → cond whole (Ok (record { history = Some h; gate = reach })) (Err reach) ≡ Ok (record { history = None; gate = gate }) → ⊥
+    walked_none : (whole : Bool) (h : History) (reach : ℕ) → cond {A = Result Opened ℕ} whole (Ok (record { history = Some h; gate = reach })) (Err reach) ≡ Ok (record { history = None; gate = gate }) → ⊥
     walked_none true h reach e = let two : Some h ≡ None = ap history_in e in absurd cc
     walked_none false h reach e = absurd cc
 
@@ -80,7 +80,7 @@ opened_none v gate e = by_start (is_new v) e
     judged_none (Ok None) e = absurd cc
     judged_none (Ok (Some h)) e = walked_none (walked v).whole h (v.start + (walked v).reach) e
 
-    by_start : (new : Bool) → cond new (Ok (record { history = None; gate = 0 })) (opened_as v.start (walked v) (judged (walked v).bodies v.start None)) ≡ Ok (record { history = None; gate = gate }) → gate ≡ 0
+    by_start : (new : Bool) → cond {A = Result Opened ℕ} new (Ok (record { history = None; gate = 0 })) (opened_as v.start (walked v) (judged (walked v).bodies v.start None)) ≡ Ok (record { history = None; gate = gate }) → gate ≡ 0
     by_start true e = sym (ap gate_in e)
     by_start false e = absurd (judged_none (judged (walked v).bodies v.start None) e)
 

@@ -55,6 +55,7 @@ fn turn_round<P: PageDisk>(volumes: &mut BankVolumes<P>)
 
 // Takes the parts behind so many first ones apart, and puts the volumes of their banks, in their order, before these.
 // The volume of a log is dropped. The last part comes first, so the volumes lie the other way round meanwhile.
+#[inline(always)]
 pub(crate) fn bank_volumes<L: LogDisk + Drop, P: PageDisk + Drop>(
     rooms: &mut BankRooms,
     locks: &mut Vec<Part<L, P>>,

@@ -89,6 +89,7 @@ impl LineKeeper for Steps {
 
     fn join(&mut self, other: &mut Steps) -> Result<(), Memory> {
         match other.plain() {
+            Some(text) if text.is_empty() => return Ok(()),
             Some(text) if text.len() <= SHORT => self.last.put(text)?,
             _ => self.take(other)?,
         }

@@ -1,5 +1,5 @@
 -- What a checkpoint did, by where it ended.
-use Rattle.std.proofs.Common.{◌≡◌, ℕ, ◌+◌, ◌*◌, ◌<◌, List, [], ◌∷◌, ◌++◌, Err, Ok, Some, append-nil, append_assoc, length, inl, inr, refl, sym, ap, subst, ◌∙◌, arith, ⊎_elim}
+use Rattle.std.proofs.Common.{◌≡◌, ℕ, ◌+◌, ◌*◌, ◌<◌, ◌≤◌, List, [], ◌∷◌, ◌++◌, Err, Ok, Some, append-nil, append_assoc, length, inl, inr, refl, sym, ap, subst, ◌∙◌, arith, ⊎_elim}
 use Rattle.std.proofs.lemmas.List.{length-append}
 use Rattle.std.proofs.lemmas.Option.{same_Some}
 use Rattle.disk_core.specs.Faults.{HasRisen}
@@ -41,7 +41,7 @@ use Rattle.session_promise.specs.Checkpoints.{AddsFor, IsFlushedBelow}
 use Rattle.session_promise.specs.Promise.{recs_of}
 use Rattle.session_promise.proofs.CheckpointRecords.{recs_append}
 use Rattle.host_calls.specs.Added.{AddsAt, AddsSyncs, FailsAt, IsBuiltBank, LacksCheckpointRoom, WritesCheckpoint, checkpoint_now, host_by}
-use Rattle.host_calls.specs.Made.{HasFailed, IsBuilt, IsOfUpLog, IsUntouched, IsWholeCheckpoint, Went}
+use Rattle.host_calls.specs.Made.{HasFailed, IsBuilt, IsFullCheckpoint, IsOfUpLog, IsUntouched, IsWholeCheckpoint, Went}
 use Rattle.host_calls.proofs.Adding.{adds_one}
 use Rattle.host_calls.proofs.Hosts.{AddsHosts, AreHosts, hosts_at, hosts_grow, hosts_idle, hosts_none, hosts_syncs, hosts_then}
 
@@ -93,7 +93,7 @@ pub record Told (start : Start) (old new : List (List Entry)) (reply : Reply) : 
   pub fault : (lock : Lock) → failed_volume reply ≡ Some lock → HasFailed start old new lock
   pub up : IsOfUpLog old reply
   pub untouched : IsUntouched old new reply
-  pub full : reply ≡ replies.Refused refusals.Full → LacksCheckpointRoom start new
+  pub full : reply ≡ replies.Refused refusals.Full → IsFullCheckpoint start old new
 
 module _ (start : Start) (by : By) (old : List (List Entry)) (his : by.session ≡ start.sessions) (inside : log_lock < length old) where
   abbrev es : List Entry
@@ -223,7 +223,7 @@ module _ (start : Start) (by : By) (old : List (List Entry)) (his : by.session �
           went_so start old new (flush ∷ more) reply (hosts_then start old late new hosts_late (hosts_at start log_lock more late new theirs a)) (behind new more a) (his, theirs) (a.others proc_lock (λ q. omega (arith, q)) ∙ proc_late) (a.others multi_lock (λ q. omega (arith, q)) ∙ multis_late) adds flushed
 
       -- nothing more was done
-      stopped : (new : List (List Entry)) (r : Refusal) → new ≡ late → AddsFor start old (flush ∷ []) (replies.Refused r) → ((lock : Lock) → failed_volume (replies.Refused r) ≡ Some lock → ⊥) → IsOfUpLog old (replies.Refused r) → IsUntouched old new (replies.Refused r) → (replies.Refused r ≡ replies.Refused refusals.Full → LacksCheckpointRoom start new) → Told start old new (replies.Refused r)
+      stopped : (new : List (List Entry)) (r : Refusal) → new ≡ late → AddsFor start old (flush ∷ []) (replies.Refused r) → ((lock : Lock) → failed_volume (replies.Refused r) ≡ Some lock → ⊥) → IsOfUpLog old (replies.Refused r) → IsUntouched old new (replies.Refused r) → (replies.Refused r ≡ replies.Refused refusals.Full → IsFullCheckpoint start old new) → Told start old new (replies.Refused r)
       stopped new r same adds other up quiet full = record {
         went = subst (λ (z : List (List Entry)). Went start old z (replies.Refused r)) (sym same) (went_so start old late (flush ∷ []) (replies.Refused r) hosts_late log_late (his, tt) proc_late multis_late adds (λ q. absurd cc));
         fault = λ lock q. absurd (other lock q);
@@ -231,6 +231,19 @@ module _ (start : Start) (by : By) (old : List (List Entry)) (his : by.session �
         untouched = quiet;
         full = full;
       }
+
+      -- the log had no room for the checkpoint
+      full_left : (new : List (List Entry)) → by.command ≡ 0 → new ≡ late → LacksCheckpointRoom start late → IsFullCheckpoint start old new
+      full_left new none same lacks =
+          let is : by ≡ host_by start = λ j. record { session = his j; command = none j } in
+          let flushed : at late log_lock ≡ es ++ flush_by by n ∷ [] = log_late in
+          let synced : (lock : ℕ) → 3 ≤ lock → lock < 3 + 4 * start.banks → at late lock ≡ at old lock ++ sync_by by ∷ []
+          = λ lock low high. s.here lock low high ∙ ap (λ (t : List Entry). t ++ sync_by by ∷ []) (f.others lock (λ q. omega (arith, q, low))) in
+          subst (IsFullCheckpoint start old) (sym same) (record {
+            log = subst (λ (b : By). at late log_lock ≡ es ++ flush_by b n ∷ []) is flushed;
+            banks = λ lock low high. subst (λ (b : By). at late lock ≡ at old lock ++ sync_by b ∷ []) is (synced lock low high);
+            lacks = lacks;
+          })
 
       -- the log's volume failed behind the checkpoint
       failed : (new : List (List Entry)) (before : List Entry) (fault : Entry) (count : ℕ) → AreHosts start (before ++ fault ∷ []) → count_in fault.kind ≡ Some count → AddsAt log_lock (before ++ fault ∷ []) late new → faults_told start log_lock (es ++ flush ∷ before) ≡ faults_told start log_lock es
@@ -245,8 +258,8 @@ module _ (start : Start) (by : By) (old : List (List Entry)) (his : by.session �
 
       -- ---- the checkpoint was written, or not
 
-      pub write_told : (T : Type 0) (new : List (List Entry)) (refusal : LogRefusal) (r : Refusal) → WritesCheckpoint {T = T} start by late new (Err refusal) → IsRefusalOf refusal r → Told start old new (replies.Refused r)
-      write_told T new refused.LogFault r a is =
+      pub write_told : (T : Type 0) (new : List (List Entry)) (refusal : LogRefusal) (r : Refusal) → by.command ≡ 0 → WritesCheckpoint {T = T} start by late new (Err refusal) → IsRefusalOf refusal r → Told start old new (replies.Refused r)
+      write_told T new refused.LogFault r none a is =
           let unflushed : AddsAt log_lock (checkpoint_now start by late ∷ flush_fault_by by a.count ∷ []) late new → Told start old new (replies.Refused refusals.LogFault) = λ b.
           failed new (mark ∷ []) (flush_fault_by by a.count) a.count (his, (his, tt)) refl (subst (λ (m : Entry). AddsAt log_lock (m ∷ flush_fault_by by a.count ∷ []) late new) mark_late b)
           (ap (faults_told start log_lock) (sym (append_assoc es (flush ∷ []) (mark ∷ []))) ∙ (number_same count_in (faults_at start log_lock) (es ++ flush ∷ []) mark refl ∙ told_flush))
@@ -258,10 +271,10 @@ module _ (start : Start) (by : By) (old : List (List Entry)) (his : by.session �
           ∙ (number_same count_in (faults_at start log_lock) ((es ++ flush ∷ []) ++ mark ∷ []) again refl ∙ (number_same count_in (faults_at start log_lock) (es ++ flush ∷ []) mark refl ∙ told_flush)))
           a.risen (inr (record { recs_are = refl; faults_are = refl })) in
           subst (λ (q : Refusal). Told start old new (replies.Refused q)) (sym is) (⊎_elim unflushed unforgotten a.adds)
-      write_told T new refused.Full r a is = subst (λ (q : Refusal). Told start old new (replies.Refused q)) (sym is) (stopped new refusals.Full a.0 (record { recs_are = refl; faults_are = refl }) (λ lock q. cc) was_up tt (λ q. subst (LacksCheckpointRoom start) (sym a.0) a.1))
-      write_told T new refused.Memory r a is = subst (λ (q : Refusal). Told start old new (replies.Refused q)) (sym is) (stopped new refusals.Memory a (record { recs_are = refl; faults_are = refl }) (λ lock q. cc) was_up tt (λ q. absurd cc))
-      write_told T new (refused.LogDown down) r a is = absurd a
-      write_told T new (refused.Damaged place) r a is = absurd a
+      write_told T new refused.Full r none a is = subst (λ (q : Refusal). Told start old new (replies.Refused q)) (sym is) (stopped new refusals.Full a.0 (record { recs_are = refl; faults_are = refl }) (λ lock q. cc) was_up tt (λ q. full_left new none a.0 a.1))
+      write_told T new refused.Memory r none a is = subst (λ (q : Refusal). Told start old new (replies.Refused q)) (sym is) (stopped new refusals.Memory a (record { recs_are = refl; faults_are = refl }) (λ lock q. cc) was_up tt (λ q. absurd cc))
+      write_told T new (refused.LogDown down) r none a is = absurd a
+      write_told T new (refused.Damaged place) r none a is = absurd a
 
       -- the entries of a whole one
       whole : (new : List (List Entry)) → AddsAt log_lock (checkpoint_now start by late ∷ flush_by by (next_number start late + 1) ∷ forget_by by (next_number start late) ∷ []) late new → AddsAt log_lock (mark ∷ again ∷ forget_by by n ∷ []) late new

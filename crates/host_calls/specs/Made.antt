@@ -20,7 +20,7 @@ use Rattle.host_sections.specs.HostEntries.{flush_by, forget_by, next_number, sy
 pub use Rattle.session_promise.specs.Causes.{failed_volume}
 use Rattle.session_promise.specs.Checkpoints.{AddsFor, IsCommitting, IsFlushedBelow, IsMakingMulti}
 use Rattle.session_promise.specs.Promise.{recs_of}
-use Rattle.host_calls.specs.Added.{IsBuiltBank, checkpoint_now, host_by}
+use Rattle.host_calls.specs.Added.{IsBuiltBank, LacksCheckpointRoom, checkpoint_now, host_by}
 
 abbrev pub IsNoneCommitting : List Session → Type 0
 IsNoneCommitting sessions = (n : ℕ) → IsCommitting sessions n → ⊥
@@ -62,6 +62,14 @@ pub record IsWholeCheckpoint (start : Start) (before after : List (List Entry)) 
   pub proc : at after proc_lock ≡ at before proc_lock
   pub multis : at after multi_lock ≡ at before multi_lock
   pub words : (place : ℕ) → 3 + 4 * start.banks ≤ place → at after place ≡ at before place
+
+-- What one leaves that is refused with `Full`: the records were flushed and all banks of the four stores synced, and then
+-- the log had no room for the checkpoint's record.
+pub record IsFullCheckpoint (start : Start) (before after : List (List Entry)) : Type 0 where
+  pub log : at after log_lock ≡ at before log_lock ++ flush_by (host_by start) (next_number start before) ∷ []
+  pub banks : (lock : ℕ) → 3 ≤ lock → lock < 3 + 4 * start.banks
+      → at after lock ≡ at before lock ++ sync_by (host_by start) ∷ []
+  pub lacks : LacksCheckpointRoom start after
 
 -- the volume of the log, or of a bank that is built
 abbrev pub IsBuilt : ℕ → Lock → Type 0

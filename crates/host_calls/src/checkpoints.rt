@@ -11,8 +11,7 @@ ghost use Rattle.engine_host.specs.Hosts.{IsParked};
 ghost use Rattle.session_promise.specs.Causes.{failed_volume};
 ghost use Rattle.session_promise.specs.Checkpoints.{WentCheckpoint};
 ghost use Rattle.host_calls.specs.Moments.{FitThroughout};
-ghost use Rattle.host_calls.specs.Added.{LacksCheckpointRoom};
-ghost use Rattle.host_calls.specs.Made.{HasFailed, IsOfUpLog, IsUntouched, IsWholeCheckpoint};
+ghost use Rattle.host_calls.specs.Made.{HasFailed, IsFullCheckpoint, IsOfUpLog, IsUntouched, IsWholeCheckpoint};
 
 use crate::committing::{first_committing, first_making};
 use crate::making::make_checkpoint;
@@ -57,7 +56,8 @@ pub fn checkpoint<R: Wait, L: LogDisk, P: PageDisk>(
     ensures fit { BeganRight (start_of hall.now) → IsShort (view host.old.pass).seen
         → FitThroughout L.LogDisk P.PageDisk (start_of hall.now) (view host.old.pass).seen (view host.new.pass).seen }
     ensures untouched { IsUntouched (view host.old.pass).seen (view host.new.pass).seen result }
-    ensures full { result ≡ replies.Refused Full → LacksCheckpointRoom (start_of hall.now) (view host.new.pass).seen }
+    ensures full { result ≡ replies.Refused Full
+        → IsFullCheckpoint (start_of hall.now) (view host.old.pass).seen (view host.new.pass).seen }
 {
     match first_committing(sessions) {
         Some(session) => Reply::Pending {

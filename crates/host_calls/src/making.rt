@@ -10,8 +10,7 @@ ghost use Rattle.tx_core.specs.ProgramOrder.{IsHostsTurn};
 ghost use Rattle.engine_parts.specs.Alone.{IsAlone};
 ghost use Rattle.session_promise.specs.Causes.{failed_volume};
 ghost use Rattle.host_calls.specs.Moments.{KeptThroughout};
-ghost use Rattle.host_calls.specs.Added.{LacksCheckpointRoom};
-ghost use Rattle.host_calls.specs.Made.{HasFailed, IsOfUpLog, IsTried, IsUntouched, IsWholeCheckpoint, Went};
+ghost use Rattle.host_calls.specs.Made.{HasFailed, IsFullCheckpoint, IsOfUpLog, IsTried, IsUntouched, IsWholeCheckpoint, Went};
 ghost use Rattle.host_calls.specs.Synced.{AreAllMade, IsNoneWaiting};
 
 use crate::syncs::sync_all;
@@ -56,7 +55,8 @@ pub(crate) fn make_checkpoint<R: Wait, L: LogDisk, P: PageDisk>(
         → HasFailed (start_of hall.now) (view pass.old).seen (view pass.new).seen lock }
     ensures up { IsOfUpLog (view pass.old).seen result }
     ensures untouched { IsUntouched (view pass.old).seen (view pass.new).seen result }
-    ensures full { result ≡ replies.Refused Full → LacksCheckpointRoom (start_of hall.now) (view pass.new).seen }
+    ensures full { result ≡ replies.Refused Full
+        → IsFullCheckpoint (start_of hall.now) (view pass.old).seen (view pass.new).seen }
 {
     match flush_records(rt, hall, pass, by) {
         Ok(()) => match sync_all(rt, hall, pass, by, cluster.banks) {

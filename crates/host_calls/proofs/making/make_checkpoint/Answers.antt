@@ -111,7 +111,7 @@ returns-in-Err-write_checkpoint-clause-went g c =
     let f = adds_one log_lock (flush_by by (next_number start old)) old mid inside c.in-Ok.ensures.adds in
     let late = (view c.sync_all.new.pass).seen in
     let s = subst (λ b. AddsSyncs by 3 (3 + 4 * b) mid late) c.requires.banks c.in-Ok-sync_all.ensures.adds in
-    (write_told start by old his inside mid kept f late s (Unit {0}) (view c.write_checkpoint.new.pass).seen c.in-Err-write_checkpoint.refusal c.refusal_of.result c.in-Err-write_checkpoint.ensures.adds c.refusal_of.ensures).went
+    (write_told start by old his inside mid kept f late s (Unit {0}) (view c.write_checkpoint.new.pass).seen c.in-Err-write_checkpoint.refusal c.refusal_of.result c.requires.turn.no_command c.in-Err-write_checkpoint.ensures.adds c.refusal_of.ensures).went
 
 pub returns-in-Err-write_checkpoint-clause-fault : goal.returns-in-Err-write_checkpoint-clause-fault
 returns-in-Err-write_checkpoint-clause-fault g c =
@@ -126,7 +126,7 @@ returns-in-Err-write_checkpoint-clause-fault g c =
     let f = adds_one log_lock (flush_by by (next_number start old)) old mid inside c.in-Ok.ensures.adds in
     let late = (view c.sync_all.new.pass).seen in
     let s = subst (λ b. AddsSyncs by 3 (3 + 4 * b) mid late) c.requires.banks c.in-Ok-sync_all.ensures.adds in
-    (write_told start by old his inside mid kept f late s (Unit {0}) (view c.write_checkpoint.new.pass).seen c.in-Err-write_checkpoint.refusal c.refusal_of.result c.in-Err-write_checkpoint.ensures.adds c.refusal_of.ensures).fault
+    (write_told start by old his inside mid kept f late s (Unit {0}) (view c.write_checkpoint.new.pass).seen c.in-Err-write_checkpoint.refusal c.refusal_of.result c.requires.turn.no_command c.in-Err-write_checkpoint.ensures.adds c.refusal_of.ensures).fault
 
 pub returns-in-Err-write_checkpoint-clause-up : goal.returns-in-Err-write_checkpoint-clause-up
 returns-in-Err-write_checkpoint-clause-up g c =
@@ -141,7 +141,7 @@ returns-in-Err-write_checkpoint-clause-up g c =
     let f = adds_one log_lock (flush_by by (next_number start old)) old mid inside c.in-Ok.ensures.adds in
     let late = (view c.sync_all.new.pass).seen in
     let s = subst (λ b. AddsSyncs by 3 (3 + 4 * b) mid late) c.requires.banks c.in-Ok-sync_all.ensures.adds in
-    (write_told start by old his inside mid kept f late s (Unit {0}) (view c.write_checkpoint.new.pass).seen c.in-Err-write_checkpoint.refusal c.refusal_of.result c.in-Err-write_checkpoint.ensures.adds c.refusal_of.ensures).up
+    (write_told start by old his inside mid kept f late s (Unit {0}) (view c.write_checkpoint.new.pass).seen c.in-Err-write_checkpoint.refusal c.refusal_of.result c.requires.turn.no_command c.in-Err-write_checkpoint.ensures.adds c.refusal_of.ensures).up
 
 pub returns-in-Err-write_checkpoint-clause-untouched : goal.returns-in-Err-write_checkpoint-clause-untouched
 returns-in-Err-write_checkpoint-clause-untouched g c =
@@ -156,7 +156,7 @@ returns-in-Err-write_checkpoint-clause-untouched g c =
     let f = adds_one log_lock (flush_by by (next_number start old)) old mid inside c.in-Ok.ensures.adds in
     let late = (view c.sync_all.new.pass).seen in
     let s = subst (λ b. AddsSyncs by 3 (3 + 4 * b) mid late) c.requires.banks c.in-Ok-sync_all.ensures.adds in
-    (write_told start by old his inside mid kept f late s (Unit {0}) (view c.write_checkpoint.new.pass).seen c.in-Err-write_checkpoint.refusal c.refusal_of.result c.in-Err-write_checkpoint.ensures.adds c.refusal_of.ensures).untouched
+    (write_told start by old his inside mid kept f late s (Unit {0}) (view c.write_checkpoint.new.pass).seen c.in-Err-write_checkpoint.refusal c.refusal_of.result c.requires.turn.no_command c.in-Err-write_checkpoint.ensures.adds c.refusal_of.ensures).untouched
 
 pub returns-in-Err-sync_all-clause-went : goal.returns-in-Err-sync_all-clause-went
 returns-in-Err-sync_all-clause-went g c =
@@ -302,7 +302,7 @@ returns-in-Err-write_checkpoint-clause-full g c =
     let f = adds_one log_lock (flush_by by (next_number start old)) old mid inside c.in-Ok.ensures.adds in
     let late = (view c.sync_all.new.pass).seen in
     let s = subst (λ b. AddsSyncs by 3 (3 + 4 * b) mid late) c.requires.banks c.in-Ok-sync_all.ensures.adds in
-    (write_told start by old his inside mid kept f late s (Unit {0}) (view c.write_checkpoint.new.pass).seen c.in-Err-write_checkpoint.refusal c.refusal_of.result c.in-Err-write_checkpoint.ensures.adds c.refusal_of.ensures).full
+    (write_told start by old his inside mid kept f late s (Unit {0}) (view c.write_checkpoint.new.pass).seen c.in-Err-write_checkpoint.refusal c.refusal_of.result c.requires.turn.no_command c.in-Err-write_checkpoint.ensures.adds c.refusal_of.ensures).full
 
 pub returns-in-Err-sync_all-clause-full : goal.returns-in-Err-sync_all-clause-full
 returns-in-Err-sync_all-clause-full g c =

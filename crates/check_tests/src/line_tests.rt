@@ -3,20 +3,14 @@ use crate::events::{Act, event_of, id};
 use command_events::told_events;
 use line_stances::Standing;
 use std::process::Abort;
-use tx_events::{By, Event, FullXid, IdList, Lock, Name, Refusal};
-use tx_model::{Command, Line, Reply};
+use tx_events::{By, Event, Lock, Name, Refusal};
+use tx_model::{Command, GivenIds, Line, Reply};
 
 fn own(command: u64) -> By {
     By {
         session: 0,
         command,
     }
-}
-
-fn one_id<R: Abort + AllocGlobal>(rt: &R, id: FullXid) -> IdList {
-    let mut ids = IdList::new(rt.alloc());
-    assert!(rt; ids.push(id).is_ok());
-    ids
 }
 
 fn count_of(told: &Option<Vec<Event>>) -> usize {
@@ -41,7 +35,7 @@ fn with_savepoint<R: Abort + AllocGlobal>(rt: &R) -> Standing {
         command: Command::Write,
         reply: Reply::Wrote {
             warn: false,
-            ids: one_id(rt, three),
+            ids: GivenIds::one(three),
         },
     };
     let events = [event_of(rt, own(2), Act::Id(3))];

@@ -10,15 +10,15 @@ use crate::plain::plain_event;
 use crate::writes::{ids_given, most_given};
 use line_stances::Standing;
 use std::alloc::Global;
-use tx_events::{By, Event, IdList, Memory, Refusal};
-use tx_model::{Command, Line, Reply};
+use tx_events::{By, Event, Memory, Refusal};
+use tx_model::{Command, GivenIds, Line, Reply};
 
 /// Of a write that was answered with these ids.
 fn told_wrote(
     alloc: Global,
     by: By,
     standing: &Standing,
-    ids: &IdList,
+    ids: &GivenIds,
     warn: bool,
     own: &[Event],
 ) -> Result<Option<Vec<Event>>, Memory>

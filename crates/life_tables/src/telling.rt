@@ -9,7 +9,7 @@ ghost use Rattle.life_tables.specs.Told.{AreToldLists, told_of};
 
 use std::alloc::Global;
 use tx_events::Memory;
-use tx_model::{Line, Reply, SharedSnap, Step};
+use tx_model::{KeptLine, Reply, SharedSnap, Step};
 
 /// The lists of the snapshot that the reply tells, if it does.
 fn told_lists(reply: &Reply) -> Result<Option<SharedSnap>, Memory>
@@ -57,11 +57,12 @@ fn note_lists(so_far: &mut ToldSoFar, told: Option<SharedSnap>) -> Result<(), Me
     Ok(())
 }
 
-fn add_lists(so_far: &mut ToldSoFar, lines: &[Line]) -> Result<(), Memory>
+fn add_lists(so_far: &mut ToldSoFar, lines: &[KeptLine]) -> Result<(), Memory>
     ensures { OnOk result (told_of so_far.new ≡ told_of so_far.old ++ map (λ (l : Line). told_lists l.reply) lines.now) }
 {
     for line in lines {
-        note_lists(so_far, told_lists(&line.reply)?)?;
+        let look = line.reply();
+        note_lists(so_far, told_lists(look.reply())?)?;
     }
     Ok(())
 }
@@ -105,11 +106,12 @@ fn is_multi(reply: &Reply) -> bool
     matches!(reply, Reply::Multi { .. })
 }
 
-fn add_gave(gave: &mut Vec<bool>, lines: &[Line]) -> Result<(), Memory>
+fn add_gave(gave: &mut Vec<bool>, lines: &[KeptLine]) -> Result<(), Memory>
     ensures { OnOk result (gave.new.items ≡ gave.old.items ++ map (λ (l : Line). is_multi_reply l.reply) lines.now) }
 {
     for line in lines {
-        gave.push(is_multi(&line.reply))?;
+        let look = line.reply();
+        gave.push(is_multi(look.reply()))?;
     }
     Ok(())
 }

@@ -15,7 +15,7 @@ use crate::{Own, own_places};
 use std::alloc::Global;
 use std::marker::Model;
 use tx_events::{By, Memory};
-use tx_model::{Line, Step};
+use tx_model::{KeptLine, Step};
 
 /// A command's line: whose it is, and the number of its step, counted from 0.
 #[derive(Clone, Copy, Debug, PartialEq, Eq)]
@@ -70,11 +70,14 @@ pub(crate) fn small(number: u64) -> Result<u32, Memory>
 }
 
 /// Adds the lines of a round.
-fn add_lines(all: &mut Vec<LineAt>, step: u64, lines: &[Line]) -> Result<(), Memory>
+fn add_lines(all: &mut Vec<LineAt>, step: u64, lines: &[KeptLine]) -> Result<(), Memory>
     ensures { OnOk result (all.new.items ≡ all.old.items ++ map (line_at step) lines.now) }
 {
     for line in lines {
-        all.push(LineAt { by: line.by, step })?;
+        all.push(LineAt {
+            by: line.by(),
+            step,
+        })?;
     }
     Ok(())
 }

@@ -12,3 +12,4 @@ pub mod Kept
 pub mod Given
 pub mod Recording
 pub mod Walking
+pub mod Staying

@@ -7,7 +7,7 @@ ghost use Rattle.record_rules.specs.Answered.{AreAnswers, abort_after, commit_af
 
 use std::alloc::Global;
 use tx_events::{Memory, Refusal};
-use tx_model::{Command, Line, Reply, Step};
+use tx_model::{KeptLine, Reply, Step};
 
 /// Whether the log may have a record of the transaction that a session has open: its last commit wasn't answered `ok`, or
 /// its last abort met a fault.
@@ -38,31 +38,33 @@ fn is_disk_fault(reply: &Reply) -> bool
     }
 }
 
-fn commit_after(old: bool, line: &Line) -> bool
+fn commit_after(old: bool, line: &KeptLine) -> bool
     ensures { result ≡ commit_after old line.now.command line.now.reply }
 {
-    match line.command {
-        Command::Commit => is_not_done(&line.reply),
-        _ => old,
+    if !line.is_commit() {
+        return old;
     }
+    let reply = line.reply();
+    is_not_done(reply.reply())
 }
 
-fn abort_after(old: bool, line: &Line) -> bool
+fn abort_after(old: bool, line: &KeptLine) -> bool
     ensures { result ≡ abort_after old line.now.command line.now.reply }
 {
-    match line.command {
-        Command::Abort => is_disk_fault(&line.reply),
-        _ => old,
+    if !line.is_abort() {
+        return old;
     }
+    let reply = line.reply();
+    is_disk_fault(reply.reply())
 }
 
 /// Notes one line more. No session from 64 on is asked for.
-fn note_line(answers: &mut [Answers], line: &Line)
+fn note_line(answers: &mut [Answers], line: &KeptLine)
     requires { length answers.old ≡ 64 }
     ensures size { length answers.new ≡ 64 }
     ensures noted { (lines : List Line) → AreAnswers lines answers.old → AreAnswers (lines ++ line.now ∷ []) answers.new }
 {
-    let session = line.by.session as usize;
+    let session = line.by().session as usize;
     if session < 64 {
         let old = answers[session];
         answers[session] = Answers {
@@ -73,7 +75,7 @@ fn note_line(answers: &mut [Answers], line: &Line)
 }
 
 /// Notes the lines of a round.
-fn note_lines(answers: &mut [Answers], lines: &[Line])
+fn note_lines(answers: &mut [Answers], lines: &[KeptLine])
     requires { length answers.old ≡ 64 }
     ensures noted { (before : List Line) → AreAnswers before answers.old → AreAnswers (before ++ lines.now) answers.new }
     ensures size { length answers.new ≡ 64 }

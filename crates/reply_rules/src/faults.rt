@@ -6,7 +6,7 @@ ghost use Rattle.life_law.specs.Facts.{has_log_fault, is_checkpoint_fault, is_lo
 ghost use Rattle.report_law.specs.Answers.{AreLogFaults};
 
 use tx_events::Refusal;
-use tx_model::{Line, Reply, Step};
+use tx_model::{KeptLine, Reply, Step};
 
 fn is_log_fault(reply: &Reply) -> bool
     ensures { result ≡ is_log_fault reply.now }
@@ -17,11 +17,12 @@ fn is_log_fault(reply: &Reply) -> bool
     }
 }
 
-fn has_log_fault(lines: &[Line]) -> bool
+fn has_log_fault(lines: &[KeptLine]) -> bool
     ensures { result ≡ has_log_fault lines.now }
 {
     for line in lines {
-        if is_log_fault(&line.reply) {
+        let look = line.reply();
+        if is_log_fault(look.reply()) {
             return true;
         }
     }

@@ -14,7 +14,7 @@ use dump_rules::{Cuts, GenMark, cuts_of, gens_of, may_dump};
 use reply_lines::{Known, RoundAt};
 use std::alloc::Global;
 use tx_events::{Counters, Memory, Refusal};
-use tx_model::{DumpOf, LifeReport, Line, Reply, Step};
+use tx_model::{DumpOf, KeptLine, LifeReport, Reply, Step};
 
 /// What a life's dumps are held against: the cutoffs that its stores may have, and the multixacts that it gave, if it has a
 /// dump.
@@ -87,11 +87,12 @@ fn is_fault(reply: &Reply) -> bool
     }
 }
 
-fn is_any_faulty(lines: &[Line]) -> bool
+fn is_any_faulty(lines: &[KeptLine]) -> bool
     ensures { result ≡ list_any (λ l. is_fault l.reply) lines.now }
 {
     for line in lines {
-        if is_fault(&line.reply) {
+        let look = line.reply();
+        if is_fault(look.reply()) {
             return true;
         }
     }

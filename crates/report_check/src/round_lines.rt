@@ -15,7 +15,7 @@ use reply_rules::is_ok_trim;
 use standing_rules::Session;
 use std::alloc::Global;
 use tx_events::Memory;
-use tx_model::{LifeReport, Line};
+use tx_model::{KeptLine, LifeReport, Line};
 
 /// What is kept of the lines of a life so far: how each session stands behind them, of each of their events whether its
 /// line's reply tells it, how many lines there are, and how many are trims that were answered `ok`.
@@ -55,7 +55,7 @@ fn walk_line(
     known: &Known,
     round: RoundAt,
     passed: &mut Passed,
-    lines: &[Line],
+    lines: &[KeptLine],
     place: usize,
 ) -> Result<bool, Memory>
     ghost at: { AtLine }
@@ -71,7 +71,7 @@ fn walk_line(
     ensures lawful { IfOk result (λ b. (l : _) → slice_get (lines_at at) at.place ≡ Some l → IsTrue b ↔ IsLawfulCommand at.j (rounds_at at) (lines_at at) (earlier_at at) l) }
     ensures passed { IfOk result (λ b. (l : _) → slice_get (lines_at at) at.place ≡ Some l → IsTrue b → IsPassed at.j (before_at at ++ l ∷ []) passed.new) }
 {
-    let line = &lines[place];
+    let line = lines[place].line()?;
     let number = passed.lines;
     let lawful = is_lawful_command(
         alloc,
@@ -80,18 +80,18 @@ fn walk_line(
         report,
         known,
         round,
-        session_of(passed.sessions.as_slice(), line),
+        session_of(passed.sessions.as_slice(), &line),
         passed.trims,
         number,
-        line,
+        &line,
         &mut passed.told,
     )?;
     if !lawful {
         return Ok(false);
     }
-    pass_line(alloc, report, known, number, line, &mut passed.sessions)?;
+    pass_line(alloc, report, known, number, &line, &mut passed.sessions)?;
     let next = plus(number, 1)?;
-    let trims = trims_with(passed.trims, line)?;
+    let trims = trims_with(passed.trims, &line)?;
     passed.lines = next;
     passed.trims = trims;
     Ok(true)
@@ -105,7 +105,7 @@ pub fn walk_round(
     kept: &Kept,
     known: &Known,
     passed: &mut Passed,
-    lines: &[Line],
+    lines: &[KeptLine],
 ) -> Result<Walked, Memory>
     ghost of: { AtRound }
     requires report { IsReportOf of.j report.now }

@@ -21,10 +21,10 @@ use event_rules::count_of_events;
 use reply_lines::{Known, multis_at};
 use std::alloc::Global;
 use tx_events::Memory;
-use tx_model::{LifeReport, Line, Step};
+use tx_model::{KeptLine, LifeReport, Line, Step};
 
 /// The line at this place of the step, if there is one.
-fn line_in(step: &Step, place: u64) -> Option<&Line>
+fn line_in(step: &Step, place: u64) -> Option<&KeptLine>
     ensures { option_copied result ≡ slice_get (lines_in step.now) place }
 {
     match step {
@@ -93,14 +93,15 @@ fn is_told_in(
         Some(round) => round,
         None => return Ok(false),
     };
-    let line = match line_in(round, number.saturating_sub(first)) {
-        Some(line) => line,
+    let kept = match line_in(round, number.saturating_sub(first)) {
+        Some(kept) => kept,
         None => return Ok(false),
     };
+    let line = kept.line()?;
     let end = known.table.lines_before(step + 1);
     let from = count_of_events(&known.events, first);
     let to = count_of_events(&known.events, end);
-    is_told_of(alloc, report, known, from, to, number, line, place)
+    is_told_of(alloc, report, known, from, to, number, &line, place)
 }
 
 /// Whether the multixact event at this place is told by its command's reply in its turn. False where no line is its

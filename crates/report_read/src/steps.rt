@@ -13,7 +13,7 @@ use report_lines::{is_history, is_round, read_line, read_step};
 use report_text::Text;
 use report_words::Unread;
 use std::alloc::Global;
-use tx_model::{Memory, NameList, Sequence, Step};
+use tx_model::{KeptLine, Memory, NameList, Sequence, Step};
 
 /// The round that has spoken becomes a step.
 fn close_round(alloc: Global, told: &mut Told) -> Result<(), Memory>
@@ -86,7 +86,7 @@ fn take_command(
     note_turn(told.speaker, &mut told.spoken, session)?;
     told.speaker = Some(session);
     told.counts[session as usize] = said.by.command;
-    told.lines.push(said)?;
+    told.lines.push(KeptLine::of(alloc, said)?)?;
     told.stage = Stage::Spoken;
     Ok(())
 }

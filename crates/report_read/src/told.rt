@@ -7,7 +7,7 @@ ghost use Rattle.report_read.specs.Reports.{nothing_told};
 use crate::growing::Growing;
 use report_lines::{LogHead, Start};
 use std::alloc::Global;
-use tx_model::{Counters, Event, LifeList, Line, MultiEvent, NameList, Rec, Sequence, Step};
+use tx_model::{Counters, Event, KeptLine, LifeList, MultiEvent, NameList, Rec, Sequence, Step};
 
 /// What may follow.
 #[derive(Clone, Copy, PartialEq, Eq)]
@@ -45,7 +45,7 @@ pub struct Told {
     /// The number of the present round, 0 before the first.
     pub round: u64,
     /// The lines of the present round.
-    pub lines: Growing<Line>,
+    pub lines: Growing<KeptLine>,
     /// How many commands each session had in this life.
     pub counts: [u64; 64],
     /// The session of the last command of the round.

@@ -53,7 +53,7 @@ fn put_ended(out: &mut Text, word: &[u8], top: u64, subs: &IdList) -> Result<(),
     ensures ok { OnOk result (out.new ≡ out.old ++ more (word.now ∷ decimal top ∷ numbers subs.now)) }
 {
     out.named(word, top)?;
-    out.numbers(subs)
+    out.numbers(subs.items())
 }
 
 #[tactic(auto, using(crate::proofs::MoreWords::then_more))]

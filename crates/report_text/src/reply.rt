@@ -9,7 +9,7 @@ use crate::member::put_verdicts;
 use crate::refusal::{put_refusal, refusal_word};
 use crate::text::{Text, name_of, put_numbers_or_dash, put_yes_or_no};
 use tx_events::FullXid;
-use tx_model::{ByteList, IdList, Memory, NameList, Reply, SharedSnap, Status, VerdictList};
+use tx_model::{ByteList, GivenIds, Memory, NameList, Reply, SharedSnap, Status, VerdictList};
 
 /// An arrow behind a space.
 #[tactic(auto, unfolding(crate::specs::Words::more))]
@@ -35,11 +35,11 @@ fn put_warned(out: &mut Text, warn: bool) -> Result<(), Memory>
 }
 
 #[tactic(auto, using(crate::proofs::MoreWords::then_more))]
-fn put_wrote(out: &mut Text, ids: &IdList, warn: bool) -> Result<(), Memory>
+fn put_wrote(out: &mut Text, ids: &GivenIds, warn: bool) -> Result<(), Memory>
     ensures ok { OnOk result (out.new ≡ out.old ++ more (codes "->" ∷ codes "ok" ∷ numbers_or_dash ids.now ++ warned warn)) }
 {
     put_ok(out)?;
-    put_numbers_or_dash(out, ids)?;
+    put_numbers_or_dash(out, ids.items())?;
     put_warned(out, warn)
 }
 

@@ -9,7 +9,7 @@ ghost use Rattle.report_text.specs.ReportText.{command_line, dump_words, line_fr
 use crate::command::put_command;
 use crate::reply::{put_answer, put_snapped};
 use crate::text::{Text, name_of};
-use tx_model::{By, Command, DumpOf, Line, Memory, NameList, Reply, SharedSnap, Step};
+use tx_model::{By, Command, DumpOf, KeptLine, Memory, NameList, Reply, SharedSnap, Step};
 
 /// The line of a command with its reply.
 #[tactic(auto, using(crate::proofs::MoreWords::then_more, crate::proofs::MoreWords::then_line))]
@@ -52,14 +52,16 @@ pub fn put_snapshot_end(out: &mut Text, lists: &SharedSnap) -> Result<(), Memory
     out.end_line()
 }
 
-fn put_line(out: &mut Text, names: &NameList, line: &Line) -> Result<(), Memory>
+fn put_line(out: &mut Text, names: &NameList, line: &KeptLine) -> Result<(), Memory>
     ensures ok { OnOk result (out.new ≡ out.old ++ command_line names.now line.now) }
 {
-    put_command_line(out, names, line.by, &line.command, &line.reply)
+    let command = line.command();
+    let reply = line.reply();
+    put_command_line(out, names, line.by(), command.command(), reply.reply())
 }
 
 #[tactic(auto, using(crate::proofs::MoreWords::then_one_item, crate::proofs::MoreWords::no_item))]
-fn put_lines(out: &mut Text, names: &NameList, lines: &[Line]) -> Result<(), Memory>
+fn put_lines(out: &mut Text, names: &NameList, lines: &[KeptLine]) -> Result<(), Memory>
     ensures ok { OnOk result (out.new ≡ out.old ++ flat_map (command_line names.now) lines.now) }
 {
     for line in lines {

@@ -10,7 +10,7 @@ use std::alloc::Global;
 use std::marker::Model;
 use text_bytes::Bytes;
 use tx_events::FullXid;
-use tx_model::{IdList, Memory, NameList};
+use tx_model::{Memory, NameList};
 
 /// A text. After want of memory it may have grown by a part of what was to be added.
 #[derive(Drop)]
@@ -95,10 +95,10 @@ impl Text {
     }
 
     /// The numbers, each behind a space.
-    pub fn numbers(&mut self, ids: &IdList) -> Result<(), Memory>
+    pub fn numbers(&mut self, ids: &[FullXid]) -> Result<(), Memory>
         ensures ok { OnOk result (self.new ≡ self.old ++ more (numbers ids.now)) }
     {
-        push_numbers(&mut self.bytes, ids.items())
+        push_numbers(&mut self.bytes, ids)
     }
 
     /// The top-level ids of a snapshot, each behind a space, or a dash. The words of those printed last are copied.
@@ -177,10 +177,10 @@ impl Text {
 }
 
 /// The numbers, each behind a space, or a dash.
-pub fn put_numbers_or_dash(out: &mut Text, ids: &IdList) -> Result<(), Memory>
+pub fn put_numbers_or_dash(out: &mut Text, ids: &[FullXid]) -> Result<(), Memory>
     ensures ok { OnOk result (out.new ≡ out.old ++ more (numbers_or_dash ids.now)) }
 {
-    if ids.items().is_empty() {
+    if ids.is_empty() {
         return out.word(b"-");
     }
     out.numbers(ids)

@@ -15,7 +15,7 @@ use crate::unread::Unread;
 use crate::word::{full_id, is_word, number_at, word_at};
 use std::alloc::Global;
 use tx_model::{
-    ByteList, Command, IdList, NameList, Refusal, Reply, SharedSnap, Status, VerdictList,
+    ByteList, Command, GivenIds, IdList, NameList, Refusal, Reply, SharedSnap, Status, VerdictList,
 };
 
 /// What the reply to a command can say, but for refusals.
@@ -74,7 +74,10 @@ fn wrote_at(alloc: Global, rest: &[u8]) -> Result<Reply, Unread>
     let mut ids = IdList::new(alloc);
     let rest = read_list(&mut ids, rest)?;
     let warn = warn_at(rest);
-    Ok(Reply::Wrote { warn, ids })
+    Ok(Reply::Wrote {
+        warn,
+        ids: GivenIds::of(ids),
+    })
 }
 
 #[tactic(auto, unfolding(crate::specs::Replies::multi_reply_at))]

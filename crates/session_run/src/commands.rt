@@ -16,7 +16,7 @@ use hall::Hall;
 use multi_makes::multi;
 use multi_store::MultiGiven;
 use std::alloc::Global;
-use tx_model::{Command, Refusal, Reply, SharedSnap, Status, VerdictList};
+use tx_model::{Command, GivenIds, Refusal, Reply, SharedSnap, Status, VerdictList};
 use xact_ends::{abort, commit, undo};
 use xact_engine::{begin, drop_snap, release, save, snap};
 use xact_freezes::{freeze, multi_freeze, trim};
@@ -38,7 +38,10 @@ fn wrote(answer: Result<Wrote, Refusal>) -> Reply
     ensures { result ≡ reply_of reply_to answer }
 {
     match answer {
-        Ok(Wrote { ids, warn }) => Reply::Wrote { warn, ids },
+        Ok(Wrote { ids, warn }) => Reply::Wrote {
+            warn,
+            ids: GivenIds::of(ids),
+        },
         Err(refusal) => Reply::Refused { refusal },
     }
 }

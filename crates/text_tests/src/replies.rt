@@ -5,7 +5,7 @@ use report_text::{Text, put_command_line};
 use std::alloc::AllocGlobal;
 use std::process::Abort;
 use tx_events::{Lock, Mode, Refusal, Sequence, SnapData, Xid};
-use tx_model::{By, Command, MemberVerdict, Reply, SharedSnap, Verdict};
+use tx_model::{By, Command, GivenIds, MemberVerdict, Reply, SharedSnap, Verdict};
 
 /// With this reply the line of a `begin` is this one.
 fn check_line(rt: &(impl Abort + AllocGlobal), reply: &Reply, wanted: &str) {
@@ -38,12 +38,12 @@ pub fn snapshots_have_a_dash_for_no_ids(rt: &(impl Abort + AllocGlobal)) {
     check_line(rt, &overflowed, line);
     let nothing = Reply::Wrote {
         warn: false,
-        ids: Sequence::new(rt.alloc()),
+        ids: GivenIds::none(),
     };
     check_line(rt, &nothing, "a 1 begin -> ok -\n");
     let two = Reply::Wrote {
         warn: true,
-        ids: list(rt, [id(rt, 3), id(rt, 4)]),
+        ids: GivenIds::of(list(rt, [id(rt, 3), id(rt, 4)])),
     };
     check_line(rt, &two, "a 1 begin -> ok 3 4 warn\n");
 }

@@ -7,7 +7,8 @@ use tx_events::{
     Name, Rec, RecList, Refusal, Sequence, SharedCounters, Xid,
 };
 use tx_model::{
-    Command, DumpOf, How, Life, LifeReport, Line, NameList, Pair, Reply, Report, Step, StepList,
+    Command, DumpOf, How, KeptLine, Life, LifeReport, Line, NameList, Pair, Reply, Report, Step,
+    StepList,
 };
 
 fn first_counters(rt: &impl Abort) -> Counters {
@@ -55,12 +56,18 @@ fn members(rt: &(impl Abort + AllocGlobal)) -> MemberList {
     MemberList::of(rt.alloc(), list(rt, [first, second])).expect(rt, "memory")
 }
 
-fn line(session: u32, number: u64, command: Command, reply: Reply) -> Line {
+fn line(
+    rt: &(impl Abort + AllocGlobal),
+    session: u32,
+    number: u64,
+    command: Command,
+    reply: Reply,
+) -> KeptLine {
     let by = By {
         session,
         command: number,
     };
-    Line { by, command, reply }
+    KeptLine::of(rt.alloc(), Line { by, command, reply }).expect(rt, "memory")
 }
 
 fn round(rt: &(impl Abort + AllocGlobal)) -> Step {
@@ -75,9 +82,9 @@ fn round(rt: &(impl Abort + AllocGlobal)) -> Step {
     let lines = list(
         rt,
         [
-            line(0, 1, Command::Begin, Reply::Done),
-            line(0, 2, see, hidden),
-            line(1, 1, Command::Multi { members }, Reply::Done),
+            line(rt, 0, 1, Command::Begin, Reply::Done),
+            line(rt, 0, 2, see, hidden),
+            line(rt, 1, 1, Command::Multi { members }, Reply::Done),
         ],
     );
     Step::Round { number: 1, lines }

@@ -1,5 +1,5 @@
 //! Names of sessions and snapshots.
-ghost use Rattle.std.specs.Prelude.{◌≡◌, ◌≤◌, true, length};
+ghost use Rattle.std.specs.Prelude.{◌≡◌, ◌≤◌, true, length, take};
 ghost use Rattle.std.specs.List.{list_all};
 ghost use Rattle.tx_events.specs.Names.{is_letter, is_name_byte, is_name};
 
@@ -66,6 +66,29 @@ impl Name {
             bytes,
             count: name.len() as u8,
         }
+    }
+
+    /// The name of the first of these bytes.
+    pub fn of_padded(bytes: [u8; 16], count: u8) -> Name
+        requires { count ≤ 16 }
+        ensures { result ≡ take count bytes }
+    {
+        Name { bytes, count }
+    }
+
+    /// How many bytes it has.
+    pub fn count(&self) -> u8
+        ensures value { result ≡ length self.now }
+        ensures short { result ≤ 16 }
+    {
+        self.count
+    }
+
+    /// Its bytes, and what stands behind them up to sixteen.
+    pub fn padded(&self) -> &[u8; 16]
+        ensures { take (length self.now) result.now ≡ self.now }
+    {
+        &self.bytes
     }
 
     /// Its bytes.

@@ -1,6 +1,7 @@
 //! What a snapshot holds, as table, session and reply share it.
-ghost use Rattle.std.specs.Prelude.{◌≡◌, IfOk};
+ghost use Rattle.std.specs.Prelude.{◌≡◌, IfOk, true};
 ghost use Rattle.tx_events.specs.IdLists.{Ascending};
+ghost use Rattle.tx_events.specs.SharedSnaps.{idle_data};
 ghost use Rattle.tx_events.specs.Sights.{sight_by, top_sight_by};
 
 use crate::full_xid::FullXid;
@@ -37,6 +38,22 @@ impl Model for SharedSnap {
 }
 
 impl SharedSnap {
+    /// Where nothing ran. Takes no memory.
+    pub fn idle(xmin: FullXid, xmax: FullXid) -> SharedSnap
+        ensures { result ≡ idle_data xmin xmax }
+    {
+        SharedSnap {
+            held: Held::Idle { xmin, xmax },
+        }
+    }
+
+    /// Whether nothing ran.
+    pub fn is_idle(&self) -> bool
+        ensures { result ≡ true → self.now ≡ idle_data self.now.xmin self.now.xmax }
+    {
+        matches!(self.held, Held::Idle { .. })
+    }
+
     /// This. Takes no memory where nothing ran.
     pub fn of(alloc: Global, holds: SnapData) -> Result<SharedSnap, Memory>
         ensures { IfOk result (λ s. s ≡ holds) }

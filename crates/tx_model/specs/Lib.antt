@@ -19,3 +19,6 @@ pub mod Replies
 pub mod Lines
 pub mod Asked
 pub mod Rounds
+pub mod Given
+pub mod Kept
+pub mod Looks

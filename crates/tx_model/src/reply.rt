@@ -1,5 +1,6 @@
 //! What a command is answered.
-use tx_events::{Copied, FullMulti, FullXid, IdList, Memory, Mode, Refusal, Sequence, SharedSnap};
+use crate::given_ids::GivenIds;
+use tx_events::{Copied, FullMulti, FullXid, Memory, Mode, Refusal, Sequence, SharedSnap};
 
 /// How a transaction stands.
 #[derive(Clone, Copy, Debug, PartialEq, Eq)]
@@ -45,7 +46,7 @@ pub enum Reply {
     /// Whether an id came with a warning, and the ids given now, in order.
     Wrote {
         warn: bool,
-        ids: IdList,
+        ids: GivenIds,
     },
     /// What the snapshot holds.
     Snapped {
@@ -96,7 +97,7 @@ pub enum Reply {
     },
 }
 
-const _: () = prove!(size_of::<Reply>() == 32);
+const _: () = prove!(size_of::<Reply>() == 40);
 
 impl Copied for Reply {
     fn copy(&self) -> Result<Self, Memory> {

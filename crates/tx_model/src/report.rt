@@ -1,5 +1,6 @@
 //! What a run reports, life by life.
 use crate::command::Command;
+use crate::kept_line::KeptLine;
 use crate::reply::Reply;
 use tx_events::{
     By, Copied, Counters, EventList, IdList, Memory, MultiEventList, Name, RecList, Sequence,
@@ -24,7 +25,7 @@ pub enum DumpOf {
 }
 
 /// A command with its reply.
-#[derive(Drop)]
+#[derive(Clone, Drop)]
 pub struct Line {
     pub by: By,
     pub command: Command,
@@ -33,18 +34,12 @@ pub struct Line {
 
 impl Copied for Line {
     fn copy(&self) -> Result<Self, Memory> {
-        let command = self.command.copy()?;
-        let reply = self.reply.copy()?;
-        Ok(Line {
-            by: self.by,
-            command,
-            reply,
-        })
+        Ok(self.clone()?)
     }
 }
 
 /// The lines of a round, session by session.
-pub type LineList = Sequence<Line>;
+pub type LineList = Sequence<KeptLine>;
 
 /// A step of a life: a round of sessions, or a directive between two rounds.
 #[derive(Clone, Drop)]

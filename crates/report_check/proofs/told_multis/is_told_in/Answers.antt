@@ -3,6 +3,7 @@ use Rattle.std.specs.List.{slice_get}
 use Rattle.std.proofs.lemmas.Option.{slice_get-get_or}
 use Rattle.tx_events.specs.declared.multi.MultiEvent.{MultiEvent}
 use Rattle.tx_events.specs.Multis.{multi_by}
+use Rattle.tx_model.specs.declared.report.Line.{Line}
 use Rattle.tx_model.specs.declared.report.Step.{Step}
 use Rattle.tx_model.specs.Rounds.{lines_in}
 use Rattle.event_rules.specs.Told.{IsToldMulti}
@@ -58,10 +59,10 @@ is_told_of-requires g c =
     let first = c.lines_before-first.ensures g.j.steps known.table in
     let end = c.lines_before-end.ensures g.j.steps known.table in
     let round = c.in-Some.round.now in
-    let line = c.in-Some-line_in.line.now in
+    let line = c.in_ok-line.line in
     let told : slice_get g.j.steps c.args.step ≡ Some round =
     ap (λ (ss : List Step). slice_get ss c.args.step) (sym (c.items.ensures ∙ c.requires.0.steps)) ∙ slice_get-get_or c.items.result.now c.args.step round k.3.0 ∙ ap (λ (x : Step). Some x) (sym k.1) in
-    let stands : slice_get (lines_in round) (c.args.number - c.lines_before-first.result) ≡ Some line = ap (λ n. slice_get (lines_in round) n) (sym c.saturating_sub.ensures) ∙ sym c.in-Some-line_in.ensures in
+    let stands : slice_get (lines_in round) (c.args.number - c.lines_before-first.result) ≡ Some line = ap (λ n. slice_get (lines_in round) n) (sym c.saturating_sub.ensures) ∙ sym c.in-Some-line_in.ensures ∙ ap (λ (x : Line). Some x) (sym c.in_ok-line.ensures) in
     let its = its_by g.j known.order c.args.number c.args.step l.0 l.1 l.2 c.lines_before-first.result first round told line stands in
     let both = forward g.j known.order c.args.number c.args.step l.0 l.1 l.2 c.lines_before-first.result first round told line stands c.lines_before-end.result end c.count_of_events-from.result c.count_of_events-to.result c.count_of_events-from.ensures c.count_of_events-to.ensures in
     (c.requires.0, (known, (refl, (both, (its, (c.requires.1.1.0, c.requires.1.1.1.0))))))
@@ -74,10 +75,10 @@ returns g c =
     let first = c.lines_before-first.ensures g.j.steps known.table in
     let end = c.lines_before-end.ensures g.j.steps known.table in
     let round = c.in-Some.round.now in
-    let line = c.in-Some-line_in.line.now in
+    let line = c.in_ok-line.line in
     let told : slice_get g.j.steps c.args.step ≡ Some round =
     ap (λ (ss : List Step). slice_get ss c.args.step) (sym (c.items.ensures ∙ c.requires.0.steps)) ∙ slice_get-get_or c.items.result.now c.args.step round k.3.0 ∙ ap (λ (x : Step). Some x) (sym k.1) in
-    let stands : slice_get (lines_in round) (c.args.number - c.lines_before-first.result) ≡ Some line = ap (λ n. slice_get (lines_in round) n) (sym c.saturating_sub.ensures) ∙ sym c.in-Some-line_in.ensures in
+    let stands : slice_get (lines_in round) (c.args.number - c.lines_before-first.result) ≡ Some line = ap (λ n. slice_get (lines_in round) n) (sym c.saturating_sub.ensures) ∙ sym c.in-Some-line_in.ensures ∙ ap (λ (x : Line). Some x) (sym c.in_ok-line.ensures) in
     let from = c.count_of_events-from.result in
     let to = c.count_of_events-to.result in
     if_ok

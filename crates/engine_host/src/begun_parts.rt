@@ -14,8 +14,8 @@ use std::alloc::Global;
 use wal_core::WalLog;
 
 /// Makes the parts of an engine over a log that is begun and the volumes of its banks. Their pages show what the life
-/// begins with, as every crash would leave them; none is removed. There is a volume of each store for each bank. The parts
-/// stand for lists without entries, in a life that begins with the volumes' counts of faults.
+/// begins with, as every crash would leave them; none is removed. There is a volume of each store for each bank. The
+/// parts stand for lists without entries, in a life that begins with the volumes' counts of faults.
 ///
 /// Only memory may be wanting. Then the volumes come back as they were.
 pub fn open_begun<L: LogDisk + Drop, P: PageDisk + Drop>(

@@ -7,7 +7,8 @@ use Rattle.engine_host.proofs.Counting.{all_counted}
 use Rattle.engine_host.proofs.Refusing.{none_long, room_left}
 use Rattle.engine_host.proofs.begun_parts.open_begun.Goals as goal
 
--- With a ghost value the clauses of `requires` have no names: they stand in their order behind what is asked of lifetimes.
+-- With a ghost value the clauses of `requires` have no names: they stand in their order behind what is asked of
+-- lifetimes.
 
 pub add_banks-requires : goal.add_banks-requires
 add_banks-requires g c =

@@ -10,7 +10,7 @@ use std::marker::Model;
 use tx_events::{Copied, FullMulti, FullXid, Memory, MultiId, Xid};
 
 /// A command in 16 bytes.
-#[derive(Clone, Drop)]
+#[derive(Drop)]
 pub(crate) enum KeptCommand {
     Begin,
     Save,

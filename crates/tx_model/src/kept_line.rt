@@ -5,9 +5,9 @@ ghost use Rattle.tx_model.specs.declared.command.Command.TheVariants as commands
 use crate::kept_command::{CommandLook, KeptCommand};
 use crate::kept_reply::{KeptReply, ReplyLook};
 use crate::report::Line;
-use std::alloc::{AllocError, Global};
+use std::alloc::Global;
 use std::marker::Model;
-use tx_events::{By, Copied, Memory};
+use tx_events::{By, Memory};
 
 /// A line as a report keeps it, in half the bytes of a `Line`. No report that is read has so many lines that the number of
 /// a command wouldn't fit. A contract sees the `Line`.
@@ -102,25 +102,6 @@ impl KeptLine {
             by: self.by(),
             command,
             reply,
-        })
-    }
-}
-
-impl Copied for KeptLine {
-    fn copy(&self) -> Result<Self, Memory> {
-        Ok(self.clone()?)
-    }
-}
-
-impl Clone for KeptLine {
-    ghost is_clone = { λ x y. y ≡ x };
-
-    fn clone(&self) -> Result<Self, AllocError> {
-        Ok(KeptLine {
-            session: self.session,
-            number: self.number,
-            command: self.command.clone()?,
-            reply: self.reply.clone()?,
         })
     }
 }

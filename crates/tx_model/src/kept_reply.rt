@@ -10,7 +10,7 @@ use std::marker::Model;
 use tx_events::{Copied, FullMulti, FullXid, Memory, Refusal, SharedSnap};
 
 /// A reply in 16 bytes.
-#[derive(Clone, Drop)]
+#[derive(Drop)]
 pub(crate) enum KeptReply {
     Done,
     /// No id was given.

@@ -2,9 +2,7 @@
 use crate::command::Command;
 use crate::kept_line::KeptLine;
 use crate::reply::Reply;
-use tx_events::{
-    By, Copied, Counters, EventList, IdList, Memory, MultiEventList, Name, RecList, Sequence,
-};
+use tx_events::{By, Counters, EventList, IdList, MultiEventList, Name, RecList, Sequence};
 
 /// What a crash leaves of what wasn't synced.
 #[derive(Clone, Copy, Debug, PartialEq, Eq)]
@@ -25,24 +23,18 @@ pub enum DumpOf {
 }
 
 /// A command with its reply.
-#[derive(Clone, Drop)]
+#[derive(Drop)]
 pub struct Line {
     pub by: By,
     pub command: Command,
     pub reply: Reply,
 }
 
-impl Copied for Line {
-    fn copy(&self) -> Result<Self, Memory> {
-        Ok(self.clone()?)
-    }
-}
-
 /// The lines of a round, session by session.
 pub type LineList = Sequence<KeptLine>;
 
 /// A step of a life: a round of sessions, or a directive between two rounds.
-#[derive(Clone, Drop)]
+#[derive(Drop)]
 pub enum Step {
     /// The commands of the sessions that ran beside each other. Rounds count from 1 in each life.
     Round {
@@ -60,12 +52,6 @@ pub enum Step {
         length: u32,
         reply: Reply,
     },
-}
-
-impl Copied for Step {
-    fn copy(&self) -> Result<Self, Memory> {
-        Ok(self.clone()?)
-    }
 }
 
 /// The steps of a life, in order.
@@ -88,17 +74,11 @@ pub struct Life {
 }
 
 /// A life with its steps and the crash that ended it, if one did.
-#[derive(Clone, Drop)]
+#[derive(Drop)]
 pub struct LifeReport {
     pub life: Life,
     pub steps: StepList,
     pub crash: Option<How>,
-}
-
-impl Copied for LifeReport {
-    fn copy(&self) -> Result<Self, Memory> {
-        Ok(self.clone()?)
-    }
 }
 
 /// Lives in their order.
@@ -109,7 +89,7 @@ pub type NameList = Sequence<Name>;
 
 /// The report of a run. Its text doesn't carry `committed` and `recorded` of a life: they follow from the records of
 /// the lives before. In a report that is read back both are empty.
-#[derive(Clone, Drop)]
+#[derive(Drop)]
 pub struct Report {
     pub names: NameList,
     pub lives: LifeList,

@@ -1,7 +1,6 @@
 //! Names that are short.
 ghost use Rattle.std.specs.Prelude.{◌≡◌, IfSome};
 
-use std::alloc::AllocError;
 use std::marker::Model;
 use tx_events::Name;
 
@@ -43,16 +42,5 @@ impl ShortName {
         let mut bytes = [0; 16];
         bytes[..10].copy_from_slice(&self.bytes);
         Name::of_padded(bytes, self.count)
-    }
-}
-
-impl Clone for ShortName {
-    ghost is_clone = { λ x y. y ≡ x };
-
-    fn clone(&self) -> Result<Self, AllocError> {
-        Ok(ShortName {
-            bytes: self.bytes,
-            count: self.count,
-        })
     }
 }

@@ -1,5 +1,5 @@
 //! The events of one line.
-ghost use Rattle.std.specs.Prelude.{◌≡◌, ◌<◌, List, Some, IfOk, map, slice_get, filter};
+ghost use Rattle.std.specs.Prelude.{◌≡◌, ◌<◌, List, Some, IfOk, length, map, slice_get, filter};
 ghost use Rattle.tx_events.specs.declared.event.By.{By};
 ghost use Rattle.tx_events.specs.Events.{by_of, same_by};
 ghost use Rattle.tx_events.specs.Multis.{multi_by};

@@ -3,6 +3,7 @@ use Rattle.std.proofs.Common.{List, [], ap, append-nil, append_assoc, drop, leng
 use Rattle.std.proofs.Math.Seq.{take-length}
 use Rattle.std.proofs.lemmas.Grind.{flat_map-append}
 use Rattle.std.proofs.lemmas.List.{length-drop, take-append-drop}
+use Rattle.std.specs.List.{flat_map}
 use Rattle.report_text.specs.EventText.{event_words}
 use Rattle.report_text.specs.Words.{line_text}
 use Rattle.tx_events.specs.declared.event.Event.{Event}

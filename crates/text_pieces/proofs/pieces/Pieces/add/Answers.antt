@@ -1,5 +1,8 @@
-use Rattle.std.proofs.Common.{ap, ◌∙◌}
-use Rattle.std.specs.List.{flat_map}
+use Rattle.std.proofs.Common.{IsOk, List, Ok, Result, [], ap, append_assoc, length, refl, rules, subst, sym, ◌++◌, ◌<◌, ◌∙◌, ◌∷◌, ◌≡◌, ℕ}
+use Rattle.std.proofs.lemmas.Grind.{flat_map-append}
+use Rattle.std.proofs.lemmas.List.Elements.{All-append, All-nil}
+use Rattle.std.specs.List.{All, flat_map}
+use Rattle.text_pieces.specs.Lines.{piece_text}
 use Rattle.text_pieces.proofs.Printed.{one_more}
 use Rattle.text_pieces.proofs.pieces.Pieces.add.Goals as goal
 

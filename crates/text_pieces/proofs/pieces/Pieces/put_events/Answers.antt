@@ -1,4 +1,4 @@
-use Rattle.std.proofs.Common.{List, ap, drop, length, take, ◌++◌, ◌-◌, ◌∙◌}
+use Rattle.std.proofs.Common.{List, ap, drop, length, take, ℕ, ◌++◌, ◌-◌, ◌∙◌}
 use Rattle.tx_events.specs.declared.event.Event.{Event}
 use Rattle.text_pieces.proofs.Backwards.{back_text, first_printed, given_away, last_events, next_taken, printed_alone}
 use Rattle.text_pieces.specs.Lines.{events_text}

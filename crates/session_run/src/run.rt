@@ -92,7 +92,7 @@ struct Lived<L: LogDisk, P> {
 fn run_part<L: LogDisk + Send + Sync + Drop, P: PageDisk + Send + Sync + Drop>(
     rt: &(impl Threads + Wait + Sync),
     alloc: Global,
-    life: OpenLife<L, P>,
+    life: Box<OpenLife<L, P>>,
     rooms: &mut LifeRooms<P>,
     names: &NameList,
     part: Items,
@@ -100,11 +100,12 @@ fn run_part<L: LogDisk + Send + Sync + Drop, P: PageDisk + Send + Sync + Drop>(
     gate: &(impl Gate + Sync),
 ) -> Lived<L, P>
     requires taken { IsTakenPart (length names.now) part }
-    requires may { MayRunIn (length names.now) life }
+    requires may { MayRunIn (length names.now) life.value }
     ensures lived { (c : Clustered) (b : Beginning) (faults : List ℕ) (mounted : Mounted L P)
-        → IsOpened c b faults mounted life
+        → IsOpened c b faults mounted life.value
         → IsLived L.LogDisk P.PageDisk names.now part.entry c b faults mounted result }
 {
+    let life = Box::into_inner(life);
     let start = Note::by(&life.host.start);
     let base = life.host.cluster.base.same();
     let mut text = Steps::none(alloc);
@@ -183,12 +184,13 @@ fn go_on<M: Media>(
     _log: &Note<FittedLog>,
     how: How,
     cluster: Cluster,
-) -> Result<OpenLife<M::Log, M::Pages>, NoLife>
+) -> Result<Box<OpenLife<M::Log, M::Pages>>, NoLife>
     ghost kept: { KeptLog }
     requires cluster { IsCluster cluster }
     requires banks { HasBanks (length volumes.xact.items) volumes }
     requires fit { IsTrue M.Pages.tells → IsTrue M.Log.tells → FitsLog M.Log.LogDisk M.Pages.PageDisk kept volumes }
-    ensures next { IfOk result (HasGoneOn M.Log.LogDisk M.Pages.PageDisk M.falls how kept cluster (length volumes.xact.items) volumes) }
+    ensures next { IfOk result (λ life. HasGoneOn M.Log.LogDisk M.Pages.PageDisk M.falls how kept cluster
+        (length volumes.xact.items) volumes life.value) }
     ensures mounted { OnOk result (M.is_idle media.new ≡ false) }
     ensures idle { OnErr result (IsTrue (M.is_idle media.new)) }
     ensures count { M.faults media.old ≤ M.faults media.new }
@@ -249,12 +251,12 @@ fn end_part<R: Threads + Sync, K: Sink, M: Media>(
     threads: RoundThreads,
     sink: &mut K,
     media: &mut M,
-) -> Result<OpenLife<M::Log, M::Pages>, Stopped>
+) -> Result<Box<OpenLife<M::Log, M::Pages>>, Stopped>
     requires cluster { IsCluster cluster.now }
     requires ran { HasRunPart M.Log.LogDisk M.Pages.PageDisk M.falls names.now number lived }
     ensures next { (ran : HasRunPart M.Log.LogDisk M.Pages.PageDisk M.falls names.now number lived)
         → cluster.now ≡ cluster_of ran.script
-        → IfOk result (NextWent M.Log.LogDisk M.Pages.PageDisk ran how (K.held sink.old) (K.held sink.new)) }
+        → IfOk result (λ life. NextWent M.Log.LogDisk M.Pages.PageDisk ran how (K.held sink.old) (K.held sink.new) life.value) }
     ensures stopped { (ran : HasRunPart M.Log.LogDisk M.Pages.PageDisk M.falls names.now number lived)
         → cluster.now ≡ cluster_of ran.script
         → IfErr result (StopsPart M.Log.LogDisk M.Pages.PageDisk ran (Some how)
@@ -379,6 +381,7 @@ where
 {
     let mut rooms = LifeRooms::new(alloc);
     let life = open_life(alloc, &mut rooms, media, cluster_of(script))?;
+    let life = Box::into_inner(life);
     have_full_multis(&life.host.cluster.base);
     let mut tally = Tally::none(alloc);
     let names = &script.names;

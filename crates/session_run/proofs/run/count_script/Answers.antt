@@ -17,7 +17,7 @@ use Rattle.script_rounds.specs.Counted.{verdicts_in}
 use Rattle.engine_host.specs.declared.cluster.Cluster.{Cluster}
 use Rattle.engine_life.specs.FirstLives.{MayMount}
 use Rattle.session_run.specs.Leaves.{LeavesVolumes}
-use Rattle.session_run.specs.OneLife.{life_of}
+use Rattle.session_run.specs.OneLife.{IsOpened, life_of}
 use Rattle.session_run.specs.Parts.{HasLived, IsTakenPart, report_of}
 use Rattle.session_run.specs.Starts.{BeginsOver}
 use Rattle.session_run.proofs.Counted.{counts_told, left_alone, part_alone, verdicts_few}
@@ -58,7 +58,7 @@ run_life-closed-requires-clause-may g c κs within =
     let s = c.args.script.now in
     let m = g.M.Media in
     let first = MayMount (m.is_new c.args.media.now) (m.begins c.args.media.now) (m.gives c.args.media.now) in
-    let life = c.in_ok-life.life in
+    let life = c.in_ok-life.life.value in
     let is = is_first g.M.Log.LogDisk g.M.Pages.PageDisk s first g.kept c.cluster_of.result life c.cluster_of.ensures.is (c.requires.1.1.1.1.1.1.1.1.1.1.1.1.1) c.in_ok-life.ensures.life in
     record {
       cluster = is.so.cluster;
@@ -66,7 +66,7 @@ run_life-closed-requires-clause-may g c κs within =
       faults = is.so.faults;
       mounted = is.volumes;
       sessions_are = is.so.sessions;
-      opened = is.so.opened;
+      opened = subst (IsOpened is.so.cluster is.so.begins is.so.faults is.volumes) (sym c.into_inner-life.ensures) is.so.opened;
     }
 
 -- what holds of these banks, this start and these lives holds of the summary's
@@ -85,15 +85,16 @@ returns-in-Ok-text-clause-counts g c =
     let l = g.M.Log.LogDisk in
     let p = g.M.Pages.PageDisk in
     let first = MayMount (m.is_new c.args.media.now) (m.begins c.args.media.now) (m.gives c.args.media.now) in
-    let life = c.in_ok-life.life in
+    let life = c.in_ok-life.life.value in
     let closed = c.run_life-closed.result.0 in
     let tally = c.run_life-closed.new.kept in
     let gives = m.gives c.rest.new.self in
     let is = is_first l p s first g.kept c.cluster_of.result life c.cluster_of.ensures.is (c.requires.1.1.1.1.1.1.1.1.1.1.1.1.1) c.in_ok-life.ensures.life in
     let so = is.so in
+    let opened = subst (IsOpened so.cluster so.begins so.faults is.volumes) (sym c.into_inner-life.ensures) so.opened in
     let start = start_so so.cluster so.begins in
     let told = life_of so.cluster so.begins closed in
-    let ran = rw c.in-Ok.is at (c.run_life-closed.ensures.ran so.cluster so.begins so.faults is.volumes so.opened) in
+    let ran = rw c.in-Ok.is at (c.run_life-closed.ensures.ran so.cluster so.begins so.faults is.volumes opened) in
     let lived = subst (λ (its : List Item). HasLived p.tells so.cluster.banks its told ran.steps) c.items-items.ensures ran.lived in
     let kept : tally ≡ flat_map lines_in ran.steps = kept_lines tally_keeper.ghosts s.names c.none-tally.result tally ran.steps ran.kept_is c.none-tally.ensures (λ kept n. refl) (λ kept lines. refl) (λ kept dump. refl) in
     let size = ap length kept in
@@ -103,9 +104,9 @@ returns-in-Ok-text-clause-counts g c =
     let commands : c.commands.result ≡ length (flat_map lines_in ran.steps) = c.commands.ensures long ∙ size in
     let verdicts : c.verdicts.result ≡ verdicts_in (flat_map lines_in ran.steps) = c.verdicts.ensures (omega (arith, fewer, long)) ∙ ap verdicts_in kept in
     let exact = c.in-Ok-text.ensures ∙ ap summary_text c.of-summary.ensures ∙ ap (λ h. summary_text (summary_by h c.commands.result c.verdicts.result)) c.items.ensures in
-    let full = subst (λ (x : Cluster). IsFullMulti x.base.multi × IsFullMulti x.base.oldest_multi) so.opened.begun.cluster c.have_full_multis.ensures in
+    let full = subst (λ (x : Cluster). IsFullMulti x.base.multi × IsFullMulti x.base.oldest_multi) opened.begun.cluster c.have_full_multis.ensures in
     let base : BeginsWithBase (report_of told ran.steps None) = record {
-      is_base = subst (λ (x : Cluster). IsBase x.base) so.opened.begun.cluster so.opened.begun.host.cluster.base;
+      is_base = subst (λ (x : Cluster). IsBase x.base) opened.begun.cluster opened.begun.host.cluster.base;
       multi = full.0;
       oldest_multi = full.1;
     } in

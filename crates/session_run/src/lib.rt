@@ -3,6 +3,7 @@
 #![tactic(auto)]
 
 mod commands;
+mod counting;
 mod ended;
 mod ending;
 pub mod laws;

@@ -13,7 +13,7 @@ use disk_core::{LogDisk, PageDisk};
 use engine_host::LifeRooms;
 use engine_life::{ClosedLife, OpenLife, close_life};
 use engine_parts::Gate;
-use script_rounds::{LineKeeper, RoundThreads};
+use script_rounds::{LineKeeper, RoundThreads, SparePlan};
 use session_lang::Items;
 use std::alloc::Global;
 use std::sync::Wait;
@@ -47,6 +47,7 @@ pub fn run_life<
     alloc: Global,
     life: OpenLife<L, P>,
     rooms: &mut LifeRooms<P>,
+    spare: &mut SparePlan,
     names: &NameList,
     part: Items,
     kept: &mut K,
@@ -66,6 +67,7 @@ pub fn run_life<
         alloc,
         &life.hall,
         &mut life.host,
+        spare,
         names,
         part,
         kept,

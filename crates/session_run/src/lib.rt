@@ -3,7 +3,6 @@
 #![tactic(auto)]
 
 mod commands;
-mod counting;
 mod ended;
 mod ending;
 pub mod laws;

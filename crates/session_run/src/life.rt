@@ -62,17 +62,10 @@ pub fn run_life<
 {
     let mut life = life;
     life_ends(&life.hall);
+    let hall = &life.hall;
+    let host = &mut life.host;
     let ran = run_rounds(
-        rt,
-        alloc,
-        &life.hall,
-        &mut life.host,
-        spare,
-        names,
-        part,
-        kept,
-        threads,
-        gate,
+        rt, alloc, hall, host, spare, names, part, kept, threads, gate,
     );
     let closed = close_life(life, rooms);
     has_64_bits(closed.log.next());

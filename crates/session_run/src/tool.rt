@@ -11,9 +11,8 @@ ghost use Rattle.session_run.specs.Guarantee.{MayRunOver, RunsTool};
 ghost use Rattle.session_run.specs.Unknown.{no_log};
 ghost use Rattle.session_run.specs.Tool.{Ends, HasMounted, HasWritten, IsSized, IsUnread, WritesLast, status_of, text_of};
 
-use crate::counting::count_script;
 use crate::ending::{Ending, stopped, unopened, unread};
-use crate::run::run_script;
+use crate::run::{count_script, run_script};
 use disk_core::Media;
 use engine_parts::Gate;
 use script_gen::laws::generated_scripts_run;

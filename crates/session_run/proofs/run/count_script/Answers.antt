@@ -23,7 +23,7 @@ use Rattle.session_run.specs.Starts.{BeginsOver}
 use Rattle.session_run.proofs.Counted.{counts_told, left_alone, part_alone, verdicts_few}
 use Rattle.session_run.proofs.Opening.{is_first, may_over, start_so, unopened_first}
 use Rattle.session_run.proofs.RoundSteps.{kept_lines}
-use Rattle.session_run.proofs.counting.count_script.Goals as goal
+use Rattle.session_run.proofs.run.count_script.Goals as goal
 
 -- With a ghost value the clauses of `requires` have no names: they stand in their order behind what is asked of lifetimes.
 

@@ -1,5 +1,5 @@
 -- Where the batches of a new cluster's log end, behind its first one.
-use Rattle.std.proofs.Common.{[], List, ap, append-nil, arith, length, suc, sym, ℕ, ◌+◌, ◌++◌, ◌∙◌, ◌∷◌, ◌≡◌, ◌≢◌}
+use Rattle.std.proofs.Common.{[], List, ap, append-nil, arith, length, suc, sym, ℕ, ◌+◌, ◌∙◌, ◌∷◌, ◌≡◌, ◌≢◌}
 use Rattle.disk_core.specs.declared.log_disk.LogDisk as logs
 use Rattle.tx_events.specs.declared.record.Counters.{Counters}
 use Rattle.tx_events.specs.declared.record.Rec.{Rec}

@@ -143,8 +143,8 @@ module _ {P : Type 0} (p : disks.Ghosts P) where
   abbrev pub AllOnDisk : List P → Type 0
   AllOnDisk volumes = (n : ℕ) (disk : P) → slice_get volumes n ≡ Some disk → IsOnDisk disk
 
-  -- A life may begin over these volumes, the first of which are of this bank: their pages show what it begins with, where
-  -- they may be removed first, and as they are they are on disk.
+  -- A life may begin over these volumes, the first of which are of this bank: their pages show what it begins with,
+  -- where they may be removed first, and as they are they are on disk.
   pub record ShowBeginning (c : Cluster) (b : Beginning) (removed : Bool) (first : ℕ) (volumes : BankVolumes P) : Type 0 where
     pub states : AllShow (ShowStates c b) removed first volumes.xact.items
     pub parents : AllShowNothing removed volumes.subtrans.items

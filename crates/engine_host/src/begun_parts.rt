@@ -1,6 +1,6 @@
 //! The parts of an engine over a log that is begun.
 ghost use Rattle.std.specs.Prelude.{◌≡◌, [], false, IfErr, IfOk, IsTrue};
-ghost use Rattle.wal_core.specs.LogViews.{log_disk};
+ghost use Rattle.wal_core.specs.LogViews.{log_disk, log_end};
 ghost use Rattle.engine_parts.specs.Sessions.{AreGivenBefore};
 ghost use Rattle.engine_host.specs.Counted.{AreCounted};
 ghost use Rattle.engine_host.specs.Opening.{AreParts, Beginning, IsBegunLog, IsCluster, ShowBeginning, life_from, new_life};
@@ -14,8 +14,9 @@ use std::alloc::Global;
 use wal_core::WalLog;
 
 /// Makes the parts of an engine over a log that is begun and the volumes of its banks. Their pages show what the life
-/// begins with, as every crash would leave them; none is removed. There is a volume of each store for each bank. The parts
-/// stand for lists without entries, in a life that begins with the volumes' counts of faults.
+/// begins with, as every crash would leave them; none is removed. There is a volume of each store for each bank. The
+/// parts stand for lists without entries, in a life that begins with the volumes' counts of faults, and where the log
+/// ends.
 ///
 /// Only memory may be wanting. Then the volumes come back as they were.
 pub fn open_begun<L: LogDisk + Drop, P: PageDisk + Drop>(
@@ -34,6 +35,7 @@ pub fn open_begun<L: LogDisk + Drop, P: PageDisk + Drop>(
     ensures cluster { IfOk result (λ parts. parts.cluster ≡ cluster) }
     ensures parts { IfOk result (λ parts. AreParts parts) }
     ensures start { IfOk result (λ parts. parts.start.value ≡ new_life cluster begins parts.locks.items) }
+    ensures end { IfOk result (λ parts. parts.start.value.gate ≡ log_end log) }
     ensures counted { IfOk result (λ parts. AreCounted L.LogDisk P.PageDisk (log_disk log) volumes parts.start.value.faults) }
     ensures kept { IfErr result (λ back. (back.log ≡ log_disk log) × ((k : Store) → (volumes_in k (banks_of back)).items ≡ (volumes_in k volumes).items)) }
 {

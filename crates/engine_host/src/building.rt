@@ -119,8 +119,8 @@ fn add_bank<L: LogDisk, P: PageDisk + Drop>(
     }
 }
 
-// Adds those of all banks. In a new cluster their pages are removed. After an error the volumes of the banks that weren't
-// added are left.
+// Adds those of all banks. In a new cluster their pages are removed. After an error the volumes of the banks that
+// weren't added are left.
 pub(crate) fn add_banks<L: LogDisk, P: PageDisk + Drop>(
     rooms: &mut BankRooms,
     locks: &mut Vec<Part<L, P>>,

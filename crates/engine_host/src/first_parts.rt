@@ -15,10 +15,10 @@ use disk_core::{LogDisk, PageDisk, Volumes};
 use std::alloc::Global;
 use wal_core::WalLog;
 
-/// Makes the parts of a new cluster over a log without a record and the volumes of its banks (`BootStrapXLOG` of `xlog.c`,
-/// `BootStrapCLOG` of `clog.c`, `BootStrapSUBTRANS` of `subtrans.c`, `BootStrapMultiXact` of `multixact.c`). All pages of
-/// the page volumes are removed. The log's first record, which is on disk then, is a checkpoint of the base. There is a
-/// volume of each store for each bank.
+/// Makes the parts of a new cluster over a log without a record and the volumes of its banks (`BootStrapXLOG` of
+/// `xlog.c`, `BootStrapCLOG` of `clog.c`, `BootStrapSUBTRANS` of `subtrans.c`, `BootStrapMultiXact` of `multixact.c`).
+/// All pages of the page volumes are removed. The log's first record, which is on disk then, is a checkpoint of the
+/// base. There is a volume of each store for each bank.
 ///
 /// The parts stand for lists without entries, in a life that begins with the volumes' counts of faults, which aren't
 /// below what they were, and with a log that ends 62 bytes further: behind a batch with that checkpoint. After an error

@@ -171,8 +171,8 @@ pub fn dismiss<L: LogDisk, P: PageDisk>(
     session
 }
 
-/// Gives the parts back, once all sessions are dismissed. They stand for the lists that the host has seen, which are all
-/// that was done, and of which the engine invariant holds.
+/// Gives the parts back, once all sessions are dismissed. They stand for the lists that the host has seen, which are
+/// all that was done, and of which the engine invariant holds.
 pub fn close<L: LogDisk, P: PageDisk>(hall: Hall<EngineLaw<L, P>>, host: Host<L, P>) -> Parts<L, P>
     requires host { IsHost hall host }
     requires all { HoldsAllBut host [] }

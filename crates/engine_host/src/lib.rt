@@ -1,5 +1,5 @@
-//! The lock table of an engine: its parts made over the volumes of a new cluster or of one that was recovered, the table
-//! over them, and the passes of its sessions. See `docs/ENGINE.md`.
+//! The lock table of an engine: its parts made over the volumes of a new cluster or of one that was recovered, the
+//! table over them, and the passes of its sessions. See `docs/ENGINE.md`.
 #![tactic(auto)]
 
 mod banks;

@@ -14,7 +14,8 @@ use engine_parts::InPlace;
 use slru_bank::{BankRooms, SlruBank};
 use store_pages::{MemberPages, OffsetPages, SubtransPages, XactPages};
 
-// Those of pg_xact and of pg_subtrans, over the first volumes that are left. After an error these are back in their place.
+// Those of pg_xact and of pg_subtrans, over the first volumes that are left. After an error these are back in their
+// place.
 pub(crate) fn open_states<P: PageDisk + Drop>(
     rooms: &mut BankRooms,
     xact: &mut Vec<P>,

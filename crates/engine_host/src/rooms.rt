@@ -3,8 +3,8 @@ use crate::cluster::BankVolumes;
 use slru_bank::BankRooms;
 use std::alloc::Global;
 
-/// What a life leaves for the next ones to use, so that they ask for less memory: buffers of banks, and vectors for their
-/// volumes. No contract tells what it has.
+/// What a life leaves for the next ones to use, so that they ask for less memory: buffers of banks, and vectors for
+/// their volumes. No contract tells what it has.
 #[derive(Drop)]
 pub struct LifeRooms<P> {
     alloc: Global,

@@ -1,5 +1,5 @@
 //! The volumes of parts that are taken apart.
-ghost use Rattle.std.specs.Prelude.{◌≡◌, ℕ, ◌+◌, ◌<◌, ◌≤◌, ◌++◌, ◌∷◌, [], Some, length, reverse, slice_get, take, vec_capacity};
+ghost use Rattle.std.specs.Prelude.{◌≡◌, ◌+◌, ◌<◌, ◌≤◌, ◌++◌, ◌∷◌, [], Some, length, reverse, slice_get, take, vec_capacity};
 ghost use Rattle.engine_parts.specs.declared.part.Part.TheVariants as parts;
 ghost use Rattle.engine_host.specs.Refused.{AreInPlace};
 ghost use Rattle.engine_host.specs.Stores.{Store, disks_in, volumes_in};
@@ -96,8 +96,8 @@ pub(crate) fn bank_volumes<L: LogDisk + Drop, P: PageDisk + Drop>(
     volumes
 }
 
-/// Takes the parts apart that lie behind an engine's locks, in the order of these. What isn't on the volumes yet is lost.
-/// The vectors of volumes are empty, and have room for as many as there are locks.
+/// Takes the parts apart that lie behind an engine's locks, in the order of these. What isn't on the volumes yet is
+/// lost. The vectors of volumes are empty, and have room for as many as there are locks.
 #[inline(always)]
 pub fn take_apart<L: LogDisk + Drop, P: PageDisk + Drop>(
     rooms: &mut LifeRooms<P>,

@@ -167,11 +167,12 @@ fn command_at(alloc: Global, rest: &[u8]) -> Result<(Command, &[u8]), Unread>
 
 /// What a command's line says; printed again it may differ.
 #[tactic(auto, unfolding(crate::specs::Commands::line_at))]
-fn line_at(alloc: Global, names: &NameList, rest: &[u8]) -> Result<Line, Unread>
-    requires { length names.now < 2 ^ 32 }
+fn line_at(alloc: Global, names: &NameList, near: usize, rest: &[u8]) -> Result<Line, Unread>
+    requires few { length names.now < 2 ^ 32 }
+    requires names { AreNames names.now }
     ensures { Gives (λ x. x) result (line_at names.now (behind rest.now)) }
 {
-    let (by, rest) = by_at(names, rest)?;
+    let (by, rest) = by_at(names, near, rest)?;
     let (command, rest) = match command_at(alloc, rest) {
         Ok(found) => found,
         Err(unread) => return Err(unread),
@@ -235,10 +236,12 @@ fn is_command_line(
 }
 
 /// Reads the line of a command with its reply. The bytes begin with the one before the line, and end with the line's end.
+/// The session `near` is tried first.
 pub fn read_line(
     alloc: Global,
     out: &mut Text,
     names: &NameList,
+    near: usize,
     bytes: &[u8],
 ) -> Result<Line, Unread>
     requires few { length names.now < 2 ^ 32 }
@@ -247,7 +250,7 @@ pub fn read_line(
     ensures found { IfOk result (λ x. IsLineOf (FitsLine names.now) (command_line names.now) (drop 1 bytes.now) x) }
     ensures only { (x : Line) → IsLineOf (FitsLine names.now) (command_line names.now) (drop 1 bytes.now) x → IsOnly result x }
 {
-    let said = match line_at(alloc, names, &bytes[..bytes.len() - 1]) {
+    let said = match line_at(alloc, names, near, &bytes[..bytes.len() - 1]) {
         Ok(said) => said,
         Err(unread) => return Err(unread),
     };

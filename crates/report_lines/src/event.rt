@@ -107,12 +107,13 @@ fn event_rest_at(word: &[u8], by: By, rest: &[u8]) -> Result<Event, Unread>
 
 /// What an event's line says; printed again it may differ.
 #[tactic(auto, unfolding(crate::specs::Events::event_at))]
-fn event_at(names: &NameList, rest: &[u8]) -> Result<Event, Unread>
-    requires { length names.now < 2 ^ 32 }
+fn event_at(names: &NameList, near: usize, rest: &[u8]) -> Result<Event, Unread>
+    requires few { length names.now < 2 ^ 32 }
+    requires names { AreNames names.now }
     ensures { Gives (λ x. x) result (event_at names.now (behind rest.now)) }
 {
     let (word, rest) = word_at(rest)?;
-    let (by, rest) = by_at(names, rest)?;
+    let (by, rest) = by_at(names, near, rest)?;
     event_rest_at(word, by, rest)
 }
 
@@ -173,14 +174,20 @@ fn is_event_line(
 }
 
 /// Reads the line of an event. The bytes begin with the one before the line, and end with the line's end.
-pub fn read_event(out: &mut Text, names: &NameList, bytes: &[u8]) -> Result<Event, Unread>
+/// The session `near` is tried first.
+pub fn read_event(
+    out: &mut Text,
+    names: &NameList,
+    near: usize,
+    bytes: &[u8],
+) -> Result<Event, Unread>
     requires few { length names.now < 2 ^ 32 }
     requires names { AreNames names.now }
     requires some { 1 ≤ length bytes.now }
     ensures found { IfOk result (λ x. IsLineOf (FitsEvent names.now) (event_line names.now) (drop 1 bytes.now) x) }
     ensures only { (x : Event) → IsLineOf (FitsEvent names.now) (event_line names.now) (drop 1 bytes.now) x → IsOnly result x }
 {
-    let event = match event_at(names, &bytes[..bytes.len() - 1]) {
+    let event = match event_at(names, near, &bytes[..bytes.len() - 1]) {
         Ok(event) => event,
         Err(unread) => return Err(unread),
     };

@@ -70,12 +70,18 @@ fn multi_rest_at(
 
 /// What a multixact event's line says; printed again it may differ.
 #[tactic(auto, unfolding(crate::specs::Events::multi_event_at))]
-fn multi_event_at(alloc: Global, names: &NameList, rest: &[u8]) -> Result<MultiEvent, Unread>
-    requires { length names.now < 2 ^ 32 }
+fn multi_event_at(
+    alloc: Global,
+    names: &NameList,
+    near: usize,
+    rest: &[u8],
+) -> Result<MultiEvent, Unread>
+    requires few { length names.now < 2 ^ 32 }
+    requires names { AreNames names.now }
     ensures { Gives (λ x. x) result (multi_event_at names.now (behind rest.now)) }
 {
     let (word, rest) = word_at(rest)?;
-    let (by, rest) = by_at(names, rest)?;
+    let (by, rest) = by_at(names, near, rest)?;
     let (multi, rest) = number_at(rest)?;
     let multi = full_multi(multi)?;
     multi_rest_at(alloc, word, by, multi, rest)
@@ -131,10 +137,12 @@ fn is_multi_line(
 }
 
 /// Reads the line of a multixact event. The bytes begin with the one before the line, and end with the line's end.
+/// The session `near` is tried first.
 pub fn read_multi_event(
     alloc: Global,
     out: &mut Text,
     names: &NameList,
+    near: usize,
     bytes: &[u8],
 ) -> Result<MultiEvent, Unread>
     requires few { length names.now < 2 ^ 32 }
@@ -143,7 +151,7 @@ pub fn read_multi_event(
     ensures found { IfOk result (λ x. IsLineOf (FitsMultiEvent names.now) (multi_line names.now) (drop 1 bytes.now) x) }
     ensures only { (x : MultiEvent) → IsLineOf (FitsMultiEvent names.now) (multi_line names.now) (drop 1 bytes.now) x → IsOnly result x }
 {
-    let event = match multi_event_at(alloc, names, &bytes[..bytes.len() - 1]) {
+    let event = match multi_event_at(alloc, names, near, &bytes[..bytes.len() - 1]) {
         Ok(event) => event,
         Err(unread) => return Err(unread),
     };

@@ -1,5 +1,5 @@
 -- Names that are noted.
-use Rattle.std.proofs.Common.{◌≡◌, ℕ, ◌<◌, List, [], ◌∷◌, ◌++◌, Bool, true, false, cond, Option, Some, None, refl, sym, ap, ◌∙◌, subst, arith, length, length-append}
+use Rattle.std.proofs.Common.{◌≡◌, ℕ, ◌+◌, ◌<◌, List, [], ◌∷◌, ◌++◌, Bool, true, false, cond, Option, Some, None, refl, sym, ap, ◌∙◌, subst, arith, length, length-append, one-add, suc}
 use Rattle.std.specs.List.{AllByRecursion, IsDistinct}
 use Rattle.std.specs.Str.{bytes_eq}
 use Rattle.std.proofs.lemmas.Bool.{false≢true}
@@ -38,6 +38,14 @@ distinct_push (n ∷ ns) w d e =
 
 pub none_noted : (names : List (List ℕ)) (w : List ℕ) → name_place names w ≡ None → note names w ≡ names ++ w ∷ []
 none_noted names w e = ap (noted names w) e
+
+-- a name that is added stands last
+pub pushed_place : (names : List (List ℕ)) (w : List ℕ) → name_place names w ≡ None → name_place (names ++ w ∷ []) w ≡ Some (length names)
+pushed_place [] w e = rw ((bytes_eq-Decides w w).1 refl) refl
+pushed_place (n ∷ ns) w e =
+    let a : Absent n ns w = absent_at n ns w (bytes_eq n w) refl e in
+    let more : 1 + length ns ≡ suc (length ns) = one-add (length ns) in
+    rw (a.here, pushed_place ns w a.there) (ap Some more)
 
 pub place_noted : (names : List (List ℕ)) (w : List ℕ) (k : ℕ) → name_place names w ≡ Some k → names ≡ note names w
 place_noted names w k e = sym (ap (noted names w) e)

@@ -1,31 +1,34 @@
 //! Sessions are numbered as their names come.
-ghost use Rattle.std.specs.Prelude.{◌≡◌, ◌≤◌, ◌||◌, not, true, length, set, get_or, IfErr, OnOk, IfOk};
+ghost use Rattle.std.specs.Prelude.{◌≡◌, ◌≤◌, ◌||◌, Some, not, true, length, set, get_or, IfErr, OnOk, IfOk};
 ghost use Rattle.tx_events.specs.IdLists.{has};
 ghost use Rattle.report_words.specs.Fits.{AreNames};
+ghost use Rattle.report_words.specs.Reading.{name_place};
 ghost use Rattle.report_words.specs.declared.unread.Unread.TheVariants as unreads;
 ghost use Rattle.report_read.specs.Grammar.{after_turn, is_speaker, may_speak, note};
 ghost use Rattle.report_read.specs.Taking.{AreFew, CannotNote};
 
-use report_words::{Unread, name_place};
+use report_words::{Unread, name_place_near};
 use tx_model::{Memory, Name, NameList, Sequence, is_name};
 
-/// Adds a name where it is new. At most 64 are kept.
-pub fn note(names: &mut NameList, name: &[u8]) -> Result<(), Unread>
+/// Adds a name where it is new, and answers its place. The place `near` is tried first. At most 64 are kept.
+pub fn note(names: &mut NameList, near: usize, name: &[u8]) -> Result<usize, Unread>
     requires { AreFew names.old }
+    ensures place { IfOk result (λ k. name_place names.new name.now ≡ Some k) }
     ensures noted { OnOk result (names.new ≡ note names.old name.now) }
     ensures few { OnOk result (AreFew names.new) }
     ensures refused { IfErr result (λ u. CannotNote u names.old name.now) }
 {
-    match name_place(names.items(), name) {
-        Ok(_place) => return Ok(()),
+    match name_place_near(names.items(), near, name) {
+        Ok(place) => return Ok(place),
         Err(Unread::Memory) => return Err(Unread::Memory),
         Err(Unread::Form) => (),
     }
-    if !is_name(name) || names.items().len() >= 64 {
+    let count = names.items().len();
+    if !is_name(name) || count >= 64 {
         return Err(Unread::Form);
     }
     names.push(Name::of(name))?;
-    Ok(())
+    Ok(count)
 }
 
 fn is_speaker(speaker: Option<u32>, session: u32) -> bool

@@ -55,6 +55,16 @@ fn is_next(command: u64, count: u64) -> bool
     command > 0 && command - 1 == count
 }
 
+/// Where the name of the next command's session is looked for first: a session's commands stand one after another.
+fn near_speaker(speaker: Option<u32>) -> usize
+    ensures { result < 2 ^ 32 }
+{
+    match speaker {
+        Some(session) => session as usize,
+        None => 0,
+    }
+}
+
 /// A command with its reply, of the session of this name.
 fn take_command(
     alloc: Global,
@@ -73,8 +83,8 @@ fn take_command(
     if !in_round(told.stage) {
         return Err(Unread::Form);
     }
-    note(&mut told.names, name)?;
-    let said = read_line(alloc, out, &told.names, line)?;
+    let place = note(&mut told.names, near_speaker(told.speaker), name)?;
+    let said = read_line(alloc, out, &told.names, place, line)?;
     let session = said.by.session;
     let count = told.counts[session as usize];
     if !is_next(said.by.command, count) {
@@ -115,7 +125,10 @@ fn note_pending(names: &mut NameList, bytes: &[u8]) -> Result<(), Unread>
     ensures refused { IfErr result (λ u. u ≡ Unread.Form → AreFew (note_some names.old (pending_name (behind bytes.now))) → ⊥) }
 {
     match pending_name(bytes) {
-        Ok(name) => note(names, name),
+        Ok(name) => {
+            let _place = note(names, 0, name)?;
+            Ok(())
+        }
         Err(Unread::Memory) => Err(Unread::Memory),
         Err(Unread::Form) => Ok(()),
     }

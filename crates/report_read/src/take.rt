@@ -1,5 +1,5 @@
 //! Lines are taken one by one.
-ghost use Rattle.std.specs.Prelude.{◌≡◌, ◌≤◌, ◌||◌, ◌++◌, ◌∷◌, [], true, false, length, drop, IfErr, IfNone, IfSome, OnOk, Some, Option, ◌+◌, ◌^◌};
+ghost use Rattle.std.specs.Prelude.{◌≡◌, ◌<◌, ◌≤◌, ◌||◌, ◌++◌, ◌∷◌, [], true, false, length, drop, IfErr, IfNone, IfSome, OnOk, Some, Option, ◌+◌, ◌^◌};
 ghost use Rattle.report_words.specs.Words.{behind};
 ghost use Rattle.report_read.specs.Grammar.{begins_step, is_opening, is_round, life_told};
 ghost use Rattle.report_read.specs.Taking.{AreFew, IsRefused, IsTaken};
@@ -17,7 +17,7 @@ use report_lines::{
 use report_text::Text;
 use report_words::Unread;
 use std::alloc::Global;
-use tx_model::{How, IdList, Life, LifeReport, Memory, RecList};
+use tx_model::{Event, How, IdList, Life, LifeReport, Memory, MultiEvent, RecList};
 
 fn take_life(alloc: Global, out: &mut Text, told: &mut Told, line: &[u8]) -> Result<(), Unread>
     requires stage { told.old.stage ≡ stages.Between }
@@ -35,6 +35,16 @@ fn take_life(alloc: Global, out: &mut Text, told: &mut Told, line: &[u8]) -> Res
     Ok(())
 }
 
+/// Where the name of the next event's session is looked for first: at that of the last one.
+fn near_event(events: &[Event]) -> usize
+    ensures { result < 2 ^ 32 }
+{
+    match events.last() {
+        Some(event) => event.by().session as usize,
+        None => 0,
+    }
+}
+
 fn take_event(alloc: Global, out: &mut Text, told: &mut Told, line: &[u8]) -> Result<(), Unread>
     requires stage { told.old.stage ≡ stages.History }
     requires few { AreFew told.old.names }
@@ -48,10 +58,20 @@ fn take_event(alloc: Global, out: &mut Text, told: &mut Told, line: &[u8]) -> Re
         return Ok(());
     }
     let name = second_word(&line[..line.len() - 1])?;
-    note(&mut told.names, name)?;
-    let event = read_event(out, &told.names, line)?;
+    let place = note(&mut told.names, near_event(told.events.items()), name)?;
+    let event = read_event(out, &told.names, place, line)?;
     told.events.push(event)?;
     Ok(())
+}
+
+/// The same for multixact events.
+fn near_multi(events: &[MultiEvent]) -> usize
+    ensures { result < 2 ^ 32 }
+{
+    match events.last() {
+        Some(event) => event.by().session as usize,
+        None => 0,
+    }
 }
 
 fn take_multi(alloc: Global, out: &mut Text, told: &mut Told, line: &[u8]) -> Result<(), Unread>
@@ -72,8 +92,8 @@ fn take_multi(alloc: Global, out: &mut Text, told: &mut Told, line: &[u8]) -> Re
         Err(Unread::Form) => (),
     }
     let name = second_word(&line[..line.len() - 1])?;
-    note(&mut told.names, name)?;
-    let event = read_multi_event(alloc, out, &told.names, line)?;
+    let place = note(&mut told.names, near_multi(told.multis.items()), name)?;
+    let event = read_multi_event(alloc, out, &told.names, place, line)?;
     told.multis.push(event)?;
     Ok(())
 }

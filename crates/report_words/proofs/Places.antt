@@ -2,6 +2,9 @@
 use Rattle.std.proofs.Common.{◌≡◌, ℕ, ◌+◌, ◌<◌, ◌≤◌, List, [], ◌∷◌, Bool, true, false, cond, Option, Some, None, refl, sym, ap, ◌∙◌, drop, length, get_or, zero, suc, arith, add-one, one-add}
 use Rattle.std.specs.Str.{bytes_eq}
 use Rattle.std.specs.List.{AllByRecursion, IsDistinct}
+use Rattle.std.specs.Option.{unwrap_or}
+use Rattle.std.specs.List.{slice_get}
+use Rattle.std.proofs.lemmas.Option.{slice_get_within}
 use Rattle.std.proofs.lemmas.Bool.{false≢true}
 use Rattle.std.proofs.lemmas.Slice.Eq.{bytes_eq-Decides}
 use Rattle.tx_events.specs.Events.{same_name}
@@ -58,3 +61,9 @@ place_again (n ∷ ns) (suc s) d l =
     let o = among n ns s (omega arith) d.0 in
     let e : 1 + s ≡ suc s = one-add s in
     rw (other n (name_at ns s) (bytes_eq n (name_at ns s)) refl o, place_again ns s d.1 (omega arith)) (ap Some e)
+
+-- a place with this name is the first one
+pub place_near : (ns : List (List ℕ)) (w n : List ℕ) (s : ℕ) → IsDistinct same_name ns → slice_get ns s ≡ Some n → bytes_eq n w ≡ true → name_place ns w ≡ Some s
+place_near ns w n s d at e =
+    let same : name_at ns s ≡ w = ap (λ (o : Option (List ℕ)). unwrap_or o []) at ∙ (bytes_eq-Decides n w).0 e in
+    ap (name_place ns) (sym same) ∙ place_again ns s d (slice_get_within ns s n at)

@@ -20,7 +20,7 @@ pub use fits::{
 pub use life::{counters_at, snap_at};
 pub use list::{full_multi, named_at, read_ids, read_list};
 pub use member::{read_members, read_pairs, read_verdicts};
-pub use names::{by_at, name_place};
+pub use names::{by_at, name_place, name_place_near};
 pub use piece::small;
 pub use refusal::refusal_at;
 pub use reply::{Kind, checkpoint_reply_at, dump_reply_at, kind_of, reply_at};

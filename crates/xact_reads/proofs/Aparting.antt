@@ -1,10 +1,10 @@
 -- What keeps a session away from the ProcArray.
-use Rattle.std.proofs.Common.{◌≡◌, ◌≢◌, ◌⊎◌, ⊎_elim, inl, inr, ℕ, ◌<◌, ◌^◌, ◌==◌, List, [], ◌∷◌, ◌++◌, Contains, Result, Ok, Err, None, Some, append-nil, arith, cond, eq-eqb, length, refl, ap, subst, sym, take, ◌∙◌}
+use Rattle.std.proofs.Common.{◌≡◌, ◌≢◌, ◌⊎◌, ⊎_elim, inl, inr, ℕ, ◌<◌, ◌≤◌, ◌^◌, ◌==◌, List, [], ◌∷◌, ◌++◌, Contains, Result, Ok, Err, None, Some, append-nil, arith, cond, eq-eqb, length, refl, ap, subst, sym, take, ◌∙◌}
 use Rattle.std.proofs.Math.Seq.{take-append_seam}
 use Rattle.std.proofs.lemmas.List.Elements.{Contains-push_cases, filter-append}
 use Rattle.std.specs.List.{AllByRecursion, slice_get}
 use Rattle.notes.specs.Lists.{Grows, Knows, at, own}
-use Rattle.notes.proofs.Growing.{at_else, begins_same}
+use Rattle.notes.proofs.Growing.{at_else, begins_length, begins_same}
 use Rattle.store_pages.specs.Layouts.{xact_page_of}
 use Rattle.tx_events.specs.declared.event.By.{By}
 use Rattle.tx_events.specs.declared.refusal.Refusal.{Refusal}
@@ -108,6 +108,7 @@ found_cut start v u w n n' s s' bank x cutoff inside number same a b place secti
       lock = place;
       looked = still ∙ section_own start v u lock (look_by n s) a.name there section;
       place = length es;
+      since = begins_length (at v.seen lock) es (section.enters.learns.knows.grows.begins lock);
       look = slice_get_begins (at u.seen lock) (at w.seen lock) (length es) (look_of by) (g.begins lock) here;
       cutoff = cutoff;
       is_cutoff = subst (λ (t : List Entry). IsCutoff (first_xact_page start) (2 ^ 17) t cutoff) (sym front) (cutoff_before (first_xact_page start) (2 ^ 17) es by cutoff (subst (λ (t : List Entry). IsCutoff (first_xact_page start) (2 ^ 17) t cutoff) list is.0));
@@ -115,21 +116,24 @@ found_cut start v u w n n' s s' bank x cutoff inside number same a b place secti
     }
 
 -- before it the command had added nothing
-pub found_later : (start : Start) (by by' : By) (a b c : List (List Entry)) (x : ℕ) → by' ≡ by → ((lock : ℕ) → own session_of by.session (at b lock) ≡ own session_of by.session (at a lock)) → FoundCut start by' b c x → FoundCut start by a c x
-found_later start by by' a b c x same still f =
+pub found_later : (start : Start) (by by' : By) (a b c : List (List Entry)) (x : ℕ) → by' ≡ by → Grows a b → ((lock : ℕ) → own session_of by.session (at b lock) ≡ own session_of by.session (at a lock)) → FoundCut start by' b c x → FoundCut start by a c x
+found_later start by by' a b c x same g still f =
     let lock : ℕ = xact_lock f.bank in
+    let longer : length (at a lock) ≤ length (at b lock) = begins_length (at a lock) (at b lock) (g.begins lock) in
+    let since : length (at b lock) ≤ f.place = f.since in
     let looked : own session_of by.session (at c lock) ≡ own session_of by.session (at b lock) ++ look_of by ∷ [] = subst (λ (z : By). own session_of z.session (at c lock) ≡ own session_of z.session (at b lock) ++ look_of z ∷ []) same f.looked in record {
       bank = f.bank;
       lock = f.lock;
       looked = looked ∙ ap (λ (es : List Entry). es ++ look_of by ∷ []) (still lock);
       place = f.place;
+      since = omega arith;
       look = f.look ∙ ap (λ (z : By). Some (look_of z)) same;
       cutoff = f.cutoff;
       is_cutoff = f.is_cutoff;
       cut = f.cut;
     }
 
-grows_self : (lists : List (List Entry)) → Grows lists lists
+pub grows_self : (lists : List (List Entry)) → Grows lists lists
 grows_self lists = record { begins = λ place. begins_same (at lists place) }
 
 -- what is shown of an id

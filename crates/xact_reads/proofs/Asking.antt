@@ -12,7 +12,6 @@ use Rattle.tx_events.proofs.Membership.{Has, contains_has, has_contains}
 use Rattle.tx_model.specs.declared.command.Pair.{Pair}
 use Rattle.tx_core.specs.declared.entry.Entry.{Entry}
 use Rattle.tx_core.specs.declared.entry.Start.{Start}
-use Rattle.tx_core.specs.MultiEntries.{AreFewMultis}
 use Rattle.bank_stores.specs.declared.slot.Slot.{Slot}
 use Rattle.bank_stores.specs.declared.slot.Slot.TheVariants as found
 use Rattle.multi_banks.proofs.Seeing.{filter_map_has}
@@ -22,7 +21,7 @@ use Rattle.engine_parts.specs.Holds.{Knowledge}
 use Rattle.engine_parts.specs.Sessions.{by_at}
 use Rattle.engine_parts.specs.Steps.{WentMulti}
 use Rattle.xact_reads.specs.Apart.{ApartOrMet, StaysApart}
-use Rattle.xact_reads.specs.Multis.{AreItsSlots, IsAskedMember, IsOfMember, IsStoredIn, PinsOnce, ReadsMulti, pair_in, stored_member}
+use Rattle.xact_reads.specs.Multis.{AreItsSlots, IsAskedMember, IsStoredIn, PinsOnce, ReadsMulti, pair_in, stored_member}
 use Rattle.xact_reads.proofs.Aparting.{counted_met, met_wider}
 use Rattle.xact_reads.proofs.Gathering.{its_later}
 use Rattle.xact_reads.proofs.MultiReplying.{once_later}

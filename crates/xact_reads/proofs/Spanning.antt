@@ -86,8 +86,8 @@ given_before base before h by m x ms b legal below has = ⊎_elim
 
 -- ---- the ends
 
--- what was read tells where the members lie: from the offset on so many slots, and one more that is skipped where they end at
--- an offset of low half 0
+-- what was read tells where the members lie: from the offset on so many slots, and one more that is skipped where they
+-- end at an offset of low half 0
 pub record Spanned (start : Start) (lists : List (List Entry)) (held : Held) (ends : Ends) : Type 0 where
   pub members : List Member
   pub offset : ℕ

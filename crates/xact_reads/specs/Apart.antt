@@ -1,5 +1,5 @@
 -- A session stays away from the ProcArray, unless it met a cut page.
-use Rattle.std.specs.Prelude.{◌≡◌, ◌⊎◌, ℕ, ◌^◌, List, [], ◌∷◌, ◌++◌, Some, Result, Ok, Err, slice_get, take, true}
+use Rattle.std.specs.Prelude.{◌≡◌, ◌⊎◌, ℕ, ◌^◌, ◌≤◌, List, [], ◌∷◌, ◌++◌, Some, Result, Ok, Err, length, slice_get, take, true}
 use Rattle.notes.specs.Lists.{Grows, at, own}
 use Rattle.store_pages.specs.Layouts.{xact_page_of}
 use Rattle.tx_events.specs.Nearest.{near_id}
@@ -30,13 +30,14 @@ abbrev pub KeepsApart : {T : Type 0} → Type 0 → ℕ → List (List Entry) �
 KeepsApart met n lists more (Ok x) = StaysApart n lists more
 KeepsApart met n lists more (Err refusal) = ApartUnless met n lists more refusal
 
--- In one critical section of its bank, its only one there, the command looked for the state of x, whose page was cut
--- then, by a cutoff that the bank's list had before the look.
+-- Behind these lists the command looked for the state of x in one critical section of its bank, its only one there. The
+-- page was cut then, by a cutoff that the bank's list had before the look.
 pub record FoundCut (start : Start) (by : By) (lists more : List (List Entry)) (x : ℕ) : Type 0 where
   pub bank : ℕ
   pub lock : xact_lock_of start x ≡ xact_lock bank
   pub looked : own session_of by.session (at more (xact_lock bank)) ≡ own session_of by.session (at lists (xact_lock bank)) ++ look_of by ∷ []
   pub place : ℕ
+  pub since : length (at lists (xact_lock bank)) ≤ place
   pub look : slice_get (at more (xact_lock bank)) place ≡ Some (look_of by)
   pub cutoff : ℕ
   pub is_cutoff : IsCutoff (first_xact_page start) (2 ^ 17) (take place (at more (xact_lock bank))) cutoff

@@ -70,8 +70,8 @@ IsNotRead start told lists by held (refusals.NotYet multi) =
     IsMultiNumber multi × (told → AreFewMultis lists → IsWanting start lists held multi)
 IsNotRead start told lists by held r = IsMultiFault lists by r
 
--- The low halves that were read are of the offset of the multixact, and of that of the one behind it; of the last one it is
--- the free offset at the pin.
+-- The low halves that were read are of the offset of the multixact, and of that of the one behind it; of the last one
+-- it is the free offset at the pin.
 pub record AreEnds (start : Start) (lists : List (List Entry)) (held : Held) (ends : Ends) : Type 0 where
   pub begun : WasTold start
   pub offset : ℕ
@@ -174,8 +174,8 @@ IsUnseen start told lists more by (refusals.NotYet multi) =
     IsMultiNumber multi × (told → AreFewMultis more → WasNotYet start lists more by multi)
 IsUnseen start told lists more by r = IsMultiFault more by r
 
--- The slots of the multixact's members were read; or it was pinned and an offset was wanting, or a volume failed; or the
--- number means none that may be pinned.
+-- The slots of the multixact's members were read; or it was pinned and an offset was wanting, or a volume failed; or
+-- the number means none that may be pinned.
 abbrev pub ReadsMulti : Start → Type 0 → ℕ → Session → ℕ → List (List Entry) → List (List Entry) → List Slot → Result (Unit {0}) Refusal → Type 0
 ReadsMulti start told n s m lists more slots (Ok x) =
     (multi : ℕ) × PinsOnce start n s m lists more multi × (told → AreFewMultis more → AreItsSlots start more multi slots)

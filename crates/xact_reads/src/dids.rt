@@ -49,8 +49,8 @@ fn step_of(state: Option<State>, parent: FullXid) -> Step
     }
 }
 
-/// What an ancestor's state says, where its page isn't cut. Where it is, the transaction ended long ago, and the id that is
-/// asked for didn't commit before this command began; unless that id is too old by now.
+/// What an ancestor's state says, where its page isn't cut. Where it is, the transaction ended long ago, and the id
+/// that is asked for didn't commit before this command began; unless that id is too old by now.
 fn ancestor_state<R: Passing, L: LogDisk, P: PageDisk>(
     rt: &R,
     hall: &Hall<EngineLaw<L, P>>,
@@ -217,8 +217,8 @@ fn stores_say<R: Passing, L: LogDisk, P: PageDisk>(
     }
 }
 
-/// What the stores tell of the full id nearest to the next one that the stored id `x` means: `TooOld` where it is before
-/// the oldest one, or there is none. One that wasn't given hasn't committed.
+/// What the stores tell of the full id nearest to the next one that the stored id `x` means: `TooOld` where it is
+/// before the oldest one, or there is none. One that wasn't given hasn't committed.
 fn did_near<R: Passing, L: LogDisk, P: PageDisk>(
     rt: &R,
     hall: &Hall<EngineLaw<L, P>>,
@@ -273,8 +273,8 @@ fn did_near<R: Passing, L: LogDisk, P: PageDisk>(
 /// answer; each other one means the full id nearest to the next one. `banks` is the number of banks of each store, 1 to
 /// 16.
 ///
-/// Refused with `TooOld` where the id is before the announced oldest id, or there is none, and with `DiskFault` of a bank
-/// of pg_xact or pg_subtrans. Takes no memory. The session has run fewer than 2^48 commands.
+/// Refused with `TooOld` where the id is before the announced oldest id, or there is none, and with `DiskFault` of a
+/// bank of pg_xact or pg_subtrans. Takes no memory. The session has run fewer than 2^48 commands.
 pub fn did<R: Passing, L: LogDisk, P: PageDisk>(
     rt: &R,
     hall: &Hall<EngineLaw<L, P>>,

@@ -1,5 +1,5 @@
 //! The slots of a pinned multixact's members.
-ghost use Rattle.std.specs.Prelude.{◌≡◌, ℕ, ◌+◌, ◌-◌, ◌*◌, ◌^◌, ◌<◌, ◌≤◌, [], IfErr, IsTrue, OnOk, length, vec_capacity};
+ghost use Rattle.std.specs.Prelude.{◌≡◌, ◌+◌, ◌-◌, ◌*◌, ◌^◌, ◌<◌, ◌≤◌, [], IfErr, IsTrue, OnOk, length, vec_capacity};
 ghost use Rattle.hall.specs.Calls.{view, IsOf, start_of};
 ghost use Rattle.tx_events.specs.Multis.{free_offset, oldest_offset};
 ghost use Rattle.tx_core.specs.MultiEntries.{AreFewMultis, multi_history};
@@ -22,8 +22,8 @@ use slru_bank::BankRefusal;
 use store_pages::{bank_of, member_page};
 use tx_events::{Lock, Refusal};
 
-/// How many of these slots lie on the page of the first one; behind them the rest lies on one page, as a page has at least
-/// 1,036 slots, on the last page of a lap.
+/// How many of these slots lie on the page of the first one; behind them the rest lies on one page, as a page has at
+/// least 1,036 slots, on the last page of a lap.
 fn on_page(offset: u64, count: u32) -> u32
     requires some { (1 ≤ count) × (count ≤ 65) }
     ensures some { (1 ≤ result) × (result ≤ count) }
@@ -41,8 +41,8 @@ fn on_page(offset: u64, count: u32) -> u32
     }
 }
 
-/// Reads slots that share a page, behind those that were read: one critical section of a bank of members. A page that is
-/// cut, which can be over a store that tells nothing alone, has none.
+/// Reads slots that share a page, behind those that were read: one critical section of a bank of members. A page that
+/// is cut, which can be over a store that tells nothing alone, has none.
 fn read_page<R: Passing, L: LogDisk, P: PageDisk>(
     rt: &R,
     hall: &Hall<EngineLaw<L, P>>,

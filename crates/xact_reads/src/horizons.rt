@@ -10,9 +10,9 @@ use hall::Hall;
 use proc_sections::read_horizons;
 use tx_events::FullXid;
 
-/// The oldest xmin (`GetOldestNonRemovableTransactionId` of `src/backend/storage/ipc/procarray.c`): the least of the next
-/// snapshot's xmax, the running transactions' ids and the xmins of the live snapshots, the session's own among them. No
-/// id below it is still asked for. One critical section of the ProcArray.
+/// The oldest xmin (`GetOldestNonRemovableTransactionId` of `src/backend/storage/ipc/procarray.c`): the least of the
+/// next snapshot's xmax, the running transactions' ids and the xmins of the live snapshots, the session's own among
+/// them. No id below it is still asked for. One critical section of the ProcArray.
 ///
 /// Never refused, and takes no memory. The session has run fewer than 2^48 commands.
 pub fn horizon<R: Passing, L: LogDisk, P: PageDisk>(

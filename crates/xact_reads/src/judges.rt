@@ -1,5 +1,5 @@
 //! The verdicts on a multixact's members.
-ghost use Rattle.std.specs.Prelude.{◌≡◌, ℕ, ◌+◌, ◌*◌, ◌^◌, ◌<◌, ◌≤◌, [], ◌∷◌, ◌++◌, IfErr, IfOk, IsTrue, OnOk, Some, cond, length, vec_capacity};
+ghost use Rattle.std.specs.Prelude.{◌≡◌, ◌+◌, ◌*◌, ◌^◌, ◌<◌, ◌≤◌, [], ◌∷◌, ◌++◌, IfErr, IfOk, IsTrue, OnOk, Some, cond, length, vec_capacity};
 ghost use Rattle.std.specs.List.{AllByRecursion, filter_map};
 ghost use Rattle.hall.specs.Calls.{view, IsOf, start_of};
 ghost use Rattle.tx_events.specs.Ids.{IsXidNumber};
@@ -66,8 +66,8 @@ fn refused_on(refusal: Refusal) -> Result<Verdict, Refusal>
     }
 }
 
-/// The verdict on the full id that the stored member `_x` means to the snapshot of this name: too old where it is before
-/// this oldest id, or its state is cut by now (`HeapTupleSatisfiesMVCC` of
+/// The verdict on the full id that the stored member `_x` means to the snapshot of this name: too old where it is
+/// before this oldest id, or its state is cut by now (`HeapTupleSatisfiesMVCC` of
 /// `src/backend/access/heap/heapam_visibility.c`).
 fn judge_glance<R: Passing, L: LogDisk, P: PageDisk>(
     rt: &R,

@@ -1,6 +1,6 @@
-//! The calls of an engine over its lock table that only read: whether a session's snapshot sees an id, how an id stands,
-//! whether it has committed by the stores alone, what a snapshot says of a multixact's members, and the oldest xmin. See
-//! `docs/ENGINE.md`.
+//! The calls of an engine over its lock table that only read: whether a session's snapshot sees an id, how an id
+//! stands, whether it has committed by the stores alone, what a snapshot says of a multixact's members, and the oldest
+//! xmin. See `docs/ENGINE.md`.
 #![tactic(auto)]
 
 mod climbs;

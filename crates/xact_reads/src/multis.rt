@@ -1,5 +1,5 @@
 //! Whether a session's snapshot sees the members of a multixact.
-ghost use Rattle.std.specs.Prelude.{◌≡◌, ℕ, ◌+◌, ◌*◌, ◌≤◌, [], IsTrue, length, vec_capacity};
+ghost use Rattle.std.specs.Prelude.{◌≡◌, ◌+◌, ◌*◌, ◌≤◌, [], IsTrue, length, vec_capacity};
 ghost use Rattle.hall.specs.Calls.{view, IsOf, start_of};
 ghost use Rattle.tx_model.specs.declared.command.Command.TheVariants as commands;
 ghost use Rattle.tx_model.specs.declared.reply.Reply.TheVariants as replies;
@@ -63,17 +63,17 @@ fn read_pinned<R: Passing, L: LogDisk, P: PageDisk>(
     }
 }
 
-/// What the session's snapshot of this name says of each member of the multixact that `m` means near the next one, in the
-/// members' order (`GetMultiXactIdMembers` of `src/backend/access/transam/multixact.c`, and for each member
+/// What the session's snapshot of this name says of each member of the multixact that `m` means near the next one, in
+/// the members' order (`GetMultiXactIdMembers` of `src/backend/access/transam/multixact.c`, and for each member
 /// `XidInMVCCSnapshot` of `src/backend/utils/time/snapmgr.c`). The multixact is pinned while its members are read. A
-/// member means the full id nearest to the snapshot's xmax; it is `TooOld` where that is before the published oldest id, or
-/// there is none. `banks` is the number of banks of each store, 1 to 16; the lists are of `alloc`.
+/// member means the full id nearest to the snapshot's xmax; it is `TooOld` where that is before the published oldest
+/// id, or there is none. `banks` is the number of banks of each store, 1 to 16; the lists are of `alloc`.
 ///
 /// Refused, in this order, with `NoSnapshot` where the session has none of this name, with `Memory`, with `MultiTooOld`
-/// where the number means none or one below the oldest, with `MultiFuture` where it means one that wasn't given yet, with
-/// `NotYet` where the offset of the multixact, or of the one behind it, doesn't stand yet, and with `DiskFault` of a bank of
-/// offsets, members, pg_xact or pg_subtrans. Enters the ProcArray only where the page with a member's state is cut. The
-/// session has run fewer than 2^48 commands.
+/// where the number means none or one below the oldest, with `MultiFuture` where it means one that wasn't given yet,
+/// with `NotYet` where the offset of the multixact, or of the one behind it, doesn't stand yet, and with `DiskFault` of
+/// a bank of offsets, members, pg_xact or pg_subtrans. Enters the ProcArray only where the page with a member's state
+/// is cut. The session has run fewer than 2^48 commands.
 pub fn see_multi<R: Passing, L: LogDisk, P: PageDisk>(
     rt: &R,
     hall: &Hall<EngineLaw<L, P>>,

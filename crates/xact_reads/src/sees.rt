@@ -1,5 +1,5 @@
 //! Whether a session's snapshot sees an id.
-ghost use Rattle.std.specs.Prelude.{◌≡◌, ℕ, ◌+◌, ◌*◌, ◌≤◌, [], None};
+ghost use Rattle.std.specs.Prelude.{◌≡◌, ◌+◌, ◌*◌, ◌≤◌, [], None};
 ghost use Rattle.hall.specs.Calls.{view, IsOf, start_of};
 ghost use Rattle.tx_model.specs.declared.command.Command.TheVariants as commands;
 ghost use Rattle.tx_model.specs.declared.reply.Reply.TheVariants as replies;

@@ -1,5 +1,5 @@
 //! Where the members of a pinned multixact lie.
-ghost use Rattle.std.specs.Prelude.{◌≡◌, ℕ, ◌+◌, ◌*◌, ◌^◌, ◌≤◌, [], IfErr, IfOk, IsTrue, OnOk};
+ghost use Rattle.std.specs.Prelude.{◌≡◌, ◌+◌, ◌*◌, ◌^◌, ◌≤◌, [], IfErr, IfOk, IsTrue, OnOk};
 ghost use Rattle.hall.specs.Calls.{view, IsOf, start_of};
 ghost use Rattle.tx_events.specs.Multis.{oldest_multi};
 ghost use Rattle.tx_core.specs.MultiEntries.{AreFewMultis, multi_history};
@@ -28,9 +28,9 @@ pub(crate) struct Ends {
     pub end: u32,
 }
 
-/// The low half of the offset of a multixact, as the pages of offsets have it: one critical section of a bank. None where
-/// none stands. Waits for ever where the page is cut, which can't be of a pinned one or the one behind it in a life of few
-/// multixacts.
+/// The low half of the offset of a multixact, as the pages of offsets have it: one critical section of a bank. None
+/// where none stands. Waits for ever where the page is cut, which can't be of a pinned one or the one behind it in a
+/// life of few multixacts.
 fn offset_of<R: Passing, L: LogDisk, P: PageDisk>(
     rt: &R,
     hall: &Hall<EngineLaw<L, P>>,
@@ -69,9 +69,9 @@ fn offset_of<R: Passing, L: LogDisk, P: PageDisk>(
     }
 }
 
-/// Where the members of a pinned multixact begin and end: at its offset and at that of the one behind it, or at the free
-/// offset of the pin where it is the last one (`GetMultiXactIdMembers` of `src/backend/access/transam/multixact.c`, which
-/// waits where this answers `NotYet`).
+/// Where the members of a pinned multixact begin and end: at its offset and at that of the one behind it, or at the
+/// free offset of the pin where it is the last one (`GetMultiXactIdMembers` of
+/// `src/backend/access/transam/multixact.c`, which waits where this answers `NotYet`).
 pub(crate) fn ends_of<R: Passing, L: LogDisk, P: PageDisk>(
     rt: &R,
     hall: &Hall<EngineLaw<L, P>>,
@@ -114,8 +114,8 @@ pub(crate) fn ends_of<R: Passing, L: LogDisk, P: PageDisk>(
     }
 }
 
-/// The greatest offset of this low half that isn't past the end. Over a store that tells nothing there may be none: then the
-/// half itself.
+/// The greatest offset of this low half that isn't past the end. Over a store that tells nothing there may be none:
+/// then the half itself.
 pub(crate) fn offset_in_full(end: u64, low: u32) -> u64
     ensures value { result ≡ full_upto end low }
     ensures upto { result ≤ end + 2 ^ 32 }

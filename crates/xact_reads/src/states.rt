@@ -1,5 +1,5 @@
 //! Whether an id's state says that it has committed.
-ghost use Rattle.std.specs.Prelude.{◌≡◌, ℕ, ◌+◌, ◌*◌, ◌≤◌, [], IfErr, IfOk, IsTrue};
+ghost use Rattle.std.specs.Prelude.{◌≡◌, ◌+◌, ◌*◌, ◌≤◌, [], IfErr, IfOk, IsTrue};
 ghost use Rattle.hall.specs.Calls.{view, IsOf, start_of};
 ghost use Rattle.tx_core.specs.Verdict as verdicts;
 ghost use Rattle.engine_parts.specs.Adding.{Adds, MayFault};
@@ -25,9 +25,9 @@ fn says_committed(state: Option<State>) -> bool
     matches!(state, Some(State::Committed))
 }
 
-/// The state of an id (`TransactionLogFetch` of `src/backend/access/transam/transam.c`): one critical section of a bank of
-/// pg_xact; None where none was set. Where the page is cut, the oldest id is read once more, which is past the id by then:
-/// `TooOld`. Waits for ever where it isn't, which can't be in a life of few ids.
+/// The state of an id (`TransactionLogFetch` of `src/backend/access/transam/transam.c`): one critical section of a bank
+/// of pg_xact; None where none was set. Where the page is cut, the oldest id is read once more, which is past the id by
+/// then: `TooOld`. Waits for ever where it isn't, which can't be in a life of few ids.
 pub(crate) fn state_of<R: Passing, L: LogDisk, P: PageDisk>(
     rt: &R,
     hall: &Hall<EngineLaw<L, P>>,
@@ -70,8 +70,8 @@ pub(crate) fn state_of<R: Passing, L: LogDisk, P: PageDisk>(
     }
 }
 
-/// Whether pg_xact has an id as committed (`TransactionLogFetch` of `src/backend/access/transam/transam.c`), as `state_of`
-/// reads it.
+/// Whether pg_xact has an id as committed (`TransactionLogFetch` of `src/backend/access/transam/transam.c`), as
+/// `state_of` reads it.
 pub(crate) fn is_committed<R: Passing, L: LogDisk, P: PageDisk>(
     rt: &R,
     hall: &Hall<EngineLaw<L, P>>,

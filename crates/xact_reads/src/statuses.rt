@@ -1,5 +1,5 @@
 //! How an id stands.
-ghost use Rattle.std.specs.Prelude.{◌≡◌, ℕ, ◌+◌, ◌*◌, ◌<◌, ◌≤◌, [], List, None, cond, length, true};
+ghost use Rattle.std.specs.Prelude.{◌≡◌, ◌+◌, ◌*◌, ◌<◌, ◌≤◌, [], List, None, cond, length, true};
 ghost use Rattle.hall.specs.Calls.{view, IsOf, start_of};
 ghost use Rattle.tx_events.specs.Ids.{IsFullId};
 ghost use Rattle.tx_events.specs.declared.event.Event.{Event};
@@ -99,8 +99,8 @@ fn settle<R: Passing, L: LogDisk, P: PageDisk>(
 
 /// How the transaction of an id stands (`TransactionIdIsInProgress` of `src/backend/storage/ipc/procarray.c`, then
 /// `TransactionIdDidCommit` of `src/backend/access/transam/transam.c`): one critical section of the ProcArray, in which
-/// it is asked for, and of an id that doesn't run one of a bank of pg_xact. A special id has its fixed answer, and takes
-/// neither. `banks` is the number of banks of each store, 1 to 16.
+/// it is asked for, and of an id that doesn't run one of a bank of pg_xact. A special id has its fixed answer, and
+/// takes neither. `banks` is the number of banks of each store, 1 to 16.
 ///
 /// Refused, in this order, with `Memory`, then nothing was asked; with `TooOld` where the id is before the announced
 /// oldest id; with `Future` where it wasn't given yet; and with `DiskFault` of a bank of pg_xact. The session has run

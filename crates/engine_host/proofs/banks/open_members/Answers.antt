@@ -5,7 +5,8 @@ use Rattle.engine_host.proofs.Multis.{members_begin, members_came}
 use Rattle.engine_host.proofs.Starting.{of_bank}
 use Rattle.engine_host.proofs.banks.open_members.Goals as goal
 
--- With a ghost value the clauses of `requires` have no names: they stand in their order behind what is asked of lifetimes.
+-- With a ghost value the clauses of `requires` have no names: they stand in their order behind what is asked of
+-- lifetimes.
 
 pub returns-clause-new : goal.returns-clause-new
 returns-clause-new g c =

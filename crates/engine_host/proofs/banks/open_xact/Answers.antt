@@ -5,7 +5,8 @@ use Rattle.engine_host.specs.Opening.{at_gate, bytes_left, life_from}
 use Rattle.engine_host.proofs.Starting.{course_begins, of_bank, xact_begins}
 use Rattle.engine_host.proofs.banks.open_xact.Goals as goal
 
--- With a ghost value the clauses of `requires` have no names: they stand in their order behind what is asked of lifetimes.
+-- With a ghost value the clauses of `requires` have no names: they stand in their order behind what is asked of
+-- lifetimes.
 
 pub returns-clause-new : goal.returns-clause-new
 returns-clause-new g c =

@@ -1,13 +1,14 @@
 use Rattle.std.proofs.Common.{ap, arith, refl, rules, subst, sym, ◌++◌, ◌∙◌}
 use Rattle.tx_core.specs.declared.entry.Start.{Start}
-use Rattle.wal_core.specs.LogViews.{log_disk}
+use Rattle.wal_core.specs.LogViews.{log_disk, log_end}
 use Rattle.engine_host.specs.Opening.{IsBegunLog}
 use Rattle.engine_host.specs.Stores.{volumes_in}
 use Rattle.engine_host.proofs.Counting.{all_counted}
 use Rattle.engine_host.proofs.Refusing.{none_long, room_left}
 use Rattle.engine_host.proofs.begun_parts.open_begun.Goals as goal
 
--- With a ghost value the clauses of `requires` have no names: they stand in their order behind what is asked of lifetimes.
+-- With a ghost value the clauses of `requires` have no names: they stand in their order behind what is asked of
+-- lifetimes.
 
 pub add_banks-requires : goal.add_banks-requires
 add_banks-requires g c =
@@ -51,3 +52,8 @@ returns-clause-counted g c =
     let parts = c.gather.ensures in
     all_counted g.L.LogDisk g.P.PageDisk c.args.cluster.banks (log_disk c.args.log) c.in-Ok.log.value c.args.volumes c.add_banks.new.locks.items c.gather.result.start.value.faults
     (let same = ap (λ l. g.L.LogDisk.faults (log_disk l)) c.in-Ok.ensures.ok in omega (arith, same)) c.requires.1.1.1.0 c.in_default.ensures.counted (ap (λ (s : Start). s.faults) parts.start ∙ parts.faults)
+
+pub returns-clause-end : goal.returns-clause-end
+returns-clause-end g c =
+    let parts = c.gather.ensures in
+    ap (λ (s : Start). s.gate) parts.start ∙ (parts.end ∙ ap log_end c.in-Ok.ensures.ok)

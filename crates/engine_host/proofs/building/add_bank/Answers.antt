@@ -10,7 +10,8 @@ use Rattle.engine_host.proofs.Refusing.{by_store, disks_more, each_store, four_m
 use Rattle.engine_host.proofs.Starting.{bank_new}
 use Rattle.engine_host.proofs.building.add_bank.Goals as goal
 
--- With a ghost value the clauses of `requires` have no names: they stand in their order behind what is asked of lifetimes.
+-- With a ghost value the clauses of `requires` have no names: they stand in their order behind what is asked of
+-- lifetimes.
 
 pub open_states-requires : goal.open_states-requires
 open_states-requires g c =

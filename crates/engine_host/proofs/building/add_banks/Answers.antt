@@ -8,7 +8,8 @@ use Rattle.engine_host.proofs.Refusing.{drop_next, some_left}
 use Rattle.engine_host.proofs.Starting.{rest_begin}
 use Rattle.engine_host.proofs.building.add_banks.Goals as goal
 
--- With a ghost value the clauses of `requires` have no names: they stand in their order behind what is asked of lifetimes.
+-- With a ghost value the clauses of `requires` have no names: they stand in their order behind what is asked of
+-- lifetimes.
 
 pub add_bank-requires : goal.add_bank-requires
 add_bank-requires g c =

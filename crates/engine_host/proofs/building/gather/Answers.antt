@@ -7,7 +7,8 @@ use Rattle.engine_host.specs.Opening.{AreNew, at_gate, faults_behind, gate_behin
 use Rattle.engine_host.proofs.Starting.{all_stand, cons_new, inserted_first}
 use Rattle.engine_host.proofs.building.gather.Goals as goal
 
--- With a ghost value the clauses of `requires` have no names: they stand in their order behind what is asked of lifetimes.
+-- With a ghost value the clauses of `requires` have no names: they stand in their order behind what is asked of
+-- lifetimes.
 
 pub returns-clause-parts : goal.returns-clause-parts
 returns-clause-parts g c =

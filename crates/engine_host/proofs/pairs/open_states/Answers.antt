@@ -5,7 +5,8 @@ use Rattle.engine_host.proofs.Refusing.{first_is, store_failed}
 use Rattle.engine_host.proofs.Starting.{first_shows}
 use Rattle.engine_host.proofs.pairs.open_states.Goals as goal
 
--- With a ghost value the clauses of `requires` have no names: they stand in their order behind what is asked of lifetimes.
+-- With a ghost value the clauses of `requires` have no names: they stand in their order behind what is asked of
+-- lifetimes.
 
 pub open_xact-requires : goal.open_xact-requires
 open_xact-requires g c =

@@ -23,14 +23,14 @@ returns-in_err-name-clause-refused c =
     none_multis t (drop 1 l) c.requires.stage (λ h i. unread_none {X = LogHead} c.in-Err-Form.field-0 h c.in-Err-Form.field-0-is (c.in-Err-Form.ensures.only h i))
     (multi_unnamed t l c.requires.some (word_none c.in_err-name.field-0.0 (second_word (words_in l)) (sym q ∙ f) c.in_err-name.ensures))))
 
-pub returns-in_err-note-clause-refused : goal.returns-in_err-note-clause-refused
-returns-in_err-note-clause-refused c =
+pub returns-in_err-place-clause-refused : goal.returns-in_err-place-clause-refused
+returns-in_err-place-clause-refused c =
     let t = c.args.told.now in
     let l = c.args.line.now in
     let w = c.in_ok-name.name.now in
-    if_err c.from_residual-in_err-note.result _ _ c.from_residual-in_err-note.ensures.1 (λ u q. refuse u t (drop 1 l) (λ f.
+    if_err c.from_residual-in_err-place.result _ _ c.from_residual-in_err-place.ensures.1 (λ u q. refuse u t (drop 1 l) (λ f.
     none_multis t (drop 1 l) c.requires.stage (λ h i. unread_none {X = LogHead} c.in-Err-Form.field-0 h c.in-Err-Form.field-0-is (c.in-Err-Form.ensures.only h i))
-    (multi_cannot t l w c.requires.some c.in_ok-name.ensures (cannot c.in_err-note.field-0.0 t.names w (sym q ∙ f) c.in_err-note.ensures.refused))))
+    (multi_cannot t l w c.requires.some c.in_ok-name.ensures (cannot c.in_err-place.field-0.0 t.names w (sym q ∙ f) c.in_err-place.ensures.refused))))
 
 pub returns-in_err-event-clause-refused : goal.returns-in_err-event-clause-refused
 returns-in_err-event-clause-refused c =
@@ -39,11 +39,11 @@ returns-in_err-event-clause-refused c =
     let w = c.in_ok-name.name.now in
     if_err c.from_residual-in_err-event.result _ _ c.from_residual-in_err-event.ensures.1 (λ u q. refuse u t (drop 1 l) (λ f.
     none_multis t (drop 1 l) c.requires.stage (λ h i. unread_none {X = LogHead} c.in-Err-Form.field-0 h c.in-Err-Form.field-0-is (c.in-Err-Form.ensures.only h i))
-    (multi_unread t l w c.note.new.names c.requires.some c.in_ok-name.ensures c.in_ok-note.ensures.noted (λ e i. unread_none {X = MultiEvent} c.in_err-event.field-0.0 e (sym q ∙ f) (c.in_err-event.ensures.only e i)))))
+    (multi_unread t l w c.note.new.names c.requires.some c.in_ok-name.ensures c.in_ok-place.ensures.noted (λ e i. unread_none {X = MultiEvent} c.in_err-event.field-0.0 e (sym q ∙ f) (c.in_err-event.ensures.only e i)))))
 
 pub returns-clause-taken : goal.returns-clause-taken
 returns-clause-taken c =
     let t = c.args.told.now in
     let e = c.in_ok-event.event in
-    multi_taken t c.args.line.now c.in_ok-name.name.now c.note.new.names e _ c.requires.stage c.requires.some c.in_ok-name.ensures c.in_ok-note.ensures.noted c.in_ok-note.ensures.few c.in_ok-event.ensures.found (multi_within c.note.new.names e)
+    multi_taken t c.args.line.now c.in_ok-name.name.now c.note.new.names e _ c.requires.stage c.requires.some c.in_ok-name.ensures c.in_ok-place.ensures.noted c.in_ok-place.ensures.few c.in_ok-event.ensures.found (multi_within c.note.new.names e)
     (ap (λ (es : List MultiEvent). record t { names = c.note.new.names; multis = es }) c.in_ok-push.ensures.ok)

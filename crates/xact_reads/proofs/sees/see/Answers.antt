@@ -1,9 +1,9 @@
-use Rattle.std.proofs.Common.{◌≡◌, ℕ, ap, subst, not, nat_eq, arith, refl, sym, ◌∙◌}
+use Rattle.std.proofs.Common.{ap, subst, not, nat_eq, arith, refl, sym, ◌∙◌}
 use Rattle.hall.specs.Calls.{view, start_of}
 use Rattle.tx_events.specs.declared.refusal.Refusal.TheVariants as refusals
 use Rattle.tx_model.specs.declared.command.Command.TheVariants as commands
 use Rattle.tx_model.specs.declared.reply.Reply.TheVariants as replies
-use Rattle.notes.specs.Lists.{at, own}
+use Rattle.notes.specs.Lists.{Grows, at, own}
 use Rattle.tx_events.specs.Running.{open_ids}
 use Rattle.tx_core.specs.Entries.{history, session_of}
 use Rattle.engine_parts.specs.Adding.{IsPlain, MayMeet}
@@ -13,7 +13,7 @@ use Rattle.engine_parts.specs.Sessions.{by_at, stance_of}
 use Rattle.session_levels.specs.declared.session.Session as plain
 use Rattle.xact_reads.specs.Apart.{FoundMeantCut}
 use Rattle.xact_reads.specs.Glances.{IsNamed}
-use Rattle.xact_reads.proofs.Aparting.{apart_unless, counted_apart, found_later}
+use Rattle.xact_reads.proofs.Aparting.{apart_unless, counted_apart, found_later, grows_self}
 use Rattle.engine_parts.proofs.Adding.{adds_nothing, adds_wider, met_leaves, plain_leaves}
 use Rattle.engine_parts.proofs.Calling.{may_counted, own_counted, ran_refused}
 use Rattle.engine_parts.proofs.Stepping.{went_nowhere}
@@ -101,6 +101,6 @@ returns-in-Err-clause-apart g c =
       named = subst (λ (z : plain.Session). IsNamed z name cut.registered) c.count.ensures.levels cut.named;
       id = cut.id;
       near = cut.near;
-      found = found_later start by by' v v' w.seen cut.id (λ j. by_at (c.count.ensures.number j) (c.count.ensures.levels j).commands) (λ lock. ap (λ (z : Knowledge). own session_of old.number (at z.seen lock)) (ap view c.count.ensures.pass)) cut.found;
+      found = found_later start by by' v v' w.seen cut.id (λ j. by_at (c.count.ensures.number j) (c.count.ensures.levels j).commands) (subst (λ (z : Knowledge). Grows v z.seen) (sym (ap view c.count.ensures.pass)) (grows_self v)) (λ lock. ap (λ (z : Knowledge). own session_of old.number (at z.seen lock)) (ap view c.count.ensures.pass)) cut.found;
     })
     (counted_apart old.number u.number (view old.pass) (view u.pass) (view u.pass) (ap view c.count.ensures.pass) c.count.ensures.number refl) c.in-Err.ensures.apart

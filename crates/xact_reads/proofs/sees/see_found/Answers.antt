@@ -93,7 +93,7 @@ returns-in-Err-clause-apart g c =
       named = h.named;
       id = glance.id;
       near = shows.near;
-      found = found_later start by by' v v' w.seen glance.id (same_command old.number u.number old.session u.session e.same.1 e.same.0) (λ lock. nothing_still by v v' lock e.adds) found;
+      found = found_later start by by' v v' w.seen glance.id (same_command old.number u.number old.session u.session e.same.1 e.same.0) e.went.on.grows (λ lock. nothing_still by v v' lock e.adds) found;
     })
     (nothing_still by v v' proc_lock e.adds) c.in-Err.ensures.apart
 

@@ -369,8 +369,7 @@ where
 {
     let mut rooms = LifeRooms::new(alloc);
     let mut spare = SparePlan::none(alloc);
-    let life = open_life(alloc, &mut rooms, media, cluster_of(script))?;
-    let life = Box::into_inner(life);
+    let life = Box::into_inner(open_life(alloc, &mut rooms, media, cluster_of(script))?);
     have_full_multis(&life.host.cluster.base);
     let mut tally = Tally::none(alloc);
     let names = &script.names;

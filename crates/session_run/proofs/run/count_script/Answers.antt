@@ -38,13 +38,13 @@ open_life-requires g c κs within =
     let may = may_over g.M.Log.LogDisk g.M.Pages.PageDisk c.args.script.now (MayMount (m.is_new c.args.media.now) (m.begins c.args.media.now) (m.gives c.args.media.now)) g.kept c.cluster_of.result c.cluster_of.ensures.is asked.1 in
     (search (rules, within), (search (rules, within), (search (rules, within), (record { owned = log.owned; leaving = λ k. log.leaving (λ a. k (of_param 1)) }, (record { owned = pages.owned; leaving = λ k. pages.leaving (λ a. k (of_param 2)) }, (cluster, (asked.0, may)))))))
 
-pub returns-in_err-life-clause-refused : goal.returns-in_err-life-clause-refused
-returns-in_err-life-clause-refused g c =
+pub returns-in_err-open_life-clause-refused : goal.returns-in_err-open_life-clause-refused
+returns-in_err-open_life-clause-refused g c =
     let m = g.M.Media in
     let old = c.args.media.now in
     let new = c.open_life.new.media in
-    let none = unopened_first g.M.Log.LogDisk g.M.Pages.PageDisk c.args.script.now g.kept (m.is_new old) (m.begins old) (m.gives old) m.falls (m.faults old) (m.faults new) (m.gives new) c.cluster_of.result c.in_err-life.field-0.0 c.cluster_of.ensures.is
-    c.in_err-life.ensures.refused (λ was told. c.in_err-life.ensures.again told was) in
+    let none = unopened_first g.M.Log.LogDisk g.M.Pages.PageDisk c.args.script.now g.kept (m.is_new old) (m.begins old) (m.gives old) m.falls (m.faults old) (m.faults new) (m.gives new) c.cluster_of.result c.in_err-open_life.field-0.0 c.cluster_of.ensures.is
+    c.in_err-open_life.ensures.refused (λ was told. c.in_err-open_life.ensures.again told was) in
     let err = err_from_is_err_and c.from_residual.result c.from_residual.ensures.1 in
     rw (err.1, err.2) none
 
@@ -58,8 +58,8 @@ run_life-closed-requires-clause-may g c κs within =
     let s = c.args.script.now in
     let m = g.M.Media in
     let first = MayMount (m.is_new c.args.media.now) (m.begins c.args.media.now) (m.gives c.args.media.now) in
-    let life = c.in_ok-life.life.value in
-    let is = is_first g.M.Log.LogDisk g.M.Pages.PageDisk s first g.kept c.cluster_of.result life c.cluster_of.ensures.is (c.requires.1.1.1.1.1.1.1.1.1.1.1.1.1) c.in_ok-life.ensures.life in
+    let life = c.in_ok-open_life.life.value in
+    let is = is_first g.M.Log.LogDisk g.M.Pages.PageDisk s first g.kept c.cluster_of.result life c.cluster_of.ensures.is (c.requires.1.1.1.1.1.1.1.1.1.1.1.1.1) c.in_ok-open_life.ensures.life in
     record {
       cluster = is.so.cluster;
       begins = is.so.begins;
@@ -85,11 +85,11 @@ returns-in-Ok-text-clause-counts g c =
     let l = g.M.Log.LogDisk in
     let p = g.M.Pages.PageDisk in
     let first = MayMount (m.is_new c.args.media.now) (m.begins c.args.media.now) (m.gives c.args.media.now) in
-    let life = c.in_ok-life.life.value in
+    let life = c.in_ok-open_life.life.value in
     let closed = c.run_life-closed.result.0 in
     let tally = c.run_life-closed.new.kept in
     let gives = m.gives c.rest.new.self in
-    let is = is_first l p s first g.kept c.cluster_of.result life c.cluster_of.ensures.is (c.requires.1.1.1.1.1.1.1.1.1.1.1.1.1) c.in_ok-life.ensures.life in
+    let is = is_first l p s first g.kept c.cluster_of.result life c.cluster_of.ensures.is (c.requires.1.1.1.1.1.1.1.1.1.1.1.1.1) c.in_ok-open_life.ensures.life in
     let so = is.so in
     let opened = subst (IsOpened so.cluster so.begins so.faults is.volumes) (sym c.into_inner-life.ensures) so.opened in
     let start = start_so so.cluster so.begins in

@@ -1,7 +1,8 @@
 //! What the openings of a life have in common.
-ghost use Rattle.std.specs.Prelude.{◌≡◌, ◌≤◌, [], IfErr, IfOk, vec_capacity};
+ghost use Rattle.std.specs.Prelude.{◌≡◌, ◌≤◌, [], IfErr, IfOk, length, vec_capacity};
 ghost use Rattle.tx_events.specs.Ids.{IsFullMulti};
 ghost use Rattle.engine_host.specs.Opening.{AreParts};
+ghost use Rattle.engine_host.specs.Refused.{AreInPlace};
 ghost use Rattle.engine_host.specs.Stores.{banks_of};
 ghost use Rattle.engine_life.specs.Lives.{IsBegun};
 ghost use Rattle.engine_life.specs.declared.refusal.NoLife.TheVariants as no_lives;
@@ -9,7 +10,7 @@ ghost use Rattle.engine_life.specs.declared.refusal.NoLife.TheVariants as no_liv
 use crate::life::{Aside, OpenLife};
 use crate::refusal::NoLife;
 use disk_core::{LogDisk, PageDisk, Volumes};
-use engine_host::{BankVolumes, LifeRooms, Parts, TakenApart, make_table, take_apart};
+use engine_host::{BankVolumes, LifeRooms, Parts, TakenApart, close, make_table, take_apart};
 use std::alloc::{AllocError, Global};
 use tx_events::Counters;
 
@@ -22,7 +23,9 @@ fn volumes_of<L: LogDisk + Drop, P: PageDisk + Drop>(
     parts: Parts<L, P>,
     aside: Aside<P>,
 ) -> Volumes<L, P>
-    requires { AreParts parts }
+    requires count { 3 ≤ length parts.locks.items }
+    requires few { length parts.locks.items ≤ 67 }
+    requires stand { AreInPlace parts.locks.items }
 {
     let Parts {
         cluster: _,
@@ -59,21 +62,29 @@ pub(crate) fn with_log<L, P>(log: L, volumes: BankVolumes<P>) -> Volumes<L, P>
     }
 }
 
-// Makes the lock table over parts that were made.
+// Makes the lock table over parts that were made. The life lies behind a box, so that it isn't moved from call to call.
 #[inline(always)]
 pub(crate) fn begin_life<L: LogDisk + Drop, P: PageDisk + Drop>(
     alloc: Global,
     rooms: &mut LifeRooms<P>,
     parts: Parts<L, P>,
     aside: Aside<P>,
-) -> Result<OpenLife<L, P>, (Volumes<L, P>, NoLife)>
+) -> Result<Box<OpenLife<L, P>>, (Volumes<L, P>, NoLife)>
     requires parts { AreParts parts }
-    ensures life { IfOk result (λ life. IsBegun parts.cluster parts.start.value life) }
+    ensures life { IfOk result (λ life. IsBegun parts.cluster parts.start.value life.value) }
     ensures refused { IfErr result (λ e. e.1 ≡ no_lives.Memory) }
 {
-    match make_table(alloc, parts) {
-        Ok((hall, host)) => Ok(OpenLife { hall, host, aside }),
-        Err(parts) => Err((volumes_of(rooms, parts, aside), NoLife::Memory)),
+    let (hall, host) = match make_table(alloc, parts) {
+        Ok(made) => made,
+        Err(parts) => return Err((volumes_of(rooms, parts, aside), NoLife::Memory)),
+    };
+    match Box::new(alloc, OpenLife { hall, host, aside }) {
+        Ok(life) => Ok(life),
+        Err(lacking) => {
+            let OpenLife { hall, host, aside } = lacking.value;
+            let parts = close(hall, host);
+            Err((volumes_of(rooms, parts, aside), NoLife::Memory))
+        }
     }
 }
 

@@ -25,14 +25,14 @@ pub(crate) fn begin_old<L: LogDisk + Drop, P: PageDisk + Drop>(
     volumes: BankVolumes<P>,
     aside: Aside<P>,
     sessions: u32,
-) -> Result<OpenLife<L, P>, (Volumes<L, P>, NoLife)>
+) -> Result<Box<OpenLife<L, P>>, (Volumes<L, P>, NoLife)>
     ghost kept: { KeptLog }
     requires some { 1 ≤ length volumes.xact.items }
     requires few { length volumes.xact.items ≤ 16 }
     requires as_many { HaveEach (length volumes.xact.items) volumes }
     requires sessions { sessions ≤ 64 }
     requires fits { (log : L) × IsFound log found × MayGoOn L.LogDisk P.PageDisk kept (volumes_over log volumes) }
-    ensures life { (log : L) → IsFound log found → IfOk result (λ life. GoesOnLife kept sessions (volumes_over log volumes) life) }
+    ensures life { (log : L) → IsFound log found → IfOk result (λ life. GoesOnLife kept sessions (volumes_over log volumes) life.value) }
     ensures again { IsTrue P.tells → (log : L) → IsFound log found
         → IfErr result (λ e. WhenRefused L.LogDisk P.PageDisk kept (volumes_over log volumes) e.0 e.1) }
     ensures refused { (log : L) → IsFound log found → (fresh : Cluster)

@@ -31,11 +31,11 @@ fn begin_new<L: LogDisk + Drop, P: PageDisk + Drop>(
     volumes: BankVolumes<P>,
     aside: Aside<P>,
     cluster: Cluster,
-) -> Result<OpenLife<L, P>, (Volumes<L, P>, NoLife)>
+) -> Result<Box<OpenLife<L, P>>, (Volumes<L, P>, NoLife)>
     requires cluster { IsCluster cluster }
     requires banks { HaveEach cluster.banks volumes }
     requires found { (disk : L) × IsFoundNew disk log }
-    ensures life { (disk : L) → IsFoundNew disk log → IfOk result (λ life. IsNewLife cluster (volumes_over disk volumes) life) }
+    ensures life { (disk : L) → IsFoundNew disk log → IfOk result (λ life. IsNewLife cluster (volumes_over disk volumes) life.value) }
     ensures refused { (disk : L) → IsFoundNew disk log
         → IfErr result (λ e. IsNoLife L.LogDisk P.PageDisk cluster (volumes_over disk volumes) e.0 e.1) }
 {
@@ -53,12 +53,12 @@ fn begin_over<L: LogDisk + Drop, P: PageDisk + Drop>(
     rooms: &mut LifeRooms<P>,
     volumes: Volumes<L, P>,
     cluster: Cluster,
-) -> Result<OpenLife<L, P>, (Volumes<L, P>, NoLife)>
+) -> Result<Box<OpenLife<L, P>>, (Volumes<L, P>, NoLife)>
     ghost kept: { KeptLog }
     requires cluster { IsCluster cluster }
     requires banks { HasBanks cluster.banks volumes }
     requires may { MayBeginOver L.LogDisk P.PageDisk kept volumes }
-    ensures life { IfOk result (λ life. IsFirstLife kept cluster volumes life) }
+    ensures life { IfOk result (λ life. IsFirstLife kept cluster volumes life.value) }
     ensures again { IsTrue P.tells → IfErr result (λ e. FitsLog L.LogDisk P.PageDisk kept volumes
         → WhenRefused L.LogDisk P.PageDisk kept volumes e.0 e.1) }
     ensures refused { IfErr result (λ e. IsNoLife L.LogDisk P.PageDisk cluster volumes e.0 e.1) }
@@ -120,7 +120,7 @@ pub fn open_life<M: Media>(
     rooms: &mut LifeRooms<M::Pages>,
     media: &mut M,
     cluster: Cluster,
-) -> Result<OpenLife<M::Log, M::Pages>, NoLife>
+) -> Result<Box<OpenLife<M::Log, M::Pages>>, NoLife>
     ghost kept: { KeptLog }
     requires cluster { IsCluster cluster }
     requires idle { IsTrue (M.is_idle media.old) }
@@ -129,7 +129,7 @@ pub fn open_life<M: Media>(
         → MayBeginOver M.Log.LogDisk M.Pages.PageDisk kept volumes }
     ensures life { IfOk result (λ life. (volumes : Mounted M.Log M.Pages)
         × MayMount (M.is_new media.old) (M.begins media.old) (M.gives media.old) cluster.banks volumes
-        × IsFirstLife kept (with_banks cluster (length volumes.xact.items)) volumes life) }
+        × IsFirstLife kept (with_banks cluster (length volumes.xact.items)) volumes life.value) }
     ensures mounted { OnOk result (M.is_idle media.new ≡ false) }
     ensures idle { OnErr result (IsTrue (M.is_idle media.new)) }
     ensures count { M.faults media.old ≤ M.faults media.new }

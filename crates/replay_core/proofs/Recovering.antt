@@ -28,6 +28,7 @@ module _ {L P : Type 0} {l : logs.Ghosts L} (p : disks.Ghosts P) (recs : List Re
   restoring_failed e r = record {
     count = r.count;
     settled = tt;
+    end = tt;
     kept = λ told. tt;
     restored = λ told. tt;
     left = λ told told'. (r.moments told', inl refl);
@@ -50,12 +51,13 @@ module _ {L P : Type 0} {l : logs.Ghosts L} (p : disks.Ghosts P) (recs : List Re
   because log' (Err e) x = inr x
 
   pub all_replayed : (log' : WalLog L l) (result : Result (Unit {0}) RecoverRefusal) → RestoresPages p recs base old new (Ok (tt {0}))
-      → OnOk result (IsSettled (log_next log) base log') → (IsTrue l.tells → OnOk result (SettlesLog l base log log')) → (IsTrue l.tells → OnErr result (LeavesLog l base log log'))
+      → OnOk result (IsSettled (log_next log) base log') → OnOk result (log_end log' ≡ log_end log + 62) → (IsTrue l.tells → OnOk result (SettlesLog l base log log')) → (IsTrue l.tells → OnErr result (LeavesLog l base log log'))
       → (IsTrue l.tells → SettlesThroughout l base log log') → IfErr result (λ refusal. IsSettleRefusal (log_next log) base log log' refusal) → l.faults (log_disk log) ≤ l.faults (log_disk log')
       → Replays p recs base log log' old new result
-  all_replayed log' result r settled kept left moments refused count = record {
+  all_replayed log' result r settled end kept left moments refused count = record {
     count = r.count;
     settled = settled;
+    end = end;
     kept = kept;
     restored = λ told. on result (r.restored told);
     left = λ told told'. err result (λ x. (r.moments told', inr (r.restored told', x))) (left told);

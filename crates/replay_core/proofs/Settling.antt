@@ -1,5 +1,5 @@
 -- The checkpoint behind what was found.
-use Rattle.std.proofs.Common.{IfSome, List, None, Option, Some, [], arith, inl, inr, length, max, refl, subst, sym, ℕ, ◌+◌, ◌++◌, ◌∙◌, ◌∷◌, ◌≡◌, ◌≢◌}
+use Rattle.std.proofs.Common.{IfSome, List, None, Option, Some, [], ap, append-nil, arith, inl, inr, length, max, refl, subst, suc, sym, ℕ, ◌+◌, ◌++◌, ◌∙◌, ◌∷◌, ◌≡◌, ◌≢◌}
 use Rattle.disk_core.specs.Faults.{HasRisen}
 use Rattle.disk_core.specs.Images.{LeavesOnly}
 use Rattle.disk_core.specs.Moments.{leaves_weaker, run_then, started}
@@ -11,13 +11,14 @@ use Rattle.tx_events.specs.declared.record.Rec.{Rec}
 use Rattle.tx_events.specs.declared.record.Rec.TheVariants as records
 use Rattle.wal_core.specs.Checkpoint.{IsLastCheckpoint}
 use Rattle.wal_core.specs.Kept.{HasFlushed}
-use Rattle.wal_core.specs.Log.{IsFull}
-use Rattle.wal_core.specs.LogViews.{KeepsAll, log_disk, log_end, log_first, log_flushed, log_next}
+use Rattle.wal_core.specs.Log.{IsFull, bytes_of}
+use Rattle.wal_core.specs.LogViews.{KeepsAll, log_disk, log_end, log_first, log_flushed, log_next, log_pending}
 use Rattle.wal_core.specs.declared.checkpoint.LastCheckpoint.{LastCheckpoint}
 use Rattle.wal_core.specs.declared.refusal.LogRefusal.{LogRefusal}
 use Rattle.wal_core.specs.declared.refusal.LogRefusal.TheVariants as log_refusals
 use Rattle.wal_core.specs.declared.wal_log.WalLog.{WalLog}
 use Rattle.wal_records.specs.Spelling.{rec_bytes}
+use Rattle.wal_records.proofs.Lengths.{length-checkpoint}
 use Rattle.replay_core.specs.Moments.{MayHaveSettled, SettlesThroughout}
 use Rattle.replay_core.specs.Opened.{EachHas}
 use Rattle.replay_core.specs.Refused.{IsSettleRefusal, refusal_by}
@@ -45,7 +46,19 @@ first_settled gate number first base batch after k is alone own here =
     let l = last_is gate number base batch after k (is (λ e. let z : records.Checkpoint number base ∷ [] ≡ [] = sym alone ∙ e in absurd cc)) alone own in
     subst (λ (o : Option LastCheckpoint). IfSome o (λ (found : LastCheckpoint). first ≡ found.number)) l.1 here ∙ l.2
 
+-- its record has 57 bytes
+checkpoint_bytes : (number : ℕ) (base : Counters) → length (bytes_of (records.Checkpoint number base ∷ [])) ≡ 57
+checkpoint_bytes number base = ap (λ (bs : List ℕ). length bs) (append-nil (rec_bytes (records.Checkpoint number base))) ∙ ap (λ n. suc n) (length-checkpoint number base)
+
 module _ {D : Type 0} {g : logs.Ghosts D} where
+  -- and a batch with it alone 5 more
+  pub checkpoint_end : (old : WalLog D g) (end number : ℕ) (base : Counters) → log_pending old ≡ records.Checkpoint number base ∷ []
+      → (log_pending old ≢ [] → end ≡ log_end old + 5 + length (bytes_of (log_pending old))) → end ≡ log_end old + 62
+  checkpoint_end old end number base is further =
+      let bytes : length (bytes_of (log_pending old)) ≡ 57 = ap (λ (recs : List Rec). length (bytes_of recs)) is ∙ checkpoint_bytes number base in
+      let behind : end ≡ log_end old + 5 + length (bytes_of (log_pending old)) = further (λ none. let two : records.Checkpoint number base ∷ [] ≡ [] = sym is ∙ none in absurd cc) in
+      omega (arith, bytes, behind)
+
   pub each_kept : (first : ℕ) (all : List Rec) (log : WalLog D g) (kept flushed : ℕ) → log_first log ≡ kept → log_flushed log ≡ flushed → KeepsAll first all g.images log → EachHas first all kept flushed (g.images (log_disk log))
   each_kept first all log kept flushed a b k v image = subst (λ z. HasFlushed first all z flushed v) a (subst (λ z. HasFlushed first all (log_first log) z v) b (k.each v image))
 

@@ -1,10 +1,10 @@
 //! The whole of a recovery.
-ghost use Rattle.std.specs.Prelude.{◌≡◌, ◌≤◌, IfErr, IfOk, IsTrue, length};
+ghost use Rattle.std.specs.Prelude.{◌≡◌, ◌+◌, ◌≤◌, IfErr, IfOk, IsTrue, length};
 ghost use Rattle.recoverable.specs.Fit.{KeptLog};
 ghost use Rattle.tx_events.specs.LifeBase.{committed_in};
 ghost use Rattle.replay_core.specs.Redo.{AreNear};
 ghost use Rattle.replay_core.specs.Restore.{IsWindow};
-ghost use Rattle.wal_core.specs.LogViews.{log_disk, log_first, log_next};
+ghost use Rattle.wal_core.specs.LogViews.{log_disk, log_end, log_first, log_next};
 ghost use Rattle.replay_core.specs.Banks.{NoCountFell};
 ghost use Rattle.replay_core.specs.Begun.{AreEmpty, AreOnDisk, IsSettled};
 ghost use Rattle.replay_core.specs.Moments.{FitThroughout, volumes_after};
@@ -65,6 +65,8 @@ pub fn recover<L: LogDisk + Drop, P: PageDisk + Drop>(
     // The base has the counters behind all records that were found, and the checkpoint the number that comes next.
     ensures all { IfOk result (λ r. (r.from ≡ log_next found.log) × (r.base ≡ found.base)) }
     ensures log { IfOk result (λ r. IsSettled r.from r.base r.log) }
+    // The log ends behind one more batch, which has that checkpoint alone.
+    ensures end { IfOk result (λ r. log_end r.log ≡ log_end found.log + 62) }
     ensures states { IsTrue P.tells → IfOk result (λ r. AreOnDisk P.PageDisk r.xact.items) }
     ensures parents { IsTrue P.tells → IfOk result (λ r. AreEmpty P.PageDisk r.subtrans.items) }
     ensures multis { IsTrue P.tells → IfOk result (λ r. AreOnDisk P.PageDisk r.offsets.items × AreOnDisk P.PageDisk r.members.items) }

@@ -1,8 +1,8 @@
 // The checkpoint at the end of a recovery (`CreateEndOfRecoveryRecord` and `RemoveOldXlogFiles` in `xlog.c`).
-ghost use Rattle.std.specs.Prelude.{◌≡◌, ◌<◌, ◌≤◌, ◌^◌, IfErr, IfOk, IsTrue, OnErr, OnOk};
+ghost use Rattle.std.specs.Prelude.{◌≡◌, ◌+◌, ◌<◌, ◌≤◌, ◌^◌, IfErr, IfOk, IsTrue, OnErr, OnOk};
 ghost use Rattle.tx_events.specs.Base.{IsBase};
 ghost use Rattle.tx_events.specs.declared.record.Rec.TheVariants as records;
-ghost use Rattle.wal_core.specs.LogViews.{log_disk, log_next};
+ghost use Rattle.wal_core.specs.LogViews.{log_disk, log_end, log_next};
 ghost use Rattle.wal_records.specs.Spelling.{AreCounters};
 ghost use Rattle.replay_core.specs.Begun.{IsSettled};
 ghost use Rattle.replay_core.specs.Moments.{SettlesThroughout};
@@ -38,6 +38,7 @@ fn append_checkpoint<D: LogDisk>(
     ensures done { OnOk result (HasCheckpoint (log_next log.old) base log.old log.new) }
     ensures left { IsTrue D.tells → OnErr result (LeavesLog D.LogDisk base log.old log.new) }
     ensures same_disk { log_disk log.new ≡ log_disk log.old }
+    ensures end { log_end log.new ≡ log_end log.old }
     ensures count { D.faults (log_disk log.old) ≤ D.faults (log_disk log.new) }
     ensures refused { IfErr result (λ refusal. IsSettleRefusal (log_next log.old) base log.old log.new refusal) }
 {
@@ -50,7 +51,7 @@ fn append_checkpoint<D: LogDisk>(
     }
 }
 
-/// Puts a checkpoint of these counters on disk, alone in its batch, and forgets the log before it.
+/// Puts a checkpoint of these counters on disk, alone in its batch of 62 bytes, and forgets the log before it.
 pub(crate) fn settle<D: LogDisk>(
     alloc: Global,
     log: &mut WalLog<D>,
@@ -58,6 +59,7 @@ pub(crate) fn settle<D: LogDisk>(
 ) -> Result<(), RecoverRefusal>
     requires { IsOpen base log.old }
     ensures settled { OnOk result (IsSettled (log_next log.old) base log.new) }
+    ensures end { OnOk result (log_end log.new ≡ log_end log.old + 62) }
     ensures kept { IsTrue D.tells → OnOk result (SettlesLog D.LogDisk base log.old log.new) }
     ensures left { IsTrue D.tells → OnErr result (LeavesLog D.LogDisk base log.old log.new) }
     ensures moments { IsTrue D.tells → SettlesThroughout D.LogDisk base log.old log.new }

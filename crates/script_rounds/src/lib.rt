@@ -21,7 +21,7 @@ mod woven;
 pub use keeper::{LineKeeper, keeper_laws};
 pub use life_text::{LifeText, have_full_multis, put_life, whole_text};
 pub use places::PlacesLeft;
-pub use plan::Plan;
+pub use plan::{Plan, SparePlan};
 pub use round_threads::RoundThreads;
 pub use script::NoScript;
 pub use source::take_script;

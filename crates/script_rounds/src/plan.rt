@@ -7,6 +7,7 @@ ghost use Rattle.run_law.specs.Turns.{MayRun};
 use crate::places::Places;
 use session_lang::Items;
 use std::alloc::Global;
+use std::mem;
 use tx_model::Memory;
 
 // In a shorter round the room that doubles isn't much.
@@ -119,5 +120,42 @@ impl Plan {
         while let Some(session) = self.sessions.pop() {
             self.places[session as usize].clear();
         }
+    }
+}
+
+/// A plan of no commands that a life left, for the next one: most have as many sessions.
+#[derive(Drop)]
+pub struct SparePlan {
+    plan: Plan,
+    ghost blank: { IsBlank plan },
+}
+
+impl SparePlan {
+    /// A plan for no session. Takes no memory.
+    pub fn none(alloc: Global) -> SparePlan {
+        let plan = Plan {
+            sessions: Vec::new(alloc),
+            places: Vec::new(alloc),
+        };
+        SparePlan { plan }
+    }
+
+    /// Takes the plan out, if it is for so many sessions; else a new one is made.
+    pub fn take(&mut self, alloc: Global, sessions: usize) -> Result<Plan, Memory>
+        ensures blank { IfOk result (λ plan. IsBlank plan) }
+        ensures count { IfOk result (λ plan. length plan.places.items ≡ sessions) }
+    {
+        let SparePlan { plan } = mem::replace(self, SparePlan::none(alloc));
+        if plan.places.len() == sessions {
+            return Ok(plan);
+        }
+        Plan::new(alloc, sessions)
+    }
+
+    /// Keeps a plan for the next life.
+    pub fn keep(&mut self, plan: Plan)
+        requires { IsBlank plan }
+    {
+        *self = SparePlan { plan };
     }
 }

@@ -1,17 +1,19 @@
-//! What a life leaves to the next one: the log that its volumes fit.
+//! What a life leaves to the next one: the log that its volumes fit, and the crash between them.
 ghost use base.Fml.{ftrue};
 ghost use Rattle.std.specs.Prelude.{IsTrue};
 ghost use Rattle.recoverable.specs.Fit.{KeptLog};
 ghost use Rattle.engine_life.specs.Lives.{volumes_left};
 ghost use Rattle.session_run.specs.Fits.{FitLife, FitWhereTold};
+ghost use Rattle.session_run.specs.Lives.{crash_of};
 ghost use Rattle.session_run.specs.OneLife.{life_over};
 
-use disk_core::{LogDisk, PageDisk};
+use disk_core::{Crash, LogDisk, PageDisk};
 use engine_life::ClosedLife;
 use noted_facts::{Fact, found};
 use notes::Note;
 use std::marker::{Model, PhantomData};
 use tx_core::Start;
+use tx_model::How;
 
 /// A life that is over, and what it started from.
 pub struct Ended<L: LogDisk, P> {
@@ -51,4 +53,15 @@ pub fn log_left<L: LogDisk, P: PageDisk>(ended: &Ended<L, P>) -> Note<FittedLog>
         (volumes_left ended.now.closed) result.value.kept }
 {
     found::<LeavesLog<L, P>>(ended)
+}
+
+/// The crash of a media that a script asks for.
+pub fn crash_of(how: How) -> Crash
+    ensures { result ≡ crash_of how }
+{
+    match how {
+        How::Lost => Crash::Lost,
+        How::Kept => Crash::Kept,
+        How::Torn => Crash::Torn,
+    }
 }

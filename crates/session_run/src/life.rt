@@ -13,7 +13,7 @@ use disk_core::{LogDisk, PageDisk};
 use engine_host::LifeRooms;
 use engine_life::{ClosedLife, OpenLife, close_life};
 use engine_parts::Gate;
-use script_rounds::{LineKeeper, RoundThreads};
+use script_rounds::{LineKeeper, RoundThreads, SparePlan};
 use session_lang::Items;
 use std::alloc::Global;
 use std::sync::Wait;
@@ -47,6 +47,7 @@ pub fn run_life<
     alloc: Global,
     life: OpenLife<L, P>,
     rooms: &mut LifeRooms<P>,
+    spare: &mut SparePlan,
     names: &NameList,
     part: Items,
     kept: &mut K,
@@ -61,16 +62,10 @@ pub fn run_life<
 {
     let mut life = life;
     life_ends(&life.hall);
+    let hall = &life.hall;
+    let host = &mut life.host;
     let ran = run_rounds(
-        rt,
-        alloc,
-        &life.hall,
-        &mut life.host,
-        names,
-        part,
-        kept,
-        threads,
-        gate,
+        rt, alloc, hall, host, spare, names, part, kept, threads, gate,
     );
     let closed = close_life(life, rooms);
     has_64_bits(closed.log.next());

@@ -21,7 +21,7 @@ use engine_life::new_sessions;
 use engine_parts::{EngineLaw, Gate, Session};
 use hall::Hall;
 use host_calls::{checkpoint, show};
-use script_rounds::{LineKeeper, Plan, RoundThreads, next_round};
+use script_rounds::{LineKeeper, Plan, RoundThreads, SparePlan, next_round};
 use session_lang::{Between, Dump, Items};
 use std::alloc::Global;
 use std::sync::Wait;
@@ -192,6 +192,7 @@ fn run_each<K: LineKeeper + Send + Drop, L: LogDisk + Send + Sync, P: PageDisk +
     hall: &Hall<EngineLaw<L, P>>,
     host: &mut Host<L, P>,
     sessions: &mut [Session],
+    spare: &mut SparePlan,
     script: Items,
     names: &NameList,
     kept: &mut K,
@@ -208,7 +209,7 @@ fn run_each<K: LineKeeper + Send + Drop, L: LogDisk + Send + Sync, P: PageDisk +
     ensures ran { OnOk result (HasRun K.LineKeeper hall.now host.new sessions.new names.now (asked_of script.entry)
         kept.old kept.new) }
 {
-    let mut plan = Plan::new(alloc, sessions.len())?;
+    let mut plan = spare.take(alloc, sessions.len())?;
     let mut rest = script;
     let mut rounds = 0;
     while !rest.is_empty() {
@@ -220,6 +221,7 @@ fn run_each<K: LineKeeper + Send + Drop, L: LogDisk + Send + Sync, P: PageDisk +
         answer_next(rt, alloc, hall, host, sessions, &rest, place, names, kept)?;
         rest = behind;
     }
+    spare.keep(plan);
     Ok(())
 }
 
@@ -230,6 +232,7 @@ pub fn run_rounds<K: LineKeeper + Send + Drop, L: LogDisk + Send + Sync, P: Page
     alloc: Global,
     hall: &Hall<EngineLaw<L, P>>,
     host: &mut Host<L, P>,
+    spare: &mut SparePlan,
     names: &NameList,
     part: Items,
     kept: &mut K,
@@ -251,5 +254,7 @@ pub fn run_rounds<K: LineKeeper + Send + Drop, L: LogDisk + Send + Sync, P: Page
     let mut sessions = new_sessions(alloc, host.cluster.sessions)?;
     life_begins(hall);
     let all = sessions.as_mut_slice();
-    run_each(rt, alloc, hall, host, all, part, names, kept, threads, gate)
+    run_each(
+        rt, alloc, hall, host, all, spare, part, names, kept, threads, gate,
+    )
 }

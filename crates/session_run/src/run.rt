@@ -20,16 +20,16 @@ ghost use Rattle.session_run.specs.Fits.{FitWhereTold};
 ghost use Rattle.session_run.specs.OneLife.{IsOpened, MayRunIn, life_over};
 ghost use Rattle.session_run.specs.Parts.{IsTakenPart};
 ghost use Rattle.session_run.specs.Going.{HasGoneOn, HasRunPart, IsCrashed, IsLived, IsWritten, LastWent, NextWent, StopsPart};
-ghost use Rattle.session_run.specs.Lives.{HasFallen, crash_of};
+ghost use Rattle.session_run.specs.Lives.{HasFallen};
 ghost use Rattle.session_run.specs.Leaves.{LeavesVolumes};
 ghost use Rattle.session_run.specs.Runs.{IsTaken, IsTakenAlone, cluster_of};
 ghost use Rattle.session_run.specs.Starts.{BeginsOver};
 ghost use Rattle.session_run.specs.Stops.{IsStopped, IsUnopenedFirst, MountsFirst, StayFitBehind};
 
-use crate::ended::{Ended, FittedLog, log_left};
+use crate::ended::{Ended, FittedLog, crash_of, log_left};
 use crate::life::run_life;
 use crate::stop::Stopped;
-use disk_core::{Crash, LogDisk, Media, PageDisk, Volumes};
+use disk_core::{LogDisk, Media, PageDisk, Volumes};
 use engine_host::{Cluster, LifeRooms};
 use engine_life::laws::crash_goes_on;
 use engine_life::{EndText, NoLife, OpenLife, end_life, open_life};
@@ -37,7 +37,8 @@ use engine_parts::Gate;
 use notes::Note;
 use script_gen::Summary;
 use script_rounds::{
-    LineKeeper, RoundThreads, Steps, Tally, have_full_multis, next_part, put_life, whole_text,
+    LineKeeper, RoundThreads, SparePlan, Steps, Tally, have_full_multis, next_part, put_life,
+    whole_text,
 };
 use session_lang::{Items, Script};
 use std::alloc::Global;
@@ -56,17 +57,6 @@ fn cluster_of(script: &Script) -> Cluster
         base: script.base.same(),
         banks: script.banks,
         sessions: script.names.items().len() as u32,
-    }
-}
-
-/// The crash of a media that a script asks for.
-fn crash_of(how: How) -> Crash
-    ensures { result ≡ crash_of how }
-{
-    match how {
-        How::Lost => Crash::Lost,
-        How::Kept => Crash::Kept,
-        How::Torn => Crash::Torn,
     }
 }
 
@@ -92,38 +82,33 @@ struct Lived<L: LogDisk, P> {
 fn run_part<L: LogDisk + Send + Sync + Drop, P: PageDisk + Send + Sync + Drop>(
     rt: &(impl Threads + Wait + Sync),
     alloc: Global,
-    life: OpenLife<L, P>,
+    life: Box<OpenLife<L, P>>,
     rooms: &mut LifeRooms<P>,
+    spare: &mut SparePlan,
     names: &NameList,
     part: Items,
     threads: RoundThreads,
     gate: &(impl Gate + Sync),
 ) -> Lived<L, P>
     requires taken { IsTakenPart (length names.now) part }
-    requires may { MayRunIn (length names.now) life }
+    requires may { MayRunIn (length names.now) life.value }
     ensures lived { (c : Clustered) (b : Beginning) (faults : List ℕ) (mounted : Mounted L P)
-        → IsOpened c b faults mounted life
+        → IsOpened c b faults mounted life.value
         → IsLived L.LogDisk P.PageDisk names.now part.entry c b faults mounted result }
 {
+    let life = Box::into_inner(life);
     let start = Note::by(&life.host.start);
     let base = life.host.cluster.base.same();
     let mut text = Steps::none(alloc);
     let (closed, ran) = run_life(
-        rt, alloc, life, rooms, names, part, &mut text, threads, gate,
+        rt, alloc, life, rooms, spare, names, part, &mut text, threads, gate,
     );
     let ended = Ended { start, closed };
-    match ran {
-        Ok(()) => Lived {
-            ended,
-            base,
-            steps: Ok(text),
-        },
-        Err(Memory) => Lived {
-            ended,
-            base,
-            steps: Err(Memory),
-        },
-    }
+    let steps = match ran {
+        Ok(()) => Ok(text),
+        Err(Memory) => Err(Memory),
+    };
+    Lived { ended, base, steps }
 }
 
 /// Writes the text of a part that was run in the life of this number, and the crash that ends it. Gives the volumes back,
@@ -183,12 +168,13 @@ fn go_on<M: Media>(
     _log: &Note<FittedLog>,
     how: How,
     cluster: Cluster,
-) -> Result<OpenLife<M::Log, M::Pages>, NoLife>
+) -> Result<Box<OpenLife<M::Log, M::Pages>>, NoLife>
     ghost kept: { KeptLog }
     requires cluster { IsCluster cluster }
     requires banks { HasBanks (length volumes.xact.items) volumes }
     requires fit { IsTrue M.Pages.tells → IsTrue M.Log.tells → FitsLog M.Log.LogDisk M.Pages.PageDisk kept volumes }
-    ensures next { IfOk result (HasGoneOn M.Log.LogDisk M.Pages.PageDisk M.falls how kept cluster (length volumes.xact.items) volumes) }
+    ensures next { IfOk result (λ life. HasGoneOn M.Log.LogDisk M.Pages.PageDisk M.falls how kept cluster
+        (length volumes.xact.items) volumes life.value) }
     ensures mounted { OnOk result (M.is_idle media.new ≡ false) }
     ensures idle { OnErr result (IsTrue (M.is_idle media.new)) }
     ensures count { M.faults media.old ≤ M.faults media.new }
@@ -249,12 +235,12 @@ fn end_part<R: Threads + Sync, K: Sink, M: Media>(
     threads: RoundThreads,
     sink: &mut K,
     media: &mut M,
-) -> Result<OpenLife<M::Log, M::Pages>, Stopped>
+) -> Result<Box<OpenLife<M::Log, M::Pages>>, Stopped>
     requires cluster { IsCluster cluster.now }
     requires ran { HasRunPart M.Log.LogDisk M.Pages.PageDisk M.falls names.now number lived }
     ensures next { (ran : HasRunPart M.Log.LogDisk M.Pages.PageDisk M.falls names.now number lived)
         → cluster.now ≡ cluster_of ran.script
-        → IfOk result (NextWent M.Log.LogDisk M.Pages.PageDisk ran how (K.held sink.old) (K.held sink.new)) }
+        → IfOk result (λ life. NextWent M.Log.LogDisk M.Pages.PageDisk ran how (K.held sink.old) (K.held sink.new) life.value) }
     ensures stopped { (ran : HasRunPart M.Log.LogDisk M.Pages.PageDisk M.falls names.now number lived)
         → cluster.now ≡ cluster_of ran.script
         → IfErr result (StopsPart M.Log.LogDisk M.Pages.PageDisk ran (Some how)
@@ -316,6 +302,7 @@ where
 {
     let cluster = cluster_of(&script);
     let mut rooms = LifeRooms::new(alloc);
+    let mut spare = SparePlan::none(alloc);
     let mut life = match open_life(alloc, &mut rooms, media, same(&cluster)) {
         Ok(life) => life,
         Err(refusal) => return Err(Stopped::NoLife(refusal)),
@@ -329,12 +316,15 @@ where
     let mut number = 1;
     'lives: loop {
         let (part, crash, behind) = next_part(&items);
-        let lived = run_part(rt, alloc, life, &mut rooms, &names, part, threads, gate);
+        let lived = run_part(
+            rt, alloc, life, &mut rooms, &mut spare, &names, part, threads, gate,
+        );
         let how = match crash {
             Some(how) => how,
             None => {
-                // Before the text of what it left the last life needs no list of commands any more.
+                // Before the text of what it left the last life needs no list of commands any more, and no plan.
                 drop(list);
+                drop(spare);
                 return end_run(rt, alloc, &names, lived, number, threads, sink, media);
             }
         };
@@ -378,13 +368,14 @@ where
         (M.faults media.old) (M.faults media.new) (M.gives media.new) script.now) }
 {
     let mut rooms = LifeRooms::new(alloc);
-    let life = open_life(alloc, &mut rooms, media, cluster_of(script))?;
+    let mut spare = SparePlan::none(alloc);
+    let life = Box::into_inner(open_life(alloc, &mut rooms, media, cluster_of(script))?);
     have_full_multis(&life.host.cluster.base);
     let mut tally = Tally::none(alloc);
     let names = &script.names;
     let items = script.items.items();
     let (closed, ran) = run_life(
-        rt, alloc, life, &mut rooms, names, items, &mut tally, threads, gate,
+        rt, alloc, life, &mut rooms, &mut spare, names, items, &mut tally, threads, gate,
     );
     let summary = Summary::of(closed.events.items(), tally.commands(), tally.verdicts());
     media.rest(closed.into_volumes());

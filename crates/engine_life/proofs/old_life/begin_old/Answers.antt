@@ -43,7 +43,7 @@ returns-in-Ok-clause-life g c v is =
       gate = gate_behind parts.locks.items;
       faults = map faults_behind parts.locks.items;
       counted = subst (λ (s : Start). AreCounted g.L.LogDisk g.P.PageDisk v c.args.volumes s.faults) k.start.0 (k.counted v is);
-      begun = subst (λ (s : Start). IsBegun parts.cluster s life) k.start.0 begun;
+      begun = subst (λ (s : Start). IsBegun parts.cluster s life.value) k.start.0 begun;
       right = λ told. subst BeganRight k.start.0 (k.right told);
     }) c.begin_life.ensures.life
 

@@ -30,7 +30,7 @@ returns-in-Ok-clause-life g c disk is =
       faults = map faults_behind parts.locks.items;
       counted = subst (λ (s : Start). AreCounted g.L.LogDisk g.P.PageDisk disk v s.faults) k.start
           (counted_since g.L.LogDisk g.P.PageDisk disk (log_disk c.args.log) v parts.start.value.faults is.count k.counted);
-      begun = subst (λ (s : Start). IsBegun c.args.cluster s life) k.start (subst (λ (d : Cluster). IsBegun d parts.start.value life) k.cluster begun);
+      begun = subst (λ (s : Start). IsBegun c.args.cluster s life.value) k.start (subst (λ (d : Cluster). IsBegun d parts.start.value life.value) k.cluster begun);
       right = (new_begins (life_of c.args.cluster (gate_behind parts.locks.items) (map faults_behind parts.locks.items)) refl c.is_full_multi.ensures c.requires.cluster.base refl refl).right;
     }) c.begin_life.ensures.life
 

@@ -35,7 +35,7 @@ returns-in-Ok-begin_over-clause-life g c =
     let same : c.with_banks-cluster.result ≡ with_banks c.args.cluster (length v.xact.items) = c.with_banks-cluster.ensures.is ∙ ap (with_banks c.args.cluster) count in (
       v,
       record { first = λ new. (c.in-Ok.ensures.first new, c.in-Ok.ensures.begins new); again = c.in-Ok.ensures.again },
-      subst (λ (k : Cluster). IsFirstLife g.kept k v c.in-Ok-begin_over.life) same c.in-Ok-begin_over.ensures.life,
+      subst (λ (k : Cluster). IsFirstLife g.kept k v c.in-Ok-begin_over.life.value) same c.in-Ok-begin_over.ensures.life,
     )
 
 pub returns-in-Err-clause-again : goal.returns-in-Err-clause-again

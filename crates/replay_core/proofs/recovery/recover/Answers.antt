@@ -1,8 +1,8 @@
-use Rattle.std.proofs.Common.{Err, List, Ok, Some, arith, length, subst, sym, ◌∙◌, ◌≡◌, ◌≤◌}
+use Rattle.std.proofs.Common.{Err, List, Ok, Some, ap, arith, length, subst, sym, ◌∙◌, ◌≡◌, ◌≤◌}
 use Rattle.std.specs.List.{slice_get}
 use Rattle.tx_events.specs.declared.record.Rec.{Rec}
 use Rattle.tx_events.specs.LifeBase.{committed_in}
-use Rattle.wal_core.specs.LogViews.{log_disk, log_first, log_next}
+use Rattle.wal_core.specs.LogViews.{log_disk, log_end, log_first, log_next}
 use Rattle.replay_core.specs.Redo.{AreNear}
 use Rattle.replay_core.specs.Banks.{NoCountFell, members_become, offsets_become, states_become}
 use Rattle.replay_core.specs.Moments.{FitThroughout}
@@ -60,6 +60,9 @@ returns-clause-recovers g c v is told told' log fit =
 
 pub returns-clause-all : goal.returns-clause-all
 returns-clause-all g c = (c.begun.ensures.from ∙ c.next-from.ensures, c.begun.ensures.base)
+
+pub returns-clause-end : goal.returns-clause-end
+returns-clause-end g c = ap log_end c.begun.ensures.log ∙ c.in_default.ensures.end
 
 pub returns-clause-states : goal.returns-clause-states
 returns-clause-states g c told bank disk at =

@@ -10,4 +10,4 @@ returns-in_err-restore_pages g c =
 pub returns : goal.returns
 returns g c =
     all_replayed g.P.PageDisk c.args.recs.now c.args.base.now c.args.log.now c.args.pages.now c.restore_pages.new.volumes c.settle.new.log c.settle.result
-    c.in_ok-restore_pages.ensures c.settle.ensures.settled c.settle.ensures.kept c.settle.ensures.left c.settle.ensures.moments c.settle.ensures.refused c.settle.ensures.count
+    c.in_ok-restore_pages.ensures c.settle.ensures.settled c.settle.ensures.end c.settle.ensures.kept c.settle.ensures.left c.settle.ensures.moments c.settle.ensures.refused c.settle.ensures.count

@@ -1,8 +1,8 @@
-use Rattle.std.proofs.Common.{List, None, Some, [], inl, inr, sym, ◌+◌, ◌++◌, ◌∙◌, ◌∷◌, ◌≡◌}
+use Rattle.std.proofs.Common.{List, None, Some, [], ap, inl, inr, sym, ◌+◌, ◌++◌, ◌∙◌, ◌∷◌, ◌≡◌}
 use Rattle.tx_events.specs.declared.record.Rec.{Rec}
 use Rattle.tx_events.specs.declared.record.Rec.TheVariants as records
 use Rattle.wal_core.specs.LogViews.{log_checkpoint, log_counters, log_disk, log_down, log_end, log_first, log_next, log_pending}
-use Rattle.replay_core.proofs.Settling.{each_kept, first_settled, flushing, forgetting, settles_unmoved}
+use Rattle.replay_core.proofs.Settling.{checkpoint_end, each_kept, first_settled, flushing, forgetting, settles_unmoved}
 use Rattle.replay_core.proofs.settle.settle.Goals as goal
 
 pub returns-in-Err-clause-left : goal.returns-in-Err-clause-left
@@ -94,3 +94,9 @@ returns-in-Err-forget_before_checkpoint-clause-moments g c told first all k =
     forgetting first all c.args.base old log2 log3 number (c.in_default.ensures.ok ∙ st.next)
     (flushing first all c.args.base old log1 log2 st.same_disk st.first st.flushed (c.flush.ensures.keeps_at_each_moment told first whole (st.keeps told first all k)))
     (c.forget_before_checkpoint.ensures.keeps_at_each_moment told first whole (c.flush.ensures.keeps told first whole (st.keeps told first all k)))
+
+pub returns-in-Ok-clause-end : goal.returns-in-Ok-clause-end
+returns-in-Ok-clause-end g c =
+    let st = c.in_ok-append_checkpoint.ensures.done in
+    let log1 = c.append_checkpoint.new.log in
+    c.in-Ok.ensures.end ∙ (checkpoint_end log1 (log_end c.flush.new.self) (log_next c.args.log.now) c.args.base st.pending c.in_default.ensures.end ∙ ap (λ n. n + 62) c.append_checkpoint.ensures.end)

@@ -17,7 +17,7 @@ use Rattle.script_rounds.specs.Counted.{verdicts_in}
 use Rattle.engine_host.specs.declared.cluster.Cluster.{Cluster}
 use Rattle.engine_life.specs.FirstLives.{MayMount}
 use Rattle.session_run.specs.Leaves.{LeavesVolumes}
-use Rattle.session_run.specs.OneLife.{life_of}
+use Rattle.session_run.specs.OneLife.{IsOpened, life_of}
 use Rattle.session_run.specs.Parts.{HasLived, IsTakenPart, report_of}
 use Rattle.session_run.specs.Starts.{BeginsOver}
 use Rattle.session_run.proofs.Counted.{counts_told, left_alone, part_alone, verdicts_few}
@@ -38,13 +38,13 @@ open_life-requires g c κs within =
     let may = may_over g.M.Log.LogDisk g.M.Pages.PageDisk c.args.script.now (MayMount (m.is_new c.args.media.now) (m.begins c.args.media.now) (m.gives c.args.media.now)) g.kept c.cluster_of.result c.cluster_of.ensures.is asked.1 in
     (search (rules, within), (search (rules, within), (search (rules, within), (record { owned = log.owned; leaving = λ k. log.leaving (λ a. k (of_param 1)) }, (record { owned = pages.owned; leaving = λ k. pages.leaving (λ a. k (of_param 2)) }, (cluster, (asked.0, may)))))))
 
-pub returns-in_err-life-clause-refused : goal.returns-in_err-life-clause-refused
-returns-in_err-life-clause-refused g c =
+pub returns-in_err-open_life-clause-refused : goal.returns-in_err-open_life-clause-refused
+returns-in_err-open_life-clause-refused g c =
     let m = g.M.Media in
     let old = c.args.media.now in
     let new = c.open_life.new.media in
-    let none = unopened_first g.M.Log.LogDisk g.M.Pages.PageDisk c.args.script.now g.kept (m.is_new old) (m.begins old) (m.gives old) m.falls (m.faults old) (m.faults new) (m.gives new) c.cluster_of.result c.in_err-life.field-0.0 c.cluster_of.ensures.is
-    c.in_err-life.ensures.refused (λ was told. c.in_err-life.ensures.again told was) in
+    let none = unopened_first g.M.Log.LogDisk g.M.Pages.PageDisk c.args.script.now g.kept (m.is_new old) (m.begins old) (m.gives old) m.falls (m.faults old) (m.faults new) (m.gives new) c.cluster_of.result c.in_err-open_life.field-0.0 c.cluster_of.ensures.is
+    c.in_err-open_life.ensures.refused (λ was told. c.in_err-open_life.ensures.again told was) in
     let err = err_from_is_err_and c.from_residual.result c.from_residual.ensures.1 in
     rw (err.1, err.2) none
 
@@ -58,15 +58,15 @@ run_life-closed-requires-clause-may g c κs within =
     let s = c.args.script.now in
     let m = g.M.Media in
     let first = MayMount (m.is_new c.args.media.now) (m.begins c.args.media.now) (m.gives c.args.media.now) in
-    let life = c.in_ok-life.life in
-    let is = is_first g.M.Log.LogDisk g.M.Pages.PageDisk s first g.kept c.cluster_of.result life c.cluster_of.ensures.is (c.requires.1.1.1.1.1.1.1.1.1.1.1.1.1) c.in_ok-life.ensures.life in
+    let life = c.in_ok-open_life.life.value in
+    let is = is_first g.M.Log.LogDisk g.M.Pages.PageDisk s first g.kept c.cluster_of.result life c.cluster_of.ensures.is (c.requires.1.1.1.1.1.1.1.1.1.1.1.1.1) c.in_ok-open_life.ensures.life in
     record {
       cluster = is.so.cluster;
       begins = is.so.begins;
       faults = is.so.faults;
       mounted = is.volumes;
       sessions_are = is.so.sessions;
-      opened = is.so.opened;
+      opened = subst (IsOpened is.so.cluster is.so.begins is.so.faults is.volumes) (sym c.into_inner-life.ensures) is.so.opened;
     }
 
 -- what holds of these banks, this start and these lives holds of the summary's
@@ -85,15 +85,16 @@ returns-in-Ok-text-clause-counts g c =
     let l = g.M.Log.LogDisk in
     let p = g.M.Pages.PageDisk in
     let first = MayMount (m.is_new c.args.media.now) (m.begins c.args.media.now) (m.gives c.args.media.now) in
-    let life = c.in_ok-life.life in
+    let life = c.in_ok-open_life.life.value in
     let closed = c.run_life-closed.result.0 in
     let tally = c.run_life-closed.new.kept in
     let gives = m.gives c.rest.new.self in
-    let is = is_first l p s first g.kept c.cluster_of.result life c.cluster_of.ensures.is (c.requires.1.1.1.1.1.1.1.1.1.1.1.1.1) c.in_ok-life.ensures.life in
+    let is = is_first l p s first g.kept c.cluster_of.result life c.cluster_of.ensures.is (c.requires.1.1.1.1.1.1.1.1.1.1.1.1.1) c.in_ok-open_life.ensures.life in
     let so = is.so in
+    let opened = subst (IsOpened so.cluster so.begins so.faults is.volumes) (sym c.into_inner-life.ensures) so.opened in
     let start = start_so so.cluster so.begins in
     let told = life_of so.cluster so.begins closed in
-    let ran = rw c.in-Ok.is at (c.run_life-closed.ensures.ran so.cluster so.begins so.faults is.volumes so.opened) in
+    let ran = rw c.in-Ok.is at (c.run_life-closed.ensures.ran so.cluster so.begins so.faults is.volumes opened) in
     let lived = subst (λ (its : List Item). HasLived p.tells so.cluster.banks its told ran.steps) c.items-items.ensures ran.lived in
     let kept : tally ≡ flat_map lines_in ran.steps = kept_lines tally_keeper.ghosts s.names c.none-tally.result tally ran.steps ran.kept_is c.none-tally.ensures (λ kept n. refl) (λ kept lines. refl) (λ kept dump. refl) in
     let size = ap length kept in
@@ -103,9 +104,9 @@ returns-in-Ok-text-clause-counts g c =
     let commands : c.commands.result ≡ length (flat_map lines_in ran.steps) = c.commands.ensures long ∙ size in
     let verdicts : c.verdicts.result ≡ verdicts_in (flat_map lines_in ran.steps) = c.verdicts.ensures (omega (arith, fewer, long)) ∙ ap verdicts_in kept in
     let exact = c.in-Ok-text.ensures ∙ ap summary_text c.of-summary.ensures ∙ ap (λ h. summary_text (summary_by h c.commands.result c.verdicts.result)) c.items.ensures in
-    let full = subst (λ (x : Cluster). IsFullMulti x.base.multi × IsFullMulti x.base.oldest_multi) so.opened.begun.cluster c.have_full_multis.ensures in
+    let full = subst (λ (x : Cluster). IsFullMulti x.base.multi × IsFullMulti x.base.oldest_multi) opened.begun.cluster c.have_full_multis.ensures in
     let base : BeginsWithBase (report_of told ran.steps None) = record {
-      is_base = subst (λ (x : Cluster). IsBase x.base) so.opened.begun.cluster so.opened.begun.host.cluster.base;
+      is_base = subst (λ (x : Cluster). IsBase x.base) opened.begun.cluster opened.begun.host.cluster.base;
       multi = full.0;
       oldest_multi = full.1;
     } in

@@ -45,8 +45,8 @@ returns-clause-next g c =
     let crashed = c.crash.new.self in
     let many = length old.xact.items in
     let holds = may_go_on l p g.kept many old (m.gives crashed) asked.1.0 c.crash.ensures.banks fell.left fell.tells asked.1.1 c.crash_goes_on.ensures in
-    ok_so (λ life. (v : _) × MayMount (m.is_new crashed) (m.begins crashed) (m.gives crashed) c.args.cluster.banks v × IsFirstLife g.kept (with_banks c.args.cluster (length v.xact.items)) v life)
-    (λ life. HasGoneOn l p m.falls c.args.how g.kept c.args.cluster many old life) c.open_life.result
+    ok_so (λ life. (v : _) × MayMount (m.is_new crashed) (m.begins crashed) (m.gives crashed) c.args.cluster.banks v × IsFirstLife g.kept (with_banks c.args.cluster (length v.xact.items)) v life.value)
+    (λ life. HasGoneOn l p m.falls c.args.how g.kept c.args.cluster many old life.value) c.open_life.result
     (λ life k.
     let v = k.0 in
     let given = k.1.again c.crash.ensures.old in
@@ -61,7 +61,7 @@ returns-clause-next g c =
       };
       banks_are = has;
       fits = λ pt. ((holds v given).1 pt).1;
-      goes = subst (λ n. IsFirstLife g.kept (with_banks c.args.cluster n) v life) has.xact k.2;
+      goes = subst (λ n. IsFirstLife g.kept (with_banks c.args.cluster n) v life.value) has.xact k.2;
     })
     c.open_life.ensures.life
 

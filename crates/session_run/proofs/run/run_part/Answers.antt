@@ -1,14 +1,18 @@
-use Rattle.std.proofs.Common.{List, [], ap, refl, subst, ℕ, ◌∙◌}
+use Rattle.std.proofs.Common.{List, [], ap, length, refl, subst, sym, ℕ, ◌∙◌}
 use Rattle.script_rounds.specs.contracts.steps.StepsLineKeeper.TheImpl as steps_keeper
-use Rattle.session_run.specs.OneLife.{HasRunLife}
+use Rattle.session_run.specs.OneLife.{HasRunLife, IsOpened, MayRunIn}
 use Rattle.session_run.proofs.RoundSteps.{kept_text}
 use Rattle.session_run.proofs.run.run_part.Goals as goal
 
+pub run_life-closed-requires-clause-may : goal.run_life-closed-requires-clause-may
+run_life-closed-requires-clause-may g c κs within = subst (MayRunIn (length c.args.names.now)) (sym c.into_inner-life.ensures) c.requires.may
+
 pub returns-in-Ok : goal.returns-in-Ok
 returns-in-Ok g c = record {
-  lived = λ k b faults mounted opened.
+  lived = λ k b faults mounted begun.
       let l = g.L.LogDisk in
       let p = g.P.PageDisk in
+      let opened = subst (IsOpened k b faults mounted) (sym c.into_inner-life.ensures) begun in
       let names = c.args.names.now in
       let closed = c.run_life-closed.result.0 in
       let kept = c.run_life-closed.new.kept in
@@ -28,8 +32,10 @@ returns-in-Ok g c = record {
 
 pub returns-in-Err : goal.returns-in-Err
 returns-in-Err g c = record {
-  lived = λ k b faults mounted opened. record {
-    start_is = c.by-start.ensures ∙ (opened.begun.host.start ∙ opened.begun.start_is);
-    over = tt;
-  };
+  lived = λ k b faults mounted begun.
+      let opened = subst (IsOpened k b faults mounted) (sym c.into_inner-life.ensures) begun in
+      record {
+        start_is = c.by-start.ensures ∙ (opened.begun.host.start ∙ opened.begun.start_is);
+        over = tt;
+      };
 }

@@ -48,7 +48,7 @@ lives-init g c =
     let m = g.M.Media in
     let held = g.K.Sink.held c.args.sink.now in
     let first = MayMount (m.is_new c.args.media.now) (m.begins c.args.media.now) (m.gives c.args.media.now) in
-    let life = c.in-Ok.life in
+    let life = c.in-Ok.life.value in
     let is = is_first g.M.Log.LogDisk g.M.Pages.PageDisk s first g.kept c.same.result life (c.same.ensures ∙ c.cluster_of-cluster.ensures.is) (c.requires.1.1.1.1.1.1.1.1.1.1.1.1.1.1) c.in-Ok.ensures.life in (
       subst (λ (its : List Item). HasCome {l = g.M.Log.LogDisk} {p = g.M.Pages.PageDisk} s first g.kept (m.is_new c.args.media.now ≡ false) m.falls held held its 1 life) (sym c.items-items.ensures) (come_first s first g.kept (m.is_new c.args.media.now ≡ false) m.falls held life (c.requires.1.1.1.1.1.1.1.1.1.1.1.1.0) is),
       c.in-Ok.ensures.count,
@@ -61,7 +61,7 @@ run_part-lived-requires-clause-taken g c κs within =
     let k = g.K.Sink in
     let at = c.lives in
     let part = c.next_part-part.result in
-    part_taken c.args.script (MayMount (m.is_new c.args.media.now) (m.begins c.args.media.now) (m.gives c.args.media.now)) g.kept (m.is_new c.args.media.now ≡ false) m.falls (k.held c.args.sink.now) (k.held at.sink) at.items at.number at.life at.invariant.0 part.0 part.1 part.2 c.next_part-part.ensures (c.requires.1.1.1.1.1.1.1.1.1.1.1.1.0)
+    part_taken c.args.script (MayMount (m.is_new c.args.media.now) (m.begins c.args.media.now) (m.gives c.args.media.now)) g.kept (m.is_new c.args.media.now ≡ false) m.falls (k.held c.args.sink.now) (k.held at.sink) at.items at.number at.life.value at.invariant.0 part.0 part.1 part.2 c.next_part-part.ensures (c.requires.1.1.1.1.1.1.1.1.1.1.1.1.0)
 
 pub run_part-lived-requires-clause-may : goal.run_part-lived-requires-clause-may
 run_part-lived-requires-clause-may g c κs within =
@@ -75,7 +75,7 @@ end_run-requires-clause-ran g c κs within =
     let at = c.lives in
     let h = at.invariant.0 in
     let run = h.running in
-    record { script = c.args.script; banks = h.banks; start = h.start; begun = h.begun; done = h.done; lives = h.lives; its = c.next_part-part.result.0; names_are = refl; count = h.count; life = at.life; running = run; is = c.run_part-lived.ensures.lived run.cluster run.begins run.faults run.mounted run.opened }
+    record { script = c.args.script; banks = h.banks; start = h.start; begun = h.begun; done = h.done; lives = h.lives; its = c.next_part-part.result.0; names_are = refl; count = h.count; life = at.life.value; running = run; is = c.run_part-lived.ensures.lived run.cluster run.begins run.faults run.mounted run.opened }
 
 pub returns-in-None-clause-report : goal.returns-in-None-clause-report
 returns-in-None-clause-report g c =
@@ -89,10 +89,10 @@ returns-in-None-clause-report g c =
     let new = c.end_run.new in
     on_ok_weaker c.end_run.result
     (λ w.
-    let e = run_ends c.args.script (MayMount (m.is_new c.args.media.now) (m.begins c.args.media.now) (m.gives c.args.media.now)) g.kept (m.is_new c.args.media.now ≡ false) m.falls (k.held c.args.sink.now) (k.held at.sink) at.items at.number at.life h part.0 None part.2 is (k.held new.sink) w.0 (volumes_left c.run_part-lived.result.ended.closed) w.1 (m.gives new.media) refl w.2 w.3 in
+    let e = run_ends c.args.script (MayMount (m.is_new c.args.media.now) (m.begins c.args.media.now) (m.gives c.args.media.now)) g.kept (m.is_new c.args.media.now ≡ false) m.falls (k.held c.args.sink.now) (k.held at.sink) at.items at.number at.life.value h part.0 None part.2 is (k.held new.sink) w.0 (volumes_left c.run_part-lived.result.ended.closed) w.1 (m.gives new.media) refl w.2 w.3 in
     (h.banks, h.start, e.0, e.1, e.2, e.3))
     (c.end_run.ensures.last
-    (record { script = c.args.script; banks = h.banks; start = h.start; begun = h.begun; done = h.done; lives = h.lives; its = c.next_part-part.result.0; names_are = refl; count = h.count; life = at.life; running = run; is = c.run_part-lived.ensures.lived run.cluster run.begins run.faults run.mounted run.opened }))
+    (record { script = c.args.script; banks = h.banks; start = h.start; begun = h.begun; done = h.done; lives = h.lives; its = c.next_part-part.result.0; names_are = refl; count = h.count; life = at.life.value; running = run; is = c.run_part-lived.ensures.lived run.cluster run.begins run.faults run.mounted run.opened }))
 
 pub returns-in-None-clause-stopped : goal.returns-in-None-clause-stopped
 returns-in-None-clause-stopped g c =
@@ -105,10 +105,10 @@ returns-in-None-clause-stopped g c =
     let is = subst (λ (o : Option How). IsFirstPart at.items part.0 o part.2) c.in-None.is c.next_part-part.ensures in
     let new = c.end_run.new in
     err_so _ _ c.end_run.result
-    (λ stop w. part_stops c.args.script (MayMount (m.is_new c.args.media.now) (m.begins c.args.media.now) (m.gives c.args.media.now)) g.kept (m.is_new c.args.media.now ≡ false) m.falls (k.held c.args.sink.now) (k.held at.sink) (k.held new.sink) at.items at.number at.life h part.0 None part.2 is
+    (λ stop w. part_stops c.args.script (MayMount (m.is_new c.args.media.now) (m.begins c.args.media.now) (m.gives c.args.media.now)) g.kept (m.is_new c.args.media.now ≡ false) m.falls (k.held c.args.sink.now) (k.held at.sink) (k.held new.sink) at.items at.number at.life.value h part.0 None part.2 is
     (m.faults c.args.media.now) (m.faults at.media) (m.faults new.media) (m.gives new.media) (k.faults c.args.sink.now) (k.faults at.sink) (k.faults new.sink) at.invariant.1 at.invariant.2 stop w)
     (c.end_run.ensures.stopped
-    (record { script = c.args.script; banks = h.banks; start = h.start; begun = h.begun; done = h.done; lives = h.lives; its = c.next_part-part.result.0; names_are = refl; count = h.count; life = at.life; running = run; is = c.run_part-lived.ensures.lived run.cluster run.begins run.faults run.mounted run.opened }))
+    (record { script = c.args.script; banks = h.banks; start = h.start; begun = h.begun; done = h.done; lives = h.lives; its = c.next_part-part.result.0; names_are = refl; count = h.count; life = at.life.value; running = run; is = c.run_part-lived.ensures.lived run.cluster run.begins run.faults run.mounted run.opened }))
 
 where_ok : {T E X : Type 0} (r : Result T E) → X → OnOk r X
 where_ok (Ok y) x = x
@@ -134,7 +134,7 @@ end_part-requires-clause-ran g c κs within =
     let at = c.lives in
     let h = at.invariant.0 in
     let run = h.running in
-    record { script = c.args.script; banks = h.banks; start = h.start; begun = h.begun; done = h.done; lives = h.lives; its = c.next_part-part.result.0; names_are = refl; count = h.count; life = at.life; running = run; is = c.run_part-lived.ensures.lived run.cluster run.begins run.faults run.mounted run.opened }
+    record { script = c.args.script; banks = h.banks; start = h.start; begun = h.begun; done = h.done; lives = h.lives; its = c.next_part-part.result.0; names_are = refl; count = h.count; life = at.life.value; running = run; is = c.run_part-lived.ensures.lived run.cluster run.begins run.faults run.mounted run.opened }
 
 pub returns-in_err-life-clause-stopped : goal.returns-in_err-life-clause-stopped
 returns-in_err-life-clause-stopped g c =
@@ -148,8 +148,8 @@ returns-in_err-life-clause-stopped g c =
     let is = subst (λ (o : Option How). IsFirstPart at.items part.0 o part.2) c.in-Some.is c.next_part-part.ensures in
     let new = c.end_part.new in
     let w = c.in_err-life.ensures.stopped
-    (record { script = c.args.script; banks = h.banks; start = h.start; begun = h.begun; done = h.done; lives = h.lives; its = c.next_part-part.result.0; names_are = refl; count = h.count; life = at.life; running = run; is = c.run_part-lived.ensures.lived run.cluster run.begins run.faults run.mounted run.opened }) c.cluster_of-cluster.ensures.is in
-    let stopped = part_stops c.args.script (MayMount (m.is_new c.args.media.now) (m.begins c.args.media.now) (m.gives c.args.media.now)) g.kept (m.is_new c.args.media.now ≡ false) m.falls (k.held c.args.sink.now) (k.held at.sink) (k.held new.sink) at.items at.number at.life h part.0 (Some how) part.2 is
+    (record { script = c.args.script; banks = h.banks; start = h.start; begun = h.begun; done = h.done; lives = h.lives; its = c.next_part-part.result.0; names_are = refl; count = h.count; life = at.life.value; running = run; is = c.run_part-lived.ensures.lived run.cluster run.begins run.faults run.mounted run.opened }) c.cluster_of-cluster.ensures.is in
+    let stopped = part_stops c.args.script (MayMount (m.is_new c.args.media.now) (m.begins c.args.media.now) (m.gives c.args.media.now)) g.kept (m.is_new c.args.media.now ≡ false) m.falls (k.held c.args.sink.now) (k.held at.sink) (k.held new.sink) at.items at.number at.life.value h part.0 (Some how) part.2 is
     (m.faults c.args.media.now) (m.faults at.media) (m.faults new.media) (m.gives new.media) (k.faults c.args.sink.now) (k.faults at.sink) (k.faults new.sink) at.invariant.1 at.invariant.2 c.in_err-life.field-0.0 w in
     let err = err_from_is_err_and c.from_residual.result c.from_residual.ensures.1 in
     rw (err.1, err.2) stopped
@@ -173,12 +173,12 @@ lives-preserved g c =
     let new = c.end_part.new in
     let ran = c.in_ok-life.ensures in
     let w = ran.next
-    (record { script = c.args.script; banks = h.banks; start = h.start; begun = h.begun; done = h.done; lives = h.lives; its = c.next_part-part.result.0; names_are = refl; count = h.count; life = at.life; running = run; is = c.run_part-lived.ensures.lived run.cluster run.begins run.faults run.mounted run.opened }) c.cluster_of-cluster.ensures.is in
+    (record { script = c.args.script; banks = h.banks; start = h.start; begun = h.begun; done = h.done; lives = h.lives; its = c.next_part-part.result.0; names_are = refl; count = h.count; life = at.life.value; running = run; is = c.run_part-lived.ensures.lived run.cluster run.begins run.faults run.mounted run.opened }) c.cluster_of-cluster.ensures.is in
     let media = at.invariant.1 in
     let sink = at.invariant.2 in
     let faults = ran.count in
     let later = ran.sink in (
-      come_on c.args.script (MayMount (m.is_new c.args.media.now) (m.begins c.args.media.now) (m.gives c.args.media.now)) g.kept (m.is_new c.args.media.now ≡ false) m.falls (k.held c.args.sink.now) (k.held at.sink) at.items at.number at.life h part.0 (Some how) part.2 is (k.held new.sink) w.0 (volumes_left c.run_part-lived.result.ended.closed) w.1 how c.in_ok-life.life refl w.2 w.3,
+      come_on c.args.script (MayMount (m.is_new c.args.media.now) (m.begins c.args.media.now) (m.gives c.args.media.now)) g.kept (m.is_new c.args.media.now ≡ false) m.falls (k.held c.args.sink.now) (k.held at.sink) at.items at.number at.life.value h part.0 (Some how) part.2 is (k.held new.sink) w.0 (volumes_left c.run_part-lived.result.ended.closed) w.1 how c.in_ok-life.life.value refl w.2 w.3,
       omega (arith, media, faults),
       omega (arith, sink, later),
     )

@@ -15,7 +15,7 @@ abbrev pub session_of : Item → Option ℕ
 session_of (items.Run session command) = Some session
 session_of _ = None
 
--- a command that looks at an id or a multixact and changes nothing
+-- a command that asks of an id or a multixact, and gives none
 abbrev pub looks : Command → Bool
 looks (commands.See name x) = true
 looks (commands.SeeMulti name multi) = true

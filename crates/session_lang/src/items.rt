@@ -298,7 +298,7 @@ impl<'a> Items<'a> {
         }
     }
 
-    /// Whether a command stands at this place that looks and changes nothing.
+    /// Whether a command stands at this place that asks of an id or a multixact: `see`, `seemulti`, `status` or `did`.
     pub fn is_look_at(&self, place: usize) -> bool
         ensures { result ≡ is_look (get_or self.now place items.Round) }
     {

@@ -271,7 +271,7 @@ pub fn packed_session(packed: &PackedItem) -> Option<u32>
     }
 }
 
-/// Whether a command that names a snapshot looks and changes nothing.
+/// Whether a command that names a snapshot asks of an id or a multixact.
 fn named_looks(command: NamedCommand) -> bool
     ensures { (name : List ℕ) (number : ℕ) → result ≡ looks (named_command command name number) }
 {
@@ -311,7 +311,7 @@ fn plain_looks(command: PlainCommand) -> bool
     }
 }
 
-/// Whether an item in short is a command that looks and changes nothing.
+/// Whether an item in short is a command that asks of an id or a multixact.
 pub fn is_look(packed: &PackedItem) -> bool
     ensures { (apart : Apart) → result ≡ is_look (unpacked apart packed.now) }
 {

@@ -8,7 +8,7 @@ use Rattle.session_lang.specs.Rounds.{is_look, sessions_in, turns_of}
 use Rattle.script_rounds.specs.declared.plan.Plan.{Plan}
 use Rattle.run_law.specs.Turns.{turns_in}
 
--- at least half of a round's commands look and change nothing
+-- at least half of a round's commands ask of an id or a multixact
 abbrev pub MostlyLooks : List Item → Type 0
 MostlyLooks round = length round ≤ 2 * count_by is_look round
 

@@ -1,5 +1,5 @@
 //! On how many threads the sessions of a round run, and what they did is printed.
-ghost use Rattle.std.specs.Prelude.{◌≡◌, ◌↔◌, ℕ, ◌<◌, ◌≤◌, IsTrue, length, max};
+ghost use Rattle.std.specs.Prelude.{◌≡◌, ◌↔◌, ℕ, ◌<◌, ◌≤◌, IsTrue, length, max, min};
 ghost use Rattle.std.specs.List.{count_by};
 ghost use Rattle.session_lang.specs.Rounds.{is_look};
 ghost use Rattle.script_rounds.specs.Plans.{MostlyLooks};
@@ -12,7 +12,7 @@ use session_lang::Items;
 // wait for one another at the same few locks.
 const FEW_COMMANDS: usize = 4_096;
 
-/// How many commands of a round look and change nothing.
+/// How many commands of a round ask of an id or a multixact.
 #[tactic(auto, using(std::proofs::lemmas::List::Sums::count_by_more_yes, std::proofs::lemmas::List::Sums::count_by_more_no, std::proofs::lemmas::List::take_all))]
 fn looks_in(round: &Items) -> usize
     ensures value { result ≡ count_by is_look round.now }
@@ -27,8 +27,8 @@ fn looks_in(round: &Items) -> usize
     looks
 }
 
-/// Whether at least half of a round's commands look and change nothing. These alone gain by more threads: others spend
-/// most of their time in sections of the same few locks.
+/// Whether at least half of a round's commands ask of an id or a multixact. These gain by more threads: others spend most
+/// of their time in sections of the same few locks.
 fn are_mostly_looks(round: &Items) -> bool
     ensures { IsTrue result ↔ MostlyLooks round.now }
 {
@@ -39,8 +39,8 @@ fn are_mostly_looks(round: &Items) -> bool
 /// On how many threads the sessions of a round run, and what they did is printed.
 #[derive(Clone, Copy)]
 pub enum RoundThreads {
-    /// On at most so many, none being one; and on one where the round has fewer than 4,096 commands, or where more than
-    /// half of them change something.
+    /// On at most so many, none being one; on one where the round has fewer than 4,096 commands; and on at most two where
+    /// more than half of them ask of no id and no multixact.
     AtMost(usize),
     /// On one for each session, as is needed where a gate holds a session until another one comes to it.
     OneEach,
@@ -53,7 +53,8 @@ impl RoundThreads {
         ensures many { (most : ℕ) → self ≡ ways.AtMost most → 2 ≤ length plan.now.sessions.items
             → 4096 ≤ length round.now → MostlyLooks round.now → result ≡ max 1 most }
         ensures few { (most : ℕ) → self ≡ ways.AtMost most → length round.now < 4096 → result ≡ 1 }
-        ensures other { (most : ℕ) → self ≡ ways.AtMost most → (MostlyLooks round.now → ⊥) → result ≡ 1 }
+        ensures two { (most : ℕ) → self ≡ ways.AtMost most → 2 ≤ length plan.now.sessions.items
+            → 4096 ≤ length round.now → (MostlyLooks round.now → ⊥) → result ≡ max 1 (min 2 most) }
         ensures each { self ≡ ways.OneEach → 1 ≤ length plan.now.sessions.items
             → result ≡ length plan.now.sessions.items }
     {
@@ -61,8 +62,8 @@ impl RoundThreads {
         let count = match self {
             RoundThreads::OneEach => sessions,
             RoundThreads::AtMost(_) if sessions <= 1 || round.len() < FEW_COMMANDS => 1,
-            RoundThreads::AtMost(most) if most > 1 && are_mostly_looks(round) => most,
-            RoundThreads::AtMost(_) => 1,
+            RoundThreads::AtMost(most) if most > 2 && !are_mostly_looks(round) => 2,
+            RoundThreads::AtMost(most) => most,
         };
         count.max(1)
     }

@@ -27,8 +27,8 @@ fn looks_in(round: &Items) -> usize
     looks
 }
 
-/// Whether at least half of a round's commands ask of an id or a multixact. These gain by more threads: others spend most
-/// of their time in sections of the same few locks.
+/// Whether at least half of a round's commands ask of an id or a multixact. These gain by more threads: others spend
+/// most of their time in sections of the same few locks.
 fn are_mostly_looks(round: &Items) -> bool
     ensures { IsTrue result ↔ MostlyLooks round.now }
 {
@@ -39,8 +39,8 @@ fn are_mostly_looks(round: &Items) -> bool
 /// On how many threads the sessions of a round run, and what they did is printed.
 #[derive(Clone, Copy)]
 pub enum RoundThreads {
-    /// On at most so many, none being one; on one where the round has fewer than 4,096 commands; and on at most two where
-    /// more than half of them ask of no id and no multixact.
+    /// On at most so many, none being one; on one where the round has fewer than 4,096 commands; and on at most two
+    /// where more than half of them ask of no id and no multixact.
     AtMost(usize),
     /// On one for each session, as is needed where a gate holds a session until another one comes to it.
     OneEach,

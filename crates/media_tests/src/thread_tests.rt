@@ -36,8 +36,8 @@ NAME 9 snap s -> ok
 NAME 10 drop s -> ok
 ";
 
-/// Refused looks behind them, so that the round has 4,096 commands, most of them looks: one of fewer commands would run
-/// on one thread, and one of fewer looks on two.
+/// Refused commands behind them, so that the round has 4,096: one of fewer would run on one thread. At most four are two
+/// for it, as most of its commands ask of no id.
 const FIRST_REFUSED: usize = 11;
 
 const LAST: usize = 64;
@@ -62,7 +62,7 @@ fn for_each_session(rt: &(impl Abort + AllocGlobal), lines: &str) -> String {
 fn lines_of_one(rt: &(impl Abort + AllocGlobal)) -> String {
     let mut lines = String::from_str(rt.alloc(), LINES).expect(rt, "memory");
     for number in FIRST_REFUSED..LAST + 1 {
-        let line = format!(in rt.alloc(); "NAME {number} see s 3 -> no-snapshot\n").expect(
+        let line = format!(in rt.alloc(); "NAME {number} drop s -> no-snapshot\n").expect(
             rt, "memory",
         );
         lines.push_str(line.as_str()).expect(rt, "memory");
@@ -128,7 +128,7 @@ fn count_lines(text: &str, begin: &str, end: &str) -> usize {
 fn round_and_looks(rt: &(impl Abort + AllocGlobal)) -> String {
     let mut script = one_round(rt, &COMMANDS);
     for _ in FIRST_REFUSED..LAST + 1 {
-        let refused = for_each_session(rt, "NAME see s 3\n");
+        let refused = for_each_session(rt, "NAME drop s\n");
         script.push_str(refused.as_str()).expect(rt, "memory");
     }
     script.push_str(".round\ns0 snap t\n").expect(rt, "memory");
@@ -170,6 +170,7 @@ fn threads_tell_each_session_once_and_in_order(rt: HostRuntime) {
     let ways = [
         RoundThreads::AtMost(1),
         RoundThreads::AtMost(4),
+        RoundThreads::Just(4),
         RoundThreads::OneEach,
     ];
     for threads in ways {

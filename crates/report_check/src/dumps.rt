@@ -3,7 +3,7 @@ ghost use Rattle.std.specs.Prelude.{◌≡◌, ◌↔◌, [], IfOk, IsTrue, true
 ghost use Rattle.std.specs.List.{flat_map, list_any};
 ghost use Rattle.tx_model.specs.Rounds.{lines_in};
 ghost use Rattle.checkpoint_rules.specs.Behind.{Walked};
-ghost use Rattle.report_law.specs.Dumps.{MayDump, is_fault, is_faulty_step};
+ghost use Rattle.report_law.specs.Dumps.{MayDump, is_faulty_step};
 ghost use Rattle.report_law.specs.Steps.{Judged, gave_multi, lines_of};
 ghost use Rattle.dump_rules.specs.Cutting.{AreCuts};
 ghost use Rattle.dump_rules.specs.Gens.{AreGens};
@@ -11,12 +11,12 @@ ghost use Rattle.reply_lines.specs.At.{IsReportOf, IsRoundAt};
 ghost use Rattle.reply_lines.specs.Known.{IsKnown};
 ghost use Rattle.report_check.specs.Dumped.{IsDumping, is_dump};
 
-use dump_rules::{Cuts, GenMark, cuts_of, gens_of, may_dump};
+use dump_rules::{Cuts, GenMark, cuts_of, gens_of, is_any_fault, may_dump};
 use reply_lines::{Known, RoundAt};
 use std::alloc::Global;
 use std::collections::{BTreeMap, BTreeSet};
-use tx_events::{Counters, Memory, Rec, Refusal};
-use tx_model::{DumpOf, KeptLine, LifeReport, Reply, Step};
+use tx_events::{Counters, Memory, Rec};
+use tx_model::{DumpOf, LifeReport, Reply, Step};
 
 /// What a life's dumps are held against, if it has one: the cutoffs that its stores may have, and the multixacts that it
 /// gave.
@@ -100,54 +100,7 @@ pub fn dumping_of(
     })
 }
 
-fn is_fault(reply: &Reply) -> bool
-    ensures { result ≡ is_fault reply.now }
-{
-    match reply {
-        Reply::Refused { refusal } => match refusal {
-            Refusal::DiskFault { .. } => true,
-            Refusal::LogFault => true,
-            _ => false,
-        },
-        _ => false,
-    }
-}
-
-fn is_any_faulty(lines: &[KeptLine]) -> bool
-    ensures { result ≡ list_any (λ l. is_fault l.reply) lines.now }
-{
-    for line in lines {
-        let look = line.reply();
-        if is_fault(look.reply()) {
-            return true;
-        }
-    }
-    false
-}
-
-fn is_faulty_step(step: &Step) -> bool
-    ensures { result ≡ is_faulty_step step.now }
-{
-    match step {
-        Step::Round { lines, .. } => is_any_faulty(lines.items()),
-        Step::Checkpoint { reply } => is_fault(reply),
-        Step::Dump { reply, .. } => is_fault(reply),
-    }
-}
-
-/// Whether some volume is told to have failed in these steps.
-fn is_any_fault(steps: &[Step]) -> bool
-    ensures { result ≡ list_any is_faulty_step steps.now }
-{
-    for step in steps {
-        if is_faulty_step(step) {
-            return true;
-        }
-    }
-    false
-}
-
-/// The same, where it is asked for.
+/// Whether some volume is told to have failed in these steps, where it is asked for.
 fn is_faulty_if(steps: &[Step], asked: bool) -> bool
     ensures { asked ≡ true → result ≡ list_any is_faulty_step steps.now }
 {

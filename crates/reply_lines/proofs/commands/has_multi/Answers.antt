@@ -1,4 +1,4 @@
-use Rattle.std.proofs.Common.{◌≡◌, ◌∙◌, List, ap, arith, length, map, refl, ℕ}
+use Rattle.std.proofs.Common.{◌∙◌, List, ap, arith, length, map, refl, ℕ}
 use Rattle.std.specs.Prelude.{nat_lt}
 use Rattle.tx_events.specs.declared.multi.MultiEvent.{MultiEvent}
 use Rattle.tx_events.specs.Multis.{multi_by}

@@ -1,12 +1,16 @@
 -- Where a session's commands stand in a round.
-use Rattle.std.specs.Prelude.{◌≡◌, ℕ, ◌<◌, ◌==◌, ◌⊎◌, List, [], Some, true, length, slice_get}
-use Rattle.std.specs.List.{All, filter_map, list_any}
+use Rattle.std.specs.Prelude.{◌≡◌, ℕ, ◌*◌, ◌<◌, ◌≤◌, ◌==◌, ◌⊎◌, List, [], Some, true, length, slice_get}
+use Rattle.std.specs.List.{All, count_by, filter_map, list_any}
 use Rattle.tx_model.specs.declared.command.Command.{Command}
 use Rattle.tx_events.specs.Places.{first_seen}
 use Rattle.session_lang.specs.declared.script.Item.{Item}
-use Rattle.session_lang.specs.Rounds.{sessions_in, turns_of}
+use Rattle.session_lang.specs.Rounds.{is_look, sessions_in, turns_of}
 use Rattle.script_rounds.specs.declared.plan.Plan.{Plan}
 use Rattle.run_law.specs.Turns.{turns_in}
+
+-- at least half of a round's commands ask of an id or a multixact
+abbrev pub MostlyLooks : List Item → Type 0
+MostlyLooks round = length round ≤ 2 * count_by is_look round
 
 -- a session's commands at these places of a round
 abbrev pub turns_at : ℕ → List Item → List ℕ → List (ℕ × Command)

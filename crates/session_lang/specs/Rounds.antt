@@ -1,7 +1,8 @@
 -- The commands of a script, round by round.
-use Rattle.std.specs.Prelude.{ℕ, ◌≤◌, List, [], ◌∷◌, ◌++◌, Option, Some, None, ◌==◌, get_or, length}
+use Rattle.std.specs.Prelude.{ℕ, ◌≤◌, Bool, false, true, List, [], ◌∷◌, ◌++◌, Option, Some, None, ◌==◌, get_or, length}
 use Rattle.std.specs.List.{filter, filter_map}
 use Rattle.tx_model.specs.declared.command.Command.{Command}
+use Rattle.tx_model.specs.declared.command.Command.TheVariants as commands
 use Rattle.tx_model.specs.declared.report.How.{How}
 use Rattle.tx_model.specs.Asked as asked
 use Rattle.tx_model.specs.Asked.{Asked}
@@ -13,6 +14,18 @@ use Rattle.session_lang.specs.declared.script.Item.TheVariants as items
 abbrev pub session_of : Item → Option ℕ
 session_of (items.Run session command) = Some session
 session_of _ = None
+
+-- a command that asks of an id or a multixact, and gives none
+abbrev pub looks : Command → Bool
+looks (commands.See name x) = true
+looks (commands.SeeMulti name multi) = true
+looks (commands.Status x) = true
+looks (commands.Did x) = true
+looks _ = false
+
+abbrev pub is_look : Item → Bool
+is_look (items.Run session command) = looks command
+is_look _ = false
 
 abbrev pub crash_in : Item → Option How
 crash_in (items.Crash how) = Some how

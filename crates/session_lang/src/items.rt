@@ -4,12 +4,12 @@ ghost use Rattle.session_lang.specs.declared.script.Item.TheVariants as items;
 ghost use Rattle.tx_model.specs.declared.command.Command.TheVariants as commands;
 ghost use Rattle.session_lang.specs.Packed.{IsIdOf, id_command, named_command, plain_command};
 ghost use Rattle.session_lang.specs.Plain.{IsInRange};
-ghost use Rattle.session_lang.specs.Rounds.{asked_at, asked_by, crash_in, session_of};
+ghost use Rattle.session_lang.specs.Rounds.{asked_at, asked_by, crash_in, is_look, session_of};
 ghost use Rattle.session_lang.specs.Script.{item_of};
 ghost use Rattle.tx_events.specs.Names.{is_name};
 
 use crate::packed::{
-    Apart, Halves, IdCommand, NamedCommand, PackedItem, PlainCommand, Span, dump_parts,
+    Apart, Halves, IdCommand, NamedCommand, PackedItem, PlainCommand, Span, dump_parts, is_look,
     packed_between, packed_crash, packed_session, unpack,
 };
 use crate::script::{Between, Item};
@@ -295,6 +295,16 @@ impl<'a> Items<'a> {
         match self.packed.get(place) {
             Some(packed) => packed_session(packed),
             None => None,
+        }
+    }
+
+    /// Whether a command stands at this place that asks of an id or a multixact: `see`, `seemulti`, `status` or `did`.
+    pub fn is_look_at(&self, place: usize) -> bool
+        ensures { result ≡ is_look (get_or self.now place items.Round) }
+    {
+        match self.packed.get(place) {
+            Some(packed) => is_look(packed),
+            None => false,
         }
     }
 

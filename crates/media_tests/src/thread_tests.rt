@@ -36,7 +36,8 @@ NAME 9 snap s -> ok
 NAME 10 drop s -> ok
 ";
 
-/// Refused commands behind them, so that the round has 4,096: one of fewer would run on one thread.
+/// Refused commands behind them, so that the round has 4,096: one of fewer would run on one thread. At most four are two
+/// for it, as most of its commands ask of no id.
 const FIRST_REFUSED: usize = 11;
 
 const LAST: usize = 64;
@@ -169,6 +170,7 @@ fn threads_tell_each_session_once_and_in_order(rt: HostRuntime) {
     let ways = [
         RoundThreads::AtMost(1),
         RoundThreads::AtMost(4),
+        RoundThreads::Just(4),
         RoundThreads::OneEach,
     ];
     for threads in ways {

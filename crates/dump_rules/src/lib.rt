@@ -7,6 +7,7 @@ mod bytes;
 mod cut;
 mod cuts;
 mod dumps;
+mod faults;
 mod gens;
 mod ids;
 mod multis;
@@ -14,4 +15,5 @@ mod shown;
 
 pub use cuts::{Cuts, cuts_of};
 pub use dumps::may_dump;
+pub use faults::is_any_fault;
 pub use gens::{GenMark, gens_of};

@@ -4,6 +4,7 @@ use Rattle.disk_core.specs.Volume.{Volume}
 use Rattle.disk_core.specs.declared.log_disk.LogDisk as logs
 use Rattle.disk_core.specs.declared.page_disk.PageDisk as disks
 use Rattle.disk_core.specs.declared.media.Volumes.{Volumes}
+use Rattle.tx_events.specs.declared.record.Counters.{Counters}
 use Rattle.tx_events.specs.declared.refusal.Lock.TheVariants as locks
 use Rattle.tx_core.proofs.FaultCounts.{risen_past}
 use Rattle.wal_core.specs.Log.{EndsWithin, history_in}
@@ -49,15 +50,19 @@ new_log disk log found = record {
 pub new_opens : {D : Type 0} (g : logs.Ghosts D) (disk : D) (log : WalLog D g) → IsFoundNew disk log → IsTrue g.tells → IsNewLog (g.reads disk)
 new_opens g disk log found told = record { gate = log_end log; opens = found.opens told }
 
--- and one with records opens to all of them
-pub opens_up_to : {D : Type 0} (g : logs.Ghosts D) (disk : D) (found : Found D g) → IsFound disk found → IsTrue g.tells → OpensUpTo (log_next found.log) found.base (g.reads disk)
-opens_up_to g disk found is told = record {
-  history = record { first = log_first found.log; recs = found.recs; counters = found.base };
-  gate = log_end found.log;
-  opens = is.opens told;
-  next = sym is.next;
-  counters_are = refl;
-}
+-- and one with records opens to all of them, and to its end
+pub opens_up_to : {D : Type 0} (g : logs.Ghosts D) (disk : D) (found : Found D g) (base : Counters) → IsFound disk found → base ≡ found.base → IsTrue g.tells
+    → (opens : OpensUpTo (log_next found.log) base (g.reads disk)) × (opens.gate ≡ log_end found.log)
+opens_up_to g disk found base is same told = (
+  record {
+    history = record { first = log_first found.log; recs = found.recs; counters = found.base };
+    gate = log_end found.log;
+    opens = is.opens told;
+    next = sym is.next;
+    counters_are = sym same;
+  },
+  refl,
+)
 
 not_both : (v : Volume) (h : History) (gate gate' : ℕ) → opened v ≡ Ok (record { history = None; gate = gate }) → opened v ≡ Ok (record { history = Some h; gate = gate' }) → ⊥
 not_both v h gate gate' a b = let z : None ≡ Some h = sym (ap history_in a) ∙ ap history_in b in absurd cc

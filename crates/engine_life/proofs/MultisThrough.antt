@@ -1,5 +1,5 @@
--- At each moment since a bank of offsets or of members was opened a crash leaves what follows a beginning of its list: by
--- its course.
+-- At each moment since a bank of offsets or of members was opened a crash leaves what follows a beginning of its list:
+-- by its course.
 use Rattle.std.proofs.Common.{Bool, ℕ, zero, suc, ◌≡◌, ◌+◌, ◌<◌, ◌≤◌, ◌++◌, ◌∷◌, [], ◌^◌, ◌∙◌, Contains, List, None, Option, Some, IsTrue, ap, append-nil, arith, inl, refl, subst, sym, ⊎_elim}
 use Rattle.std.specs.List.{last_or, slice_index}
 use Rattle.disk_core.specs.Images.{LeavesOnly}

@@ -38,8 +38,8 @@ module _ {P O : Type 0} (g : disks.Ghosts P) (r : rules.Ghosts O) where
       → EngineInvariant start lists → AreFewIds lists → HasCourse start bank store (at lists (xact_lock bank))
       → FollowsThroughout (λ opened. IsOpened start bank opened) (StatesLeft start bank) (at lists (xact_lock bank)) store
 
-  -- So a bank of offsets, and one of members, in a life of fewer than 2,900,000 multixacts that began with counters from
-  -- which one may start.
+  -- So a bank of offsets, and one of members, in a life of fewer than 2,900,000 multixacts that began with counters
+  -- from which one may start.
   abbrev pub OffsetsCourseFollows : Type 0
   OffsetsCourseFollows = (start : Start) (bank : ℕ) (lists : List (List Entry)) (store : SlruBank P O g r) → IsTrue g.tells
       → EngineInvariant start lists → IsBase start.base → AreFewMultis lists → OffsetsCame start bank store (at lists (offsets_lock bank))

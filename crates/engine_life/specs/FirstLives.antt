@@ -12,7 +12,8 @@ use Rattle.engine_life.specs.declared.life.OpenLife.{OpenLife}
 use Rattle.engine_life.specs.Lives.{FitsLog, IsNewLife}
 use Rattle.engine_life.specs.NextLives.{GoesOnLife}
 
--- The volumes that the next mount of so many banks may give, of a media that is new or isn't, begins so, or gives those.
+-- The volumes that the next mount of so many banks may give, of a media that is new or isn't, begins so, or gives
+-- those.
 pub record MayMount {L P : Type 0} (is_new : Bool) (begins : ℕ → Volumes L P → Type 0) (gives : Volumes L P → Type 0) (banks : ℕ) (volumes : Volumes L P) : Type 0 where
   pub first : IsTrue is_new → MayBeFirst begins banks volumes
   pub again : is_new ≡ false → gives volumes
@@ -22,8 +23,8 @@ abbrev pub with_banks : Cluster → ℕ → Cluster
 with_banks c banks = record { base = c.base; banks = banks; sessions = c.sessions }
 
 module _ {L P : Type 0} (l : logs.Ghosts L) (p : disks.Ghosts P) where
-  -- A life may begin over these volumes: there are as many of each kind; and where pages tell what they hold, the log does,
-  -- and if it has records the volumes fit this one.
+  -- A life may begin over these volumes: there are as many of each kind; and where pages tell what they hold, the log
+  -- does, and if it has records the volumes fit this one.
   pub record MayBeginOver (kept : KeptLog) (volumes : Volumes L P) : Type 0 where
     pub banks : HasBanks (length volumes.xact.items) volumes
     pub tells : IsTrue p.tells → IsTrue l.tells

@@ -111,8 +111,8 @@ module _ {L P : Type 0} (l : logs.Ghosts L) (p : disks.Ghosts P) where
   FitsLog kept volumes = Fit l p kept volumes.log volumes.xact.items volumes.offsets.items volumes.members.items
 
   -- The volumes that a life left fit a log, of which the records before the life gave its begin, and the others are its
-  -- own, and just those are on disk that the life's list flushed: so a recovery may begin from whatever a crash leaves of
-  -- them.
+  -- own, and just those are on disk that the life's list flushed: so a recovery may begin from whatever a crash leaves
+  -- of them.
   pub record EndFit (start : Start) (lists : List (List Entry)) (volumes : Volumes L P) : Type 0 where
     pub kept : KeptLog
     pub follows : LogFollows start lists kept

@@ -1,5 +1,5 @@
 -- How a life goes on from an earlier one, over a media, and what is left where none does.
-use Rattle.std.specs.Prelude.{◌≡◌, ◌⊎◌, ℕ, IsTrue, List, length}
+use Rattle.std.specs.Prelude.{◌≡◌, ◌+◌, ◌⊎◌, ℕ, IsTrue, List, length}
 use Rattle.disk_core.specs.declared.log_disk.LogDisk as logs
 use Rattle.disk_core.specs.declared.page_disk.PageDisk as disks
 use Rattle.disk_core.specs.declared.media.Volumes.{Volumes}
@@ -39,10 +39,11 @@ module _ {L P : Type 0} (l : logs.Ghosts L) (p : disks.Ghosts P) where
       → gave new ⊎ ((old : Volumes L P) × gave old × (FitsLog l p kept old → WhenRefused kept old new refusal))
 
 module _ {L P : Type 0} {l : logs.Ghosts L} {p : disks.Ghosts P} where
-  -- The life goes on over these volumes. Where they tell what they hold, and so fit this log, it goes on from the base at a
-  -- number of the log, from the flushed one to its end; where they don't, nothing is known of what was before. That number
-  -- is the one behind the last record to which the log's volume opens, if this tells what it holds. The life begins at
-  -- counts of faults that aren't below those of the volumes.
+  -- The life goes on over these volumes. Where they tell what they hold, and so fit this log, it goes on from the base
+  -- at a number of the log, from the flushed one to its end; where they don't, nothing is known of what was before.
+  -- That number is the one behind the last record to which the log's volume opens, if this tells what it holds; there
+  -- the life's log ends 62 bytes further, behind a batch with its checkpoint. The life begins at counts of faults that
+  -- aren't below those of the volumes.
   pub record GoesOnLife (kept : KeptLog) (sessions : ℕ) (volumes : Volumes L P) (life : OpenLife L P l p) : Type 0 where
     pub number : ℕ
     pub cluster : Cluster
@@ -51,6 +52,7 @@ module _ {L P : Type 0} {l : logs.Ghosts L} {p : disks.Ghosts P} where
     pub base : IsTrue p.tells → IsBaseAt kept number cluster.base
     pub opened_to : IsTrue l.tells → OpensUpTo number cluster.base (l.reads volumes.log)
     pub gate : ℕ
+    pub gate_is : (told : IsTrue l.tells) → gate ≡ (opened_to told).gate + 62
     pub faults : List ℕ
     pub counted : AreCounted l p volumes.log (banks_of volumes) faults
     pub begun : IsBegun cluster (life_from cluster (at_gate (behind p.tells kept number) gate) faults) life

@@ -52,8 +52,8 @@ module _ {L P : Type 0} (l : logs.Ghosts L) (p : disks.Ghosts P) where
   abbrev pub OpensEmpty : L → ℕ → Type 0
   OpensEmpty log gate = IsTrue l.tells → opened (l.reads log) ≡ Ok (record { history = None; gate = gate })
 
-  -- Why no life was opened over these volumes, which came back so. A new cluster's first checkpoint has no room, or the one
-  -- behind the records that the log has.
+  -- Why no life was opened over these volumes, which came back so. A new cluster's first checkpoint has no room, or the
+  -- one behind the records that the log has.
   abbrev pub IsNoLife : Cluster → Volumes L P → Volumes L P → NoLife → Type 0
   IsNoLife c old new (no_lives.Damaged at) = IsTrue l.tells → opened (l.reads old.log) ≡ Err at
   IsNoLife c old new no_lives.Device = HasVolumeFailed old new
@@ -66,8 +66,8 @@ module _ {L P : Type 0} (l : logs.Ghosts L) (p : disks.Ghosts P) where
   HasRestedVolumes c first gives refusal =
       (old new : Volumes L P) × first c.banks old × Only new gives × IsNoLife c old new refusal
 
-  -- Why no life was opened over a media with these counts of faults, which holds these volumes now. Where a device failed,
-  -- the media's count rose, or that of a volume since the mounting, until the media took the volumes back.
+  -- Why no life was opened over a media with these counts of faults, which holds these volumes now. Where a device
+  -- failed, the media's count rose, or that of a volume since the mounting, until the media took the volumes back.
   abbrev pub IsUnopened : Cluster → (ℕ → Volumes L P → Type 0) → ℕ → ℕ → (Volumes L P → Type 0) → NoLife → Type 0
   IsUnopened c first before now gives no_lives.Device = HasRisen before now ⊎ HasRestedVolumes c first gives no_lives.Device
   IsUnopened c first before now gives no_lives.Memory = Unit {0}

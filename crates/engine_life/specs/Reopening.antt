@@ -17,8 +17,8 @@ use Rattle.engine_host.specs.declared.cluster.BankVolumes.{BankVolumes}
 use Rattle.engine_host.specs.declared.cluster.Cluster.{Cluster}
 use Rattle.engine_host.specs.Opening.{Beginning, life_from}
 
--- What a life begins with whose checkpoint has this number, behind the records below it. Where the volumes tell nothing,
--- nothing is known of it.
+-- What a life begins with whose checkpoint has this number, behind the records below it. Where the volumes tell
+-- nothing, nothing is known of it.
 abbrev pub behind : Bool → KeptLog → ℕ → Beginning
 behind tells kept number = record {
   number = number;

@@ -35,8 +35,8 @@ IsForget (kinds.Forget number) = Unit {0}
 IsForget (kinds.LogFault (calls.Forget number) count) = Unit {0}
 IsForget _ = ⊥
 
--- The section asks a bank's volume, or forgets the log. A flush of the log does more: while it runs, the log's images are
--- those of the list before it.
+-- The section asks a bank's volume, or forgets the log. A flush of the log does more: while it runs, the log's images
+-- are those of the list before it.
 abbrev pub IsBankOrForget : ℕ → Entry → Type 0
 IsBankOrForget lock e = IsBankLock lock ⊎ ((lock ≡ log_lock) × IsForget e.kind)
 
@@ -48,8 +48,8 @@ pub record IsInside (start : Start) (lists seen : List (List Entry)) (lock : ℕ
   pub whole : at seen lock ≡ at lists lock
   pub may : MayKeep start seen lock e
 
--- Each combination of images fits of which those of its volume follow the list with the entry, and all others theirs: at
--- whichever moment of the section, and whatever others have added meanwhile.
+-- Each combination of images fits of which those of its volume follow the list with the entry, and all others theirs:
+-- at whichever moment of the section, and whatever others have added meanwhile.
 abbrev pub SectionsFit : Type 0
 SectionsFit = (start : Start) (lists seen : List (List Entry)) (lock : ℕ) (e : Entry) (kept : KeptLog) (left : Left)
     → EngineInvariant start lists → IsInside start lists seen lock e → BeganRight start → IsShort lists

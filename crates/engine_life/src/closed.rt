@@ -21,7 +21,8 @@ use multi_store::MultiGen;
 use tx_events::EventList;
 use wal_core::WalLog;
 
-/// What a life leaves: its log, its history, its generator of multixacts with theirs, and the other volumes of the media.
+/// What a life leaves: its log, its history, its generator of multixacts with theirs, and the other volumes of the
+/// media.
 pub struct ClosedLife<L: LogDisk, P> {
     pub log: WalLog<L>,
     pub events: EventList,
@@ -32,10 +33,10 @@ pub struct ClosedLife<L: LogDisk, P> {
     members: Vec<P>,
 }
 
-/// Closes a life whose sessions are all dismissed. Its history and its log are those of the lists that the host has seen,
-/// which are all that was done, and of which the engine invariant holds; so is the history of its multixacts. Each bank has
-/// its four volumes. Each of these has counted at least the faults that its list tells, and a crash would leave of each of
-/// pg_xact, of the offsets and of the members what its list allows. Takes no memory.
+/// Closes a life whose sessions are all dismissed. Its history and its log are those of the lists that the host has
+/// seen, which are all that was done, and of which the engine invariant holds; so is the history of its multixacts.
+/// Each bank has its four volumes. Each of these has counted at least the faults that its list tells, and a crash would
+/// leave of each of pg_xact, of the offsets and of the members what its list allows. Takes no memory.
 #[inline(always)]
 pub fn close_life<L: LogDisk + Drop, P: PageDisk + Drop>(
     life: OpenLife<L, P>,

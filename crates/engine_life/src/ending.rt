@@ -32,7 +32,8 @@ fn put_log<R: Threads + Sync, L: LogDisk>(
     out.put_records(rt, from, log.recs(), threads)
 }
 
-// The log of a life that began with the checkpoint of this number, 0 over a new log, and the crash that ends it, if one does.
+// The log of a life that began with the checkpoint of this number, 0 over a new log, and the crash that ends it, if one
+// does.
 fn log_end<R: Threads + Sync, L: LogDisk>(
     rt: &R,
     alloc: Global,
@@ -73,8 +74,8 @@ pub struct EndText {
     pub log: Pieces,
 }
 
-/// The text of a closed life behind its steps, with the crash that ends it, if one does: each long list of it on so many
-/// threads. The log is printed first, and its records go before the histories are printed. Gives the volumes back.
+/// The text of a closed life behind its steps, with the crash that ends it, if one does: each long list of it on so
+/// many threads. The log is printed first, and its records go before the histories are printed. Gives the volumes back.
 pub fn end_life<R: Threads + Sync, L: LogDisk + Drop, P: PageDisk + Drop>(
     rt: &R,
     alloc: Global,

@@ -1,8 +1,8 @@
 //! The parts of an engine over a cluster in which a life ran before.
-ghost use Rattle.std.specs.Prelude.{◌≡◌, ◌≤◌, [], false, IfErr, IfOk, IsTrue, length};
+ghost use Rattle.std.specs.Prelude.{◌≡◌, ◌+◌, ◌≤◌, [], false, IfErr, IfOk, IsTrue, length};
 ghost use Rattle.recoverable.specs.Fit.{KeptLog};
 ghost use Rattle.recoverable.specs.Whole.{BeganRight};
-ghost use Rattle.wal_core.specs.LogViews.{log_disk, log_next};
+ghost use Rattle.wal_core.specs.LogViews.{log_disk, log_end, log_next};
 ghost use Rattle.replay_core.specs.Begun.{IsSettled};
 ghost use Rattle.replay_core.specs.Opened.{IsFound};
 ghost use Rattle.replay_core.specs.Refused.{IsRefusal};
@@ -44,6 +44,7 @@ fn open_recovered<L: LogDisk + Drop, P: PageDisk + Drop>(
     ensures start { IfOk result (λ parts. parts.start.value ≡ new_life parts.cluster begins parts.locks.items) }
     ensures counted { IfOk result (λ parts. AreCounted L.LogDisk P.PageDisk (log_disk recovered.log) (banks_in recovered)
         parts.start.value.faults) }
+    ensures end { IfOk result (λ parts. parts.start.value.gate ≡ log_end recovered.log) }
     ensures refused { IfErr result (λ e. e.1 ≡ refusals.Memory) }
     ensures kept { IfErr result (λ e. (e.0.log ≡ log_disk recovered.log)
         × ((k : Store) → (volumes_in k (banks_of e.0)).items ≡ (volumes_in k (banks_in recovered)).items)) }
@@ -75,13 +76,14 @@ fn open_recovered<L: LogDisk + Drop, P: PageDisk + Drop>(
 }
 
 /// Recovers a cluster of which the log was found on a volume, and makes its parts (`StartupXLOG` of `xlog.c`,
-/// `StartupCLOG` of `clog.c`, `StartupSUBTRANS` of `subtrans.c`). There is one volume of each store for each bank, 1 to 16,
-/// and there may be so many sessions, at most 64.
+/// `StartupCLOG` of `clog.c`, `StartupSUBTRANS` of `subtrans.c`). There is one volume of each store for each bank, 1 to
+/// 16, and there may be so many sessions, at most 64.
 ///
-/// Where the pages tell what they hold, the volumes fit a log, which contracts alone see. The parts stand for lists without
-/// entries, in a life that goes on behind the last record that was found: from the base at its next number, which is one
-/// from the flushed number of that log to its end. So what was committed below it is committed. Of volumes that don't tell
-/// what they hold, nothing is known to be committed.
+/// Where the pages tell what they hold, the volumes fit a log, which contracts alone see. The parts stand for lists
+/// without entries, in a life that goes on behind the last record that was found: from the base at its next number,
+/// which is one from the flushed number of that log to its end. So what was committed below it is committed. Of volumes
+/// that don't tell what they hold, nothing is known to be committed. The log ends 62 bytes further than it was found:
+/// behind a batch with the life's checkpoint.
 pub fn open_old<L: LogDisk + Drop, P: PageDisk + Drop>(
     alloc: Global,
     rooms: &mut LifeRooms<P>,
@@ -102,6 +104,7 @@ pub fn open_old<L: LogDisk + Drop, P: PageDisk + Drop>(
         × (parts.cluster.base ≡ found.base) × (IsTrue P.tells → IsBaseAt kept (log_next found.log) parts.cluster.base)) }
     ensures counted { (log : L) → IsFound log found → IfOk result (λ parts. AreCounted L.LogDisk P.PageDisk log volumes
         parts.start.value.faults) }
+    ensures end { IfOk result (λ parts. parts.start.value.gate ≡ log_end found.log + 62) }
     // That is a base from which a life may start, so the laws on its volumes hold of it (`recoverable`).
     ensures right { IsTrue P.tells → IfOk result (λ parts. BeganRight parts.start.value) }
     // After an error the volumes fit what a later recovery may go on from.

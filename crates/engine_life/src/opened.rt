@@ -46,8 +46,8 @@ fn begin_new<L: LogDisk + Drop, P: PageDisk + Drop>(
     }
 }
 
-// Begins a life over mounted volumes: a new cluster's where the log has no record, and else one that goes on from it. After
-// an error the volumes come back.
+// Begins a life over mounted volumes: a new cluster's where the log has no record, and else one that goes on from it.
+// After an error the volumes come back.
 fn begin_over<L: LogDisk + Drop, P: PageDisk + Drop>(
     alloc: Global,
     rooms: &mut LifeRooms<P>,
@@ -104,17 +104,18 @@ fn with_banks(cluster: &Cluster, banks: usize) -> Cluster
     }
 }
 
-/// Opens a life over a media: mounts it, and makes the lock table over its volumes. Where the log has no record they become
-/// those of a new cluster, which begins with the counters of `cluster`; else the cluster that is there is recovered
-/// (`StartupXLOG` of `xlog.c`), and the life goes on behind the last record. There are as many banks as the media gives,
-/// which are those of `cluster` where the media is new, and so many sessions as `cluster` says.
+/// Opens a life over a media: mounts it, and makes the lock table over its volumes. Where the log has no record they
+/// become those of a new cluster, which begins with the counters of `cluster`; else the cluster that is there is
+/// recovered (`StartupXLOG` of `xlog.c`), and the life goes on behind the last record. There are as many banks as the
+/// media gives, which are those of `cluster` where the media is new, and so many sessions as `cluster` says.
 ///
-/// Where pages tell what they hold and the log has records, the volumes fit a log, which contracts alone see: from its base
-/// at a number, from the flushed one to its end, the life goes on, so what was committed below that number is committed.
+/// Where pages tell what they hold and the log has records, the volumes fit a log, which contracts alone see: from its
+/// base at a number, from the flushed one to its end, the life goes on, so what was committed below that number is
+/// committed.
 ///
-/// After an error the media holds its volumes again: pages may be removed then, and a checkpoint written. Those of a media
-/// that was used before, if they fitted the log, do still, or fit what a later recovery may go on from; where memory was
-/// wanting nothing is said of that.
+/// After an error the media holds its volumes again: pages may be removed then, and a checkpoint written. Those of a
+/// media that was used before, if they fitted the log, do still, or fit what a later recovery may go on from; where
+/// memory was wanting nothing is said of that.
 pub fn open_life<M: Media>(
     alloc: Global,
     rooms: &mut LifeRooms<M::Pages>,

@@ -36,7 +36,7 @@ rank_counts {E} by lines i b h order at = same h ∙ sym (length-filter (λ e. s
 
 -- ---- at a place
 
-number_there : {E : Type 0} (f : By → ℕ) (by : E → By) (h : List E) (p : ℕ) (e : E) → slice_get h p ≡ Some e → get_or (map f (map by h)) p 0 ≡ f (by e)
+pub number_there : {E : Type 0} (f : By → ℕ) (by : E → By) (h : List E) (p : ℕ) (e : E) → slice_get h p ≡ Some e → get_or (map f (map by h)) p 0 ≡ f (by e)
 number_there f by [] p e at = absurd cc
 number_there {E} f by (x ∷ h) zero e at = let same : x ≡ e = cc in ap (λ (y : E). f (by y)) same
 number_there f by (x ∷ h) (suc p) e at = number_there f by h p e at

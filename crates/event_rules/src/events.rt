@@ -13,7 +13,7 @@ ghost use Rattle.event_rules.specs.Told.{AreMarked, AreToldEvents, IsItsEvent, I
 
 use crate::both::{is_in_time, is_told_by, stands};
 use id_sets::IdSet;
-use place_columns::{LineTable, OwnEvents, Owned};
+use place_columns::{LineTable, OwnEvents};
 use tx_events::{Event, Memory};
 
 /// Whether a commit has its record. These are the tops of the records of commits.
@@ -83,11 +83,11 @@ pub fn is_its_event(
     ensures { (e : _) → slice_get events.now place ≡ Some e → IsTrue result ↔ IsItsEvent j place e }
 {
     let event = &events[place as usize];
-    let by = event.by();
-    if !stands(table, by) {
+    let number = own.number_at(place);
+    if !stands(table, number) {
         return false;
     }
-    if !is_in_time(table, own, events, place, by) {
+    if !is_in_time(table, own, events, place, number) {
         return false;
     }
     if !is_commit_logged(tops, event) {

@@ -9,7 +9,7 @@ ghost use Rattle.event_rules.specs.Lined.{multis_in};
 ghost use Rattle.event_rules.specs.Told.{IsItsMulti, IsToldMulti};
 
 use crate::both::{is_in_time, stands};
-use place_columns::{LineTable, OwnEvents, Owned};
+use place_columns::{LineTable, OwnEvents};
 use tx_events::MultiEvent;
 
 /// Whether the multixact event at this place is of a command of the life, of no earlier step than one before it, and the one
@@ -29,12 +29,11 @@ pub fn is_its_multi(
     requires told { (e : MultiEvent) → slice_get events.now place ≡ Some e → (s : StandsAt j (multi_by e)) → IsTrue told ↔ IsToldMulti j place e s }
     ensures { (e : _) → slice_get events.now place ≡ Some e → IsTrue result ↔ IsItsMulti j place e }
 {
-    let event = &events[place as usize];
-    let by = event.by();
-    if !stands(table, by) {
+    let number = own.number_at(place);
+    if !stands(table, number) {
         return false;
     }
-    if !is_in_time(table, own, events, place, by) {
+    if !is_in_time(table, own, events, place, number) {
         return false;
     }
     told

@@ -49,23 +49,40 @@ pub fn was_committed(items: &[GivenId], place: u64, x: FullXid) -> bool
     }
 }
 
-/// The id was committed at this place.
-fn mark(items: &mut [GivenId], place: u64, x: FullXid)
+/// The same, where the place `near` is tried first.
+fn place_near(items: &[GivenId], near: usize, x: FullXid) -> Option<usize>
+    requires { Ascending (given_ids items.now) }
+    ensures some { IfSome result (IsPlaceOf items.now x) }
+    ensures none { IfNone result (IsMissing items.now x) }
+{
+    if near < items.len() && items[near].id == x {
+        return Some(near);
+    }
+    place_of(items, x)
+}
+
+/// The id was committed at this place. It is looked for at `near` first; answers where it stands, or `near`.
+fn mark(items: &mut [GivenId], near: usize, place: u64, x: FullXid) -> usize
     requires { Ascending (given_ids items.old) }
     ensures { items.new ≡ map (with_place (x ∷ []) place) items.old }
 {
-    if let Some(at) = place_of(items, x) {
-        items[at].committed = Some(place);
+    match place_near(items, near, x) {
+        Some(at) => {
+            items[at].committed = Some(place);
+            at
+        }
+        None => near,
     }
 }
 
-/// These ids were committed at this place.
+/// These ids were committed at this place. Mostly they were given last, one behind the other.
 fn mark_all(items: &mut [GivenId], place: u64, opened: &[OpenId])
     requires { Ascending (given_ids items.old) }
     ensures { items.new ≡ map (with_place (opened_ids opened.now) place) items.old }
 {
+    let mut near = items.len().saturating_sub(opened.len());
     for o in opened {
-        mark(items, place, o.id);
+        near = mark(items, near, place, o.id).saturating_add(1);
     }
 }
 

@@ -6,3 +6,4 @@ pub mod Snapping
 pub mod Askings
 pub mod Replying
 pub mod Commanding
+pub mod Having

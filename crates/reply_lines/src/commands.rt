@@ -266,10 +266,20 @@ pub fn is_lawful_command(
     Ok(all_six(events, multis, standing, members, reply, logged))
 }
 
-fn has_some(multis: &[MultiEvent]) -> bool
-    ensures { result ≡ nat_lt 0 (length multis.now) }
+fn has_some(places: &[u64]) -> bool
+    ensures { result ≡ nat_lt 0 (length places.now) }
 {
-    multis.len() > 0
+    places.len() > 0
+}
+
+/// Whether the line's command has a multixact event.
+fn has_multi(known: &Known, number: u64, line: &Line) -> bool
+    ghost at: { AtLine }
+    requires known { IsKnown at.j known.now }
+    requires stands { StandsThere at number line.now }
+    ensures { result ≡ nat_lt 0 (length (multis_of line.now.by at.j.life.multis)) }
+{
+    has_some(known.multis.places(number))
 }
 
 /// How the sessions stand behind the line, too.
@@ -290,7 +300,6 @@ pub fn pass_line(
     ensures { OnOk result (AreBehind (with_line (lived_at at) line.now) 64 sessions.new.items) }
 {
     let ids = its_ids(alloc, report, known, number, line)?;
-    let multis = its_multis(alloc, report, known, number, line)?;
-    let gave = has_some(multis.as_slice());
+    let gave = has_multi(known, number, line);
     add_line(sessions, &known.tops, line, ids.as_slice(), gave)
 }

@@ -14,9 +14,9 @@ abbrev pub is_dump : Step → Bool
 is_dump (steps.Dump what at length reply) = true
 is_dump step = false
 
--- the cutoffs that the life's stores may have, and the multixacts that it gave, by the legal fronts of its histories, where
--- a dump is held against them; and whether a volume is told to have failed
+-- the cutoffs that the life's stores may have, and the multixacts that it gave, by the legal fronts of its histories, and
+-- whether a volume is told to have failed, where a dump is held against them
 pub record IsDumping (j : Judged) (k : Known) (d : Dumping) : Type 0 where
-  pub cuts : AreCuts j.begun.counters j.life.recs k.places.events d.cuts
+  pub cuts : list_any is_dump j.steps ≡ true → AreCuts j.begun.counters j.life.recs k.places.events d.cuts
   pub gens : list_any is_dump j.steps ≡ true → AreGens (gave_multi (lines_of j)) k.multi_places.events d.gens.items
-  pub faulty : d.faulty ≡ list_any is_faulty_step j.steps
+  pub faulty : list_any is_dump j.steps ≡ true → d.faulty ≡ list_any is_faulty_step j.steps

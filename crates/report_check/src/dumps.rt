@@ -3,21 +3,23 @@ ghost use Rattle.std.specs.Prelude.{◌≡◌, ◌↔◌, [], IfOk, IsTrue, true
 ghost use Rattle.std.specs.List.{flat_map, list_any};
 ghost use Rattle.tx_model.specs.Rounds.{lines_in};
 ghost use Rattle.checkpoint_rules.specs.Behind.{Walked};
-ghost use Rattle.report_law.specs.Dumps.{MayDump, is_fault, is_faulty_step};
+ghost use Rattle.report_law.specs.Dumps.{MayDump, is_faulty_step};
 ghost use Rattle.report_law.specs.Steps.{Judged, gave_multi, lines_of};
+ghost use Rattle.dump_rules.specs.Cutting.{AreCuts};
 ghost use Rattle.dump_rules.specs.Gens.{AreGens};
 ghost use Rattle.reply_lines.specs.At.{IsReportOf, IsRoundAt};
 ghost use Rattle.reply_lines.specs.Known.{IsKnown};
 ghost use Rattle.report_check.specs.Dumped.{IsDumping, is_dump};
 
-use dump_rules::{Cuts, GenMark, cuts_of, gens_of, may_dump};
+use dump_rules::{Cuts, GenMark, cuts_of, gens_of, is_any_fault, may_dump};
 use reply_lines::{Known, RoundAt};
 use std::alloc::Global;
-use tx_events::{Counters, Memory, Refusal};
-use tx_model::{DumpOf, KeptLine, LifeReport, Reply, Step};
+use std::collections::{BTreeMap, BTreeSet};
+use tx_events::{Counters, Memory, Rec};
+use tx_model::{DumpOf, LifeReport, Reply, Step};
 
-/// What a life's dumps are held against: the cutoffs that its stores may have, and the multixacts that it gave, if it has a
-/// dump.
+/// What a life's dumps are held against, if it has one: the cutoffs that its stores may have, and the multixacts that it
+/// gave.
 #[derive(Drop)]
 pub struct Dumping {
     pub cuts: Cuts,
@@ -39,6 +41,28 @@ fn has_dump(steps: &[Step]) -> bool
     steps.iter().any(|step| is_dump(step))
 }
 
+/// The cutoffs that the life's stores may have, where they are asked for; else none.
+fn cuts_if(
+    alloc: Global,
+    base: &Counters,
+    recs: &[Rec],
+    known: &Known,
+    asked: bool,
+) -> Result<Cuts, Memory>
+    requires { base.now ≡ known.now.places.base }
+    ensures { IfOk result (λ cuts. asked ≡ true → AreCuts base.now recs.now known.now.places.events cuts) }
+{
+    if !asked {
+        return Ok(Cuts {
+            xacts: BTreeSet::new(alloc),
+            parents: BTreeMap::new(alloc),
+            offsets: BTreeSet::new(alloc),
+            members: BTreeSet::new(alloc),
+        });
+    }
+    cuts_of(alloc, base, recs, &known.places)
+}
+
 /// The multixacts that the life gave, where they are asked for; else none.
 fn gens_if(alloc: Global, known: &Known, asked: bool) -> Result<Vec<GenMark>, Memory>
     ghost j: { Judged }
@@ -51,8 +75,8 @@ fn gens_if(alloc: Global, known: &Known, asked: bool) -> Result<Vec<GenMark>, Me
     gens_of(alloc, &known.multi_places, known.oks.as_slice())
 }
 
-/// What the dumps of a life are held against, which begins with these counters. Takes the logarithm of the life an event and
-/// a record.
+/// What the dumps of a life are held against, if it has one, which begins with these counters. Takes the logarithm of the
+/// life an event and a record.
 pub fn dumping_of(
     alloc: Global,
     report: &LifeReport,
@@ -65,60 +89,22 @@ pub fn dumping_of(
     requires base { base.now ≡ j.begun.counters }
     ensures { IfOk result (λ d. IsDumping j known.now d) }
 {
-    let cuts = cuts_of(alloc, base, report.life.recs.items(), &known.places)?;
-    let gens = gens_if(alloc, known, has_dump(report.steps.items()))?;
+    let steps = report.steps.items();
+    let asked = has_dump(steps);
+    let cuts = cuts_if(alloc, base, report.life.recs.items(), known, asked)?;
+    let gens = gens_if(alloc, known, asked)?;
     Ok(Dumping {
         cuts,
         gens,
-        faulty: is_any_fault(report.steps.items()),
+        faulty: is_faulty_if(steps, asked),
     })
 }
 
-fn is_fault(reply: &Reply) -> bool
-    ensures { result ≡ is_fault reply.now }
+/// Whether some volume is told to have failed in these steps, where it is asked for.
+fn is_faulty_if(steps: &[Step], asked: bool) -> bool
+    ensures { asked ≡ true → result ≡ list_any is_faulty_step steps.now }
 {
-    match reply {
-        Reply::Refused { refusal } => match refusal {
-            Refusal::DiskFault { .. } => true,
-            Refusal::LogFault => true,
-            _ => false,
-        },
-        _ => false,
-    }
-}
-
-fn is_any_faulty(lines: &[KeptLine]) -> bool
-    ensures { result ≡ list_any (λ l. is_fault l.reply) lines.now }
-{
-    for line in lines {
-        let look = line.reply();
-        if is_fault(look.reply()) {
-            return true;
-        }
-    }
-    false
-}
-
-fn is_faulty_step(step: &Step) -> bool
-    ensures { result ≡ is_faulty_step step.now }
-{
-    match step {
-        Step::Round { lines, .. } => is_any_faulty(lines.items()),
-        Step::Checkpoint { reply } => is_fault(reply),
-        Step::Dump { reply, .. } => is_fault(reply),
-    }
-}
-
-/// Whether some volume is told to have failed in these steps.
-fn is_any_fault(steps: &[Step]) -> bool
-    ensures { result ≡ list_any is_faulty_step steps.now }
-{
-    for step in steps {
-        if is_faulty_step(step) {
-            return true;
-        }
-    }
-    false
+    asked && is_any_fault(steps)
 }
 
 /// Whether a dump may be answered so behind these steps, where `round` is the place of no line behind them.

@@ -1,5 +1,5 @@
 //! The words behind a command or a directive: how many, and the names and numbers in them.
-ghost use Rattle.std.specs.Prelude.{◌≡◌, ◌^◌, ◌-◌};
+ghost use Rattle.std.specs.Prelude.{◌≡◌, ◌≤◌, ◌^◌, ◌-◌, IfOk, length};
 ghost use Rattle.script_lines.specs.LineWords.{words_in};
 ghost use Rattle.script_lines.specs.Kinds.{seen};
 ghost use Rattle.script_lines.specs.Arguments.{none_of, one_of, two_of, three_of, name_in, number_in, id_in, asked_id_in, multi_in, stored_in};
@@ -7,7 +7,7 @@ ghost use Rattle.script_lines.specs.Arguments.{none_of, one_of, two_of, three_of
 use crate::kind::Kind;
 use crate::word::{next_word, number_of};
 use tx_events::{FullMulti, FullXid};
-use tx_model::{Name, is_name};
+use tx_model::is_name;
 
 /// The greatest full id, multixact id or member offset that a script may name.
 pub const GREATEST: u64 = 1 << 62;
@@ -71,13 +71,14 @@ pub fn three_of(rest: &[u8]) -> Result<(&[u8], &[u8], &[u8]), Kind>
     }
 }
 
-/// A NAME.
+/// A NAME. It is copied where it is to stand.
 #[inline(always)]
-pub fn name_in(word: &[u8]) -> Result<Name, Kind>
-    ensures { result ≡ name_in word.now }
+pub fn name_in(word: &[u8]) -> Result<&[u8], Kind>
+    ensures name { seen (λ w. w.now) result ≡ name_in word.now }
+    ensures short { IfOk result (λ w. length w.now ≤ 16) }
 {
     if is_name(word) {
-        Ok(Name::of(word))
+        Ok(word)
     } else {
         Err(Kind::Name)
     }

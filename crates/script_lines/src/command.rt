@@ -1,5 +1,5 @@
 //! A command.
-ghost use Rattle.std.specs.Prelude.{◌≡◌};
+ghost use Rattle.std.specs.Prelude.{◌≡◌, ◌≤◌, IfOk, length};
 ghost use Rattle.tx_model.specs.declared.command.Command.{Command};
 ghost use Rattle.script_lines.specs.LineWords.{words_in};
 ghost use Rattle.script_lines.specs.Kinds.{Gives, seen};
@@ -26,57 +26,68 @@ fn alone(command: Command, rest: &[u8]) -> Result<Command, Stop>
 
 /// A snapshot's name, where no other word is there.
 #[inline(always)]
-fn only_name(rest: &[u8]) -> Result<Name, Kind>
-    ensures { result ≡ only_name (words_in rest.now) }
+fn only_name(rest: &[u8]) -> Result<&[u8], Kind>
+    ensures name { seen (λ w. w.now) result ≡ only_name (words_in rest.now) }
+    ensures short { IfOk result (λ w. length w.now ≤ 16) }
 {
     name_in(one_of(rest)?)
 }
 
 #[tactic(auto, unfolding(crate::specs::Commands::see_in))]
-fn see_in(rest: &[u8]) -> Result<Command, Kind>
-    ensures { result ≡ see_in (words_in rest.now) }
+fn see_in(rest: &[u8]) -> Result<Command, Stop>
+    ensures { Gives (λ c. c) result (see_in (words_in rest.now)) }
 {
     let (name, number) = two_of(rest)?;
     let name = name_in(name)?;
     let number = stored_in(0, number)?;
     let x = Xid { number };
-    Ok(Command::See { name, x })
+    Ok(Command::See {
+        name: Name::of(name),
+        x,
+    })
 }
 
 #[tactic(auto, unfolding(crate::specs::Commands::see_multi_in))]
-fn see_multi_in(rest: &[u8]) -> Result<Command, Kind>
-    ensures { result ≡ see_multi_in (words_in rest.now) }
+fn see_multi_in(rest: &[u8]) -> Result<Command, Stop>
+    ensures { Gives (λ c. c) result (see_multi_in (words_in rest.now)) }
 {
     let (name, number) = two_of(rest)?;
     let name = name_in(name)?;
     let number = stored_in(1, number)?;
     let multi = MultiId { number };
-    Ok(Command::SeeMulti { name, multi })
+    Ok(Command::SeeMulti {
+        name: Name::of(name),
+        multi,
+    })
 }
 
-fn snap_in(rest: &[u8]) -> Result<Command, Kind>
-    ensures { result ≡ snap_in (words_in rest.now) }
+fn snap_in(rest: &[u8]) -> Result<Command, Stop>
+    ensures { Gives (λ c. c) result (snap_in (words_in rest.now)) }
 {
     let name = only_name(rest)?;
-    Ok(Command::Snap { name })
+    Ok(Command::Snap {
+        name: Name::of(name),
+    })
 }
 
-fn drop_in(rest: &[u8]) -> Result<Command, Kind>
-    ensures { result ≡ drop_in (words_in rest.now) }
+fn drop_in(rest: &[u8]) -> Result<Command, Stop>
+    ensures { Gives (λ c. c) result (drop_in (words_in rest.now)) }
 {
     let name = only_name(rest)?;
-    Ok(Command::DropSnap { name })
+    Ok(Command::DropSnap {
+        name: Name::of(name),
+    })
 }
 
-fn status_in(rest: &[u8]) -> Result<Command, Kind>
-    ensures { result ≡ status_in (words_in rest.now) }
+fn status_in(rest: &[u8]) -> Result<Command, Stop>
+    ensures { Gives (λ c. c) result (status_in (words_in rest.now)) }
 {
     let x = asked_id_in(one_of(rest)?)?;
     Ok(Command::Status { x })
 }
 
-fn did_in(rest: &[u8]) -> Result<Command, Kind>
-    ensures { result ≡ did_in (words_in rest.now) }
+fn did_in(rest: &[u8]) -> Result<Command, Stop>
+    ensures { Gives (λ c. c) result (did_in (words_in rest.now)) }
 {
     let number = stored_in(0, one_of(rest)?)?;
     Ok(Command::Did { x: Xid { number } })
@@ -89,25 +100,18 @@ fn members_in(alloc: Global, rest: &[u8]) -> Result<Command, Stop>
     Ok(Command::Multi { members })
 }
 
-fn freeze_in(rest: &[u8]) -> Result<Command, Kind>
-    ensures { result ≡ freeze_in (words_in rest.now) }
+fn freeze_in(rest: &[u8]) -> Result<Command, Stop>
+    ensures { Gives (λ c. c) result (freeze_in (words_in rest.now)) }
 {
     let oldest = id_in(one_of(rest)?)?;
     Ok(Command::Freeze { oldest })
 }
 
-fn multi_freeze_in(rest: &[u8]) -> Result<Command, Kind>
-    ensures { result ≡ multi_freeze_in (words_in rest.now) }
+fn multi_freeze_in(rest: &[u8]) -> Result<Command, Stop>
+    ensures { Gives (λ c. c) result (multi_freeze_in (words_in rest.now)) }
 {
     let multi = multi_in(one_of(rest)?)?;
     Ok(Command::MultiFreeze { multi })
-}
-
-/// The same, where want of memory may be told too.
-fn told(command: Result<Command, Kind>) -> Result<Command, Stop>
-    ensures { Gives (λ c. c) result command }
-{
-    Ok(command?)
 }
 
 /// A command whose words are names and numbers.
@@ -116,31 +120,31 @@ fn long_command(alloc: Global, word: &[u8], rest: &[u8]) -> Result<Command, Stop
     ensures { Gives (λ c. c) result (long_command word.now (words_in rest.now)) }
 {
     if is_same(word, b"snap") {
-        return told(snap_in(rest));
+        return snap_in(rest);
     }
     if is_same(word, b"drop") {
-        return told(drop_in(rest));
+        return drop_in(rest);
     }
     if is_same(word, b"see") {
-        return told(see_in(rest));
+        return see_in(rest);
     }
     if is_same(word, b"status") {
-        return told(status_in(rest));
+        return status_in(rest);
     }
     if is_same(word, b"did") {
-        return told(did_in(rest));
+        return did_in(rest);
     }
     if is_same(word, b"multi") {
         return members_in(alloc, rest);
     }
     if is_same(word, b"seemulti") {
-        return told(see_multi_in(rest));
+        return see_multi_in(rest);
     }
     if is_same(word, b"freeze") {
-        return told(freeze_in(rest));
+        return freeze_in(rest);
     }
     if is_same(word, b"multifreeze") {
-        return told(multi_freeze_in(rest));
+        return multi_freeze_in(rest);
     }
     Err(Stop::Fault(Kind::Command))
 }

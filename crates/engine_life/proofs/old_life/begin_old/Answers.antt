@@ -1,9 +1,8 @@
-use Rattle.std.proofs.Common.{length, map, rules, subst, sym, ◌≡◌}
+use Rattle.std.proofs.Common.{ap, length, map, rules, subst, sym, ◌+◌, ◌∙◌, ◌≡◌}
 use Rattle.std.proofs.lemmas.Result.{IfOk-weaker}
 use Rattle.recoverable.specs.Whole.{BeganRight}
 use Rattle.wal_core.specs.LogViews.{log_next}
 use Rattle.tx_core.specs.declared.entry.Start.{Start}
-use Rattle.tx_events.specs.declared.record.Counters.{Counters}
 use Rattle.engine_host.specs.Counted.{AreCounted}
 use Rattle.engine_host.specs.Opening.{faults_behind, gate_behind}
 use Rattle.engine_host.specs.Stores.{of_members, of_offsets, of_subtrans}
@@ -11,13 +10,14 @@ use Rattle.engine_life.specs.declared.refusal.NoLife.{NoLife}
 use Rattle.engine_life.specs.Lives.{IsBegun}
 use Rattle.engine_life.specs.NextLives.{WhenRefused}
 use Rattle.engine_life.specs.Refusals.{IsNoLife}
-use Rattle.engine_life.specs.Reopening.{OpensUpTo, volumes_over}
+use Rattle.engine_life.specs.Reopening.{volumes_over}
 use Rattle.engine_life.proofs.Finding.{not_recovered, opens_up_to}
 use Rattle.engine_life.proofs.GoingOn.{when_fits}
 use Rattle.engine_life.proofs.Living.{of_err}
 use Rattle.engine_life.proofs.old_life.begin_old.Goals as goal
 
--- With a ghost value the clauses of `requires` have no names: they stand in their order behind what is asked of lifetimes.
+-- With a ghost value the clauses of `requires` have no names: they stand in their order behind what is asked of
+-- lifetimes.
 
 pub open_old-requires : goal.open_old-requires
 open_old-requires g c =
@@ -39,8 +39,10 @@ returns-in-Ok-clause-life g c v is =
       banks = k.cluster.0;
       sessions_are = k.cluster.1;
       base = k.start.2;
-      opened_to = λ told. subst (λ (base : Counters). OpensUpTo (log_next c.args.found.log) base (g.L.LogDisk.reads v)) (sym k.start.1) (opens_up_to g.L.LogDisk v c.args.found is told);
+      opened_to = λ told. (opens_up_to g.L.LogDisk v c.args.found parts.cluster.base is k.start.1 told).0;
       gate = gate_behind parts.locks.items;
+      gate_is = λ told.
+          ap (λ (s : Start). s.gate) (sym k.start.0) ∙ (k.end ∙ ap (λ n. n + 62) (sym (opens_up_to g.L.LogDisk v c.args.found parts.cluster.base is k.start.1 told).1));
       faults = map faults_behind parts.locks.items;
       counted = subst (λ (s : Start). AreCounted g.L.LogDisk g.P.PageDisk v c.args.volumes s.faults) k.start.0 (k.counted v is);
       begun = subst (λ (s : Start). IsBegun parts.cluster s life.value) k.start.0 begun;

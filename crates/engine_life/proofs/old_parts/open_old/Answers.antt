@@ -13,7 +13,8 @@ use Rattle.engine_life.proofs.Living.{of_err, of_oks}
 use Rattle.engine_life.proofs.Reopened.{base_at_number, before_any, began_right, counted_before, each_store, empty_durable, empty_shown, given_before, may_recover, members_shown, offsets_shown, same_left, start_kept, states_shown}
 use Rattle.engine_life.proofs.old_parts.open_old.Goals as goal
 
--- With a ghost value the clauses of `requires` have no names: they stand in their order behind what is asked of lifetimes.
+-- With a ghost value the clauses of `requires` have no names: they stand in their order behind what is asked of
+-- lifetimes.
 
 pub recover-requires-clause-found : goal.recover-requires-clause-found
 recover-requires-clause-found g c = let f = c.requires.1.1.1.1.1.1 in (f.0, f.1)
@@ -106,3 +107,7 @@ returns-in-Ok-clause-counted g c v is =
     (each_store (λ k. length (volumes_in k (banks_in r)).items ≡ length (volumes_in k a).items) e.banks.0 e.banks.1 e.banks.2 e.banks.3) up.0
     (each_store (λ k. NoCountFell g.P.PageDisk (volumes_in k a).items (volumes_in k (banks_in r)).items) up.1 up.2 up.3 up.4) now)
     c.open_recovered.ensures.counted
+
+pub returns-in-Ok-clause-end : goal.returns-in-Ok-clause-end
+returns-in-Ok-clause-end g c =
+    IfOk-weaker c.open_recovered.result _ _ (λ parts here. here ∙ c.in-Ok.ensures.end) c.open_recovered.ensures.end

@@ -6,7 +6,8 @@ use Rattle.engine_life.specs.Reopening.{KeepsStart, banks_in, cluster_over}
 use Rattle.engine_life.proofs.Reopened.{each_store, settled_begins}
 use Rattle.engine_life.proofs.old_parts.open_recovered.Goals as goal
 
--- With a ghost value the clauses of `requires` have no names: they stand in their order behind what is asked of lifetimes.
+-- With a ghost value the clauses of `requires` have no names: they stand in their order behind what is asked of
+-- lifetimes.
 
 pub open_begun-requires : goal.open_begun-requires
 open_begun-requires g c =

@@ -12,7 +12,8 @@ use Rattle.engine_life.proofs.Living.{of_err}
 use Rattle.engine_life.proofs.Reopened.{each_store}
 use Rattle.engine_life.proofs.opened.begin_over.Goals as goal
 
--- With a ghost value the clauses of `requires` have no names: they stand in their order behind what is asked of lifetimes.
+-- With a ghost value the clauses of `requires` have no names: they stand in their order behind what is asked of
+-- lifetimes.
 
 pub begin_new-requires-clause-banks : goal.begin_new-requires-clause-banks
 begin_new-requires-clause-banks g c = let h = c.requires.1.1.1.0 in each_store _ h.xact h.subtrans h.offsets h.members

@@ -7,7 +7,8 @@ use Rattle.engine_life.proofs.GoingOn.{rested_fit}
 use Rattle.engine_life.proofs.Living.{unopened}
 use Rattle.engine_life.proofs.opened.open_life.Goals as goal
 
--- With a ghost value the clauses of `requires` have no names: they stand in their order behind what is asked of lifetimes.
+-- With a ghost value the clauses of `requires` have no names: they stand in their order behind what is asked of
+-- lifetimes.
 
 pub with_banks-cluster-requires-clause-some : goal.with_banks-cluster-requires-clause-some
 with_banks-cluster-requires-clause-some g c =

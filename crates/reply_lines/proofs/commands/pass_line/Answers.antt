@@ -1,6 +1,4 @@
-use Rattle.std.proofs.Common.{◌<◌, ◌∙◌, List, ap, length, subst, sym}
-use Rattle.std.specs.Prelude.{nat_lt}
-use Rattle.tx_events.specs.declared.multi.MultiEvent.{MultiEvent}
+use Rattle.std.proofs.Common.{◌<◌, ◌∙◌, subst, sym}
 use Rattle.standing_rules.specs.Sessions.{AreBehind}
 use Rattle.reply_lines.specs.At.{lived_at}
 use Rattle.reply_lines.proofs.Askings.{few_sessions}
@@ -16,8 +14,8 @@ add_line-requires g c =
         known.tops,
         (
           record {
-            given_ids = c.as_slice-2.ensures.value ∙ c.in_ok-ids.ensures;
-            gave_one = c.has_some-gave.ensures ∙ ap (λ (h : List MultiEvent). nat_lt 0 (length h)) (c.as_slice.ensures.value ∙ c.in_ok-multis.ensures);
+            given_ids = c.as_slice.ensures.value ∙ c.in_ok-ids.ensures;
+            gave_one = c.has_multi-gave.ensures;
           },
           subst (λ n. AreBehind (lived_at g.at) n c.args.sessions.now.items) (sym size) r.1.1.1.1,
         ),

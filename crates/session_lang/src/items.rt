@@ -8,8 +8,9 @@ ghost use Rattle.session_lang.specs.Rounds.{asked_at, asked_by, crash_in, is_loo
 ghost use Rattle.session_lang.specs.Script.{item_of};
 ghost use Rattle.tx_events.specs.Names.{is_name};
 
+use crate::looks::is_look;
 use crate::packed::{
-    Apart, Halves, IdCommand, NamedCommand, PackedItem, PlainCommand, Span, dump_parts, is_look,
+    Apart, Halves, IdCommand, NamedCommand, PackedItem, PlainCommand, Span, dump_parts,
     packed_between, packed_crash, packed_session, unpack,
 };
 use crate::script::{Between, Item};

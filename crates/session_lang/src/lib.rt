@@ -5,6 +5,7 @@
 mod items;
 pub mod laws;
 mod lines;
+mod looks;
 mod packed;
 mod parser;
 mod script;

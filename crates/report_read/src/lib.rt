@@ -5,6 +5,7 @@ mod growing;
 mod law;
 mod naming;
 mod read;
+mod sharing;
 mod steps;
 mod take;
 mod told;

@@ -7,6 +7,7 @@ ghost use Rattle.report_read.specs.Taking.{AreFew, IsNoStep, IsRefused, IsTaken,
 
 use crate::growing::Growing;
 use crate::naming::{may_speak, note, note_turn};
+use crate::sharing::shared;
 use crate::told::{Stage, Told};
 use crate::words::{pending_name, said_name};
 use report_lines::{is_history, is_round, read_line, read_step};
@@ -96,7 +97,8 @@ fn take_command(
     note_turn(told.speaker, &mut told.spoken, session)?;
     told.speaker = Some(session);
     told.counts[session as usize] = said.by.command;
-    told.lines.push(KeptLine::of(alloc, said)?)?;
+    let line = shared(told.lines.items(), said)?;
+    told.lines.push(KeptLine::of(alloc, line)?)?;
     told.stage = Stage::Spoken;
     Ok(())
 }

@@ -1,6 +1,6 @@
 //! What a life leaves to the next one: the log that its volumes fit, and the crash between them.
 ghost use base.Fml.{ftrue};
-ghost use Rattle.std.specs.Prelude.{IsTrue};
+ghost use Rattle.std.specs.Prelude.{◌≡◌, IsTrue};
 ghost use Rattle.recoverable.specs.Fit.{KeptLog};
 ghost use Rattle.engine_life.specs.Lives.{volumes_left};
 ghost use Rattle.session_run.specs.Fits.{FitLife, FitWhereTold};

@@ -58,7 +58,7 @@ run_life-closed-requires-clause-may g c κs within =
     let s = c.args.script.now in
     let m = g.M.Media in
     let first = MayMount (m.is_new c.args.media.now) (m.begins c.args.media.now) (m.gives c.args.media.now) in
-    let life = c.in_ok-open_life.life.value in
+    let life = c.in_ok-open_life.field-0.value in
     let is = is_first g.M.Log.LogDisk g.M.Pages.PageDisk s first g.kept c.cluster_of.result life c.cluster_of.ensures.is (c.requires.1.1.1.1.1.1.1.1.1.1.1.1.1) c.in_ok-open_life.ensures.life in
     record {
       cluster = is.so.cluster;
@@ -85,7 +85,7 @@ returns-in-Ok-text-clause-counts g c =
     let l = g.M.Log.LogDisk in
     let p = g.M.Pages.PageDisk in
     let first = MayMount (m.is_new c.args.media.now) (m.begins c.args.media.now) (m.gives c.args.media.now) in
-    let life = c.in_ok-open_life.life.value in
+    let life = c.in_ok-open_life.field-0.value in
     let closed = c.run_life-closed.result.0 in
     let tally = c.run_life-closed.new.kept in
     let gives = m.gives c.rest.new.self in

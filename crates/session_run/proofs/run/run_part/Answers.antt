@@ -6,7 +6,7 @@ use Rattle.session_run.specs.Going.{HasRunPartOf}
 use Rattle.session_run.specs.OneLife.{HasRunLife, IsOpened, MayRunIn}
 use Rattle.session_run.proofs.RoundSteps.{kept_text}
 use Rattle.session_run.proofs.run.run_part.Goals as goal
-use Rattle.session_run.proofs.run.run_part.Goals.{in-Err, in-Ok}
+use Rattle.session_run.proofs.run.run_part.Goals.{in-Err+in-None-1, in-Err+in-Some+in-Idle-1, in-Err+in-Some+in-Lists-1, in-Ok}
 
 pub run_life-closed-requires-clause-may : goal.run_life-closed-requires-clause-may
 run_life-closed-requires-clause-may g c κs within = subst (MayRunIn (length c.args.names.now)) (sym c.into_inner-life.ensures) c.requires.may
@@ -34,7 +34,9 @@ returns g c = record {
                 base_is = c.same-base.ensures ∙ ap (λ x. x.base) opened.begun.cluster;
                 text_is = kept_text steps_keeper.ghosts names [] kept ran.steps ran.kept_is (λ text n. refl) (λ text lines. refl) (λ text dump. refl);
               })
-          | in-Err w ↦ subst (λ (steps : Result (List ℕ) Memory). IfOk steps went) (sym w.steps-is) tt
+          | in-Err+in-None-1 w ↦ subst (λ (steps : Result (List ℕ) Memory). IfOk steps went) (sym w.steps-is) tt
+          | in-Err+in-Some+in-Idle-1 w ↦ subst (λ (steps : Result (List ℕ) Memory). IfOk steps went) (sym w.steps-is) tt
+          | in-Err+in-Some+in-Lists-1 w ↦ subst (λ (steps : Result (List ℕ) Memory). IfOk steps went) (sym w.steps-is) tt
         ];
       };
 }

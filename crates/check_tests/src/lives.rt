@@ -77,7 +77,7 @@ impl Places {
     fn new<R: Abort + AllocGlobal>(rt: &R) -> Places {
         let base = counters(rt, NEW_LOG);
         assert!(rt; is_base(&base));
-        let places = HistoryPlaces::new(rt.alloc(), base, 1).expect(rt, "memory");
+        let places = HistoryPlaces::new(rt.alloc(), base, 1, 0).expect(rt, "memory");
         Places {
             places,
             base,

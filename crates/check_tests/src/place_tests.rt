@@ -6,7 +6,7 @@ use tx_events::{By, Mode};
 
 #[test]
 fn a_column_begins_with_its_first_number(rt: HostRuntime) {
-    let column = column_of(rt.alloc(), 7u64).expect(&rt, "memory");
+    let column = column_of(rt.alloc(), 7u64, 1).expect(&rt, "memory");
     assert!(rt; column.as_slice() == [7].as_slice());
 }
 

@@ -75,7 +75,7 @@ pub fn history_front(
     ensures snaps { IfOk result (λ f. (told_by : By → Option SnapData) → AreTold told_by events.now own.now.numbers lists.now → AreSnapMarks base.next f.places.events told_by f.snaps.items) }
     ensures opened { IfOk result (λ f. AreOpenCounts f.places.events f.opened.items) }
 {
-    let mut places = HistoryPlaces::new(alloc, base, sessions)?;
+    let mut places = HistoryPlaces::new(alloc, base, sessions, events.len())?;
     let mut snaps = Vec::with_capacity(alloc, events.len())?;
     let mut opened = Vec::with_capacity(alloc, events.len())?;
     for (place, event) in events.iter().enumerate() {

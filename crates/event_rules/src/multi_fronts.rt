@@ -23,7 +23,7 @@ pub fn multi_front(
     requires starts { FitsBase base starts.items }
     ensures { IfOk result (λ p. IsMultiFront base starts.items multis.now p) }
 {
-    let mut places = MultiPlaces::new(alloc, base, starts)?;
+    let mut places = MultiPlaces::new(alloc, base, starts, multis.len())?;
     for event in multis {
         if !places.add(event)? {
             return Ok(places);

@@ -7,7 +7,7 @@ ghost use Rattle.tx_events.specs.Running.{running};
 ghost use Rattle.history_places.specs.declared.mark.IdMark.{IdMark};
 ghost use Rattle.history_places.specs.IdMarks.{AreMarks, AreNoted, closed_above, closed_in, earlier, mark_ids};
 
-use crate::mark::{IdMark, note, place_of, runs_at};
+use crate::mark::{IdMark, note, place_near, place_of, runs_at};
 use history_check::HistoryReplay;
 use std::alloc::Global;
 use tx_events::{FullXid, Memory};
@@ -37,12 +37,12 @@ fn earlier(one: Option<u64>, other: Option<u64>) -> Option<u64>
     }
 }
 
-/// Where the id was closed.
+/// Where the id was closed. Mostly it is the last one.
 fn closed_of(marks: &[IdMark], x: FullXid) -> Option<u64>
     requires { Ascending (mark_ids marks.now) }
     ensures { result ≡ closed_in (find (λ (m : IdMark). m.id == x) marks.now) }
 {
-    match place_of(marks, x) {
+    match place_near(marks, marks.len().saturating_sub(1), x) {
         Some(at) => marks[at].closed,
         None => None,
     }

@@ -29,6 +29,18 @@ pub fn place_of(marks: &[IdMark], x: FullXid) -> Option<usize>
     marks.binary_search_by_key(&x, |m| m.id).ok()
 }
 
+/// The same, where the one at the place `near` is tried first.
+pub fn place_near(marks: &[IdMark], near: usize, x: FullXid) -> Option<usize>
+    requires { Ascending (mark_ids marks.now) }
+    ensures some { IfSome result (IsPlaceOf marks.now x) }
+    ensures none { IfNone result (IsMissing marks.now x) }
+{
+    if near < marks.len() && marks[near].id == x {
+        return Some(near);
+    }
+    place_of(marks, x)
+}
+
 /// Whether it ran at this place, by its mark.
 pub fn runs_at(mark: IdMark, place: u64) -> bool
     ensures { result ≡ runs_at mark place }
@@ -67,13 +79,13 @@ fn noted(mark: IdMark, place: u64, event: &Event) -> IdMark
     mark
 }
 
-/// Notes an event that closes no other id by itself.
+/// Notes an event that closes no other id by itself. Mostly this one is the last.
 fn note_close(marks: &mut [IdMark], place: u64, x: FullXid, event: &Event)
     requires order { Ascending (mark_ids marks.old) }
     requires alone { (m : IdMark) → m.id ≢ x → is_close m.parent m.id event.now ≡ false }
     ensures { marks.new ≡ map (noted place event.now) marks.old }
 {
-    if let Some(at) = place_of(marks, x) {
+    if let Some(at) = place_near(marks, marks.len().saturating_sub(1), x) {
         marks[at] = noted(marks[at], place, event);
     }
 }

@@ -98,8 +98,13 @@ fn is_amiss(first: FullMulti, starts: &[Start], event: &MultiEvent) -> bool
 }
 
 impl MultiPlaces {
-    /// A life of this base at its start, where the multixacts of the base begin so.
-    pub fn new(alloc: Global, base: Counters, starts: Vec<Start>) -> Result<MultiPlaces, Memory>
+    /// A life of this base at its start, where the multixacts of the base begin so, with room for so many events.
+    pub fn new(
+        alloc: Global,
+        base: Counters,
+        starts: Vec<Start>,
+        count: usize,
+    ) -> Result<MultiPlaces, Memory>
         requires base { IsBase base }
         requires starts { FitsBase base starts.items }
         ensures { IfOk result (λ r. r ≡ record { base = base; starts = starts.items; events = [] }) }
@@ -107,11 +112,12 @@ impl MultiPlaces {
         let first = base.multi;
         let multis = MultiGen::new(alloc, base);
         let row = row_of(&multis);
-        let nexts = column_of(alloc, row.next)?;
-        let firsts = column_of(alloc, row.first)?;
-        let oldests = column_of(alloc, row.oldest)?;
-        let stops = column_of(alloc, row.stop)?;
-        let member_stops = column_of(alloc, row.member_stop)?;
+        let room = count.saturating_add(1);
+        let nexts = column_of(alloc, row.next, room)?;
+        let firsts = column_of(alloc, row.first, room)?;
+        let oldests = column_of(alloc, row.oldest, room)?;
+        let stops = column_of(alloc, row.stop, room)?;
+        let member_stops = column_of(alloc, row.member_stop, room)?;
         Ok(MultiPlaces {
             multis,
             first,

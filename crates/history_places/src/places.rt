@@ -46,17 +46,23 @@ fn stop_now(replay: &HistoryReplay) -> FullXid
 }
 
 impl HistoryPlaces {
-    /// A life of this base at its start, for at most 64 sessions.
-    pub fn new(alloc: Global, base: Counters, sessions: u32) -> Result<HistoryPlaces, Memory>
+    /// A life of this base at its start, for at most 64 sessions, with room for so many events.
+    pub fn new(
+        alloc: Global,
+        base: Counters,
+        sessions: u32,
+        count: usize,
+    ) -> Result<HistoryPlaces, Memory>
         requires base { IsBase base }
         requires sessions { sessions ≤ 64 }
         ensures { IfOk result (λ r. r ≡ record { base = base; sessions = sessions; events = [] }) }
     {
         let replay = HistoryReplay::new(alloc, base, sessions)?;
-        let nexts = column_of(alloc, replay.next())?;
-        let oldests = column_of(alloc, replay.oldest())?;
-        let stops = column_of(alloc, stop_now(&replay))?;
-        let xmins = column_of(alloc, replay.oldest_xmin())?;
+        let room = count.saturating_add(1);
+        let nexts = column_of(alloc, replay.next(), room)?;
+        let oldests = column_of(alloc, replay.oldest(), room)?;
+        let stops = column_of(alloc, stop_now(&replay), room)?;
+        let xmins = column_of(alloc, replay.oldest_xmin(), room)?;
         Ok(HistoryPlaces {
             replay,
             nexts,

@@ -98,7 +98,7 @@ pub fn running_most(alloc: Global, values: &[u32]) -> Result<Vec<u32>, Memory>
     ensures { IfOk result (λ column. IsColumn most_of values.now column.items) }
 {
     let mut most: u32 = 0;
-    let mut column = column_of(alloc, most)?;
+    let mut column = column_of(alloc, most, values.len().saturating_add(1))?;
     for value in values {
         most = (*value).max(most);
         column.push(most)?;

@@ -37,7 +37,7 @@ fn ids_given(alloc: Global, first: u64, events: &[Event]) -> Result<Vec<u64>, Me
     requires { first < 2 ^ 63 }
     ensures { IfOk result (λ column. IsColumn (next_given first) events.now column.items) }
 {
-    let mut column = column_of(alloc, first)?;
+    let mut column = column_of(alloc, first, events.len().saturating_add(1))?;
     let mut next = first;
     for event in events {
         if gives_id(event) {
@@ -53,7 +53,7 @@ fn multis_made(alloc: Global, first: u64, events: &[MultiEvent]) -> Result<Vec<u
     requires { first < 2 ^ 63 }
     ensures { IfOk result (λ column. IsColumn (next_made first) events.now column.items) }
 {
-    let mut column = column_of(alloc, first)?;
+    let mut column = column_of(alloc, first, events.len().saturating_add(1))?;
     let mut next = first;
     for event in events {
         if gives_multi(event) {

@@ -14,7 +14,7 @@ ghost use Rattle.place_columns.specs.Rows.{line_of, own_line};
 use crate::{Own, own_places};
 use std::alloc::Global;
 use std::marker::Model;
-use tx_events::{By, Memory};
+use tx_events::{By, Memory, make_room};
 use tx_model::{KeptLine, Step};
 
 /// A command's line: whose it is, and the number of its step, counted from 0.
@@ -73,6 +73,7 @@ pub(crate) fn small(number: u64) -> Result<u32, Memory>
 fn add_lines(all: &mut Vec<LineAt>, step: u64, lines: &[KeptLine]) -> Result<(), Memory>
     ensures { OnOk result (all.new.items ≡ all.old.items ++ map (line_at step) lines.now) }
 {
+    make_room(all, 0, lines.len())?;
     for line in lines {
         all.push(LineAt {
             by: line.by(),

@@ -32,11 +32,11 @@ impl Span {
     }
 }
 
-/// A column of one number.
-pub fn column_of<T: Copy>(alloc: Global, first: T) -> Result<Vec<T>, Memory>
+/// A column of one number, with room for so many in all.
+pub fn column_of<T: Copy>(alloc: Global, first: T, room: usize) -> Result<Vec<T>, Memory>
     ensures { IfOk result (λ column. column.items ≡ first ∷ []) }
 {
-    let mut column = Vec::new(alloc);
+    let mut column = Vec::with_capacity(alloc, room)?;
     column.push(first)?;
     Ok(column)
 }

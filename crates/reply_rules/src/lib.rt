@@ -4,6 +4,7 @@
 
 mod answers;
 mod faults;
+mod in_turn;
 mod logged;
 mod plain;
 mod refusals;

@@ -6,6 +6,7 @@ ghost use Rattle.tx_events.specs.declared.multi.MultiEvent.{MultiEvent};
 ghost use Rattle.report_law.specs.Steps.{IsStrayMulti, Judged};
 ghost use Rattle.reply_rules.specs.Gens.{AreGens, IsStrayRec, is_gen_of, key_cmp, key_of};
 
+use crate::in_turn::are_in_turn;
 use std::alloc::Global;
 use std::collections::BTreeSet;
 use tx_events::{FullMulti, Member, Memory, MultiEvent, Rec};
@@ -19,7 +20,8 @@ fn key_of(
 ) -> Result<Vec<u64>, Memory>
     ensures { IfOk result (λ key. key.items ≡ key_of multi offset members.now) }
 {
-    let mut key = Vec::new(alloc);
+    let count = members.len().saturating_mul(2).saturating_add(2);
+    let mut key = Vec::with_capacity(alloc, count)?;
     key.push(multi.number())?;
     key.push(offset)?;
     for m in members {
@@ -78,6 +80,9 @@ fn is_stray(alloc: Global, gens: &BTreeSet<Vec<u64>>, rec: &Rec) -> Result<bool,
 pub fn is_any_stray(alloc: Global, recs: &[Rec], multis: &[MultiEvent]) -> Result<bool, Memory>
     ensures { (j : Judged) → j.life.recs ≡ recs.now → j.life.multis ≡ multis.now → IfOk result (λ b. IsTrue b ↔ IsStrayMulti j) }
 {
+    if are_in_turn(recs, multis) {
+        return Ok(false);
+    }
     let gens = gens_of(alloc, multis)?;
     for rec in recs {
         if is_stray(alloc, &gens, rec)? {

@@ -15,4 +15,4 @@ missing xs x None n m = m
 missing xs x (Some i) n m = absurd (n i refl)
 
 pub returns-in_default : goal.returns-in_default
-returns-in_default c = note_missing c.args.place c.args.x c.args.event.now c.args.marks.now c.requires.alone (missing _ _ c.place_of.result c.in_default.not-Some c.place_of.ensures.none)
+returns-in_default c = note_missing c.args.place c.args.x c.args.event.now c.args.marks.now c.requires.alone (missing _ _ c.place_near.result c.in_default.not-Some c.place_near.ensures.none)

@@ -5,6 +5,12 @@ use Rattle.reply_rules.specs.Gens.{IsStrayRec}
 use Rattle.reply_rules.proofs.Strays.{all_taken, none_more, none_stray, stray_found}
 use Rattle.reply_rules.proofs.stray.is_any_stray.Goals as goal
 
+pub returns-then-are_in_turn : goal.returns-then-are_in_turn
+returns-then-are_in_turn c = λ j r m. (
+  λ t. absurd cc,
+  λ s. absurd (none_stray j c.args.recs.now c.args.multis.now r m (c.are_in_turn.ensures c.if-are_in_turn.true) s),
+)
+
 pub returns-then-branch : goal.returns-then-branch
 returns-then-branch c = λ j r m. (
   λ t. stray_found j c.args.recs.now c.args.multis.now c.rec-item.result c.loop-rec.rec-index r m c.loop-rec-test.true c.rec-item.is

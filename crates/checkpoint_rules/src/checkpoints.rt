@@ -138,7 +138,13 @@ pub fn pass_step(
     other_steps_are_none();
     match step {
         Step::Round { .. } => Ok(()),
-        Step::Checkpoint { reply } => note_reached(places, column, checkpoints, point, reply),
+        Step::Checkpoint { reply } => note_reached(
+            places,
+            column,
+            checkpoints,
+            point,
+            reply.reply(),
+        ),
         Step::Dump { .. } => Ok(()),
     }
 }

@@ -36,8 +36,8 @@ fn is_faulty_step(step: &Step) -> bool
 {
     match step {
         Step::Round { lines, .. } => is_any_faulty(lines.items()),
-        Step::Checkpoint { reply } => is_fault(reply),
-        Step::Dump { reply, .. } => is_fault(reply),
+        Step::Checkpoint { reply } => is_fault(reply.reply()),
+        Step::Dump { reply, .. } => is_fault(reply.reply()),
     }
 }
 

@@ -23,7 +23,7 @@ use crate::{
 };
 use history_places::MultiPlaces;
 use std::alloc::Global;
-use tx_events::{Counters, FullMulti, Member, Memory, MultiEvent, Rec};
+use tx_events::{Counters, FullMulti, Member, Memory, MultiEvent, Rec, same_members};
 use tx_model::LifeReport;
 
 /// What the records of a life are judged by: what it begins from, its transactions and what it announces, and the record
@@ -35,26 +35,6 @@ struct Judging {
     xacts: Transactions,
     announced: Announced,
     broken: Option<usize>,
-}
-
-fn is_same_member(a: &Member, b: &Member) -> bool
-    ensures { IsTrue result ↔ (a.now ≡ b.now) }
-{
-    a.id == b.id && a.mode == b.mode
-}
-
-fn same_members(a: &[Member], b: &[Member]) -> bool
-    ensures { IsTrue result ↔ (a.now ≡ b.now) }
-{
-    if a.len() != b.len() {
-        return false;
-    }
-    for (place, member) in a.iter().enumerate() {
-        if !is_same_member(member, &b[place]) {
-            return false;
-        }
-    }
-    true
 }
 
 /// Whether the event gives this multixact, with its members from this offset on.

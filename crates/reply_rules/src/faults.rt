@@ -34,7 +34,7 @@ fn is_faulty(step: &Step) -> bool
 {
     match step {
         Step::Round { lines, .. } => has_log_fault(lines.items()),
-        Step::Checkpoint { reply } => is_log_fault(reply),
+        Step::Checkpoint { reply } => is_log_fault(reply.reply()),
         _ => false,
     }
 }

@@ -5,27 +5,7 @@ ghost use Rattle.tx_events.specs.declared.event.By.{By};
 ghost use Rattle.tx_events.specs.declared.multi.MultiEvent.TheVariants as multi_events;
 ghost use Rattle.reply_rules.specs.Gens.{IsStrayRec};
 
-use tx_events::{FullMulti, Member, MultiEvent, Rec};
-
-fn is_same_member(a: &Member, b: &Member) -> bool
-    ensures { IsTrue result ↔ (a.now ≡ b.now) }
-{
-    a.id == b.id && a.mode == b.mode
-}
-
-fn same_members(a: &[Member], b: &[Member]) -> bool
-    ensures { IsTrue result ↔ (a.now ≡ b.now) }
-{
-    if a.len() != b.len() {
-        return false;
-    }
-    for (place, member) in a.iter().enumerate() {
-        if !is_same_member(member, &b[place]) {
-            return false;
-        }
-    }
-    true
-}
+use tx_events::{FullMulti, Member, MultiEvent, Rec, same_members};
 
 /// Whether the event gives this multixact, with its members from this offset on.
 fn is_gen_of(event: &MultiEvent, multi: FullMulti, offset: u64, members: &[Member]) -> bool

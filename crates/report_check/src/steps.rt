@@ -158,14 +158,22 @@ fn walk_step_lines(
             passed,
             checkpoints,
             here,
-            reply,
+            reply.reply(),
         ))),
         Step::Dump {
             what,
             at,
             length,
             reply,
-        } => Ok(one_line(is_lawful_dump(&tables.dumping, known, here, *what, *at, *length, reply))),
+        } => Ok(one_line(is_lawful_dump(
+            &tables.dumping,
+            known,
+            here,
+            *what,
+            *at,
+            *length,
+            reply.reply(),
+        ))),
     }
 }
 

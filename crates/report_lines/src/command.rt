@@ -11,8 +11,8 @@ ghost use Rattle.report_lines.specs.Texts.{IsLineOf};
 
 use report_text::{Text, put_command_line};
 use report_words::{
-    Unread, by_at, fits_by, fits_reply, full_id, full_multi, is_word, kind_of, name_of, number_at,
-    pairs_fit, read_pairs, reply_at, small, word_at,
+    Unread, by_at, count_of, fits_by, fits_reply, full_id, full_multi, is_word, kind_of, name_of,
+    number_at, pairs_fit, read_pairs, reply_at, small, word_at,
 };
 use std::alloc::Global;
 use tx_events::{MultiId, Xid};
@@ -140,7 +140,7 @@ fn long_command<'a>(
     ensures { Gives (λ x. (x.0, behind x.1.now)) result (long_command word.now (behind rest.now)) }
 {
     if is_word(word, b"multi") {
-        let mut members = PairList::new(alloc);
+        let mut members = PairList::with_room(alloc, count_of(rest, b':'))?;
         let rest = read_pairs(&mut members, rest)?;
         return Ok((Command::Multi { members }, rest));
     }

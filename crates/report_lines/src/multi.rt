@@ -10,8 +10,8 @@ ghost use Rattle.report_lines.specs.Texts.{IsLineOf, multi_line};
 
 use report_text::{Text, put_multi_event};
 use report_words::{
-    Unread, by_at, fits_by, full_multi, is_word, members_fit, multi_fits, number_at, read_members,
-    word_at,
+    Unread, by_at, count_of, fits_by, full_multi, is_word, members_fit, multi_fits, number_at,
+    read_members, word_at,
 };
 use std::alloc::Global;
 use tx_events::{ByWords, FullMulti};
@@ -22,7 +22,7 @@ fn gen_at(alloc: Global, by: By, multi: FullMulti, rest: &[u8]) -> Result<MultiE
     ensures { Gives (λ x. x) result (gen_at by multi (behind rest.now)) }
 {
     let (offset, rest) = number_at(rest)?;
-    let mut members = Sequence::new(alloc);
+    let mut members = Sequence::with_room(alloc, count_of(rest, b':'))?;
     let _rest = read_members(&mut members, rest)?;
     Ok(MultiEvent::Gen {
         by: ByWords::of(by),

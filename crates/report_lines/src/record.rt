@@ -9,8 +9,8 @@ ghost use Rattle.report_lines.specs.Texts.{IsLineOf, record_line};
 
 use report_text::{Text, put_record_line};
 use report_words::{
-    Unread, counters_at, counters_fit, full_id, full_multi, id_fits, ids_fit, is_word, members_fit,
-    multi_fits, number_at, read_ids, read_members, word_at,
+    Unread, count_of, counters_at, counters_fit, full_id, full_multi, id_fits, ids_fit, is_word,
+    members_fit, multi_fits, number_at, read_ids, read_members, word_at,
 };
 use std::alloc::Global;
 use tx_events::SharedCounters;
@@ -24,7 +24,7 @@ fn ended_at(alloc: Global, rest: &[u8]) -> Result<Rec, Unread>
     let (word, rest) = word_at(rest)?;
     let (top, rest) = number_at(rest)?;
     let top = full_id(top)?;
-    let mut subs = IdList::new(alloc);
+    let mut subs = IdList::with_room(alloc, count_of(rest, b' '))?;
     let _rest = read_ids(&mut subs, rest)?;
     if is_word(word, b"commit") {
         return Ok(Rec::Commit { top, subs });
@@ -42,7 +42,7 @@ fn multi_record_at(alloc: Global, rest: &[u8]) -> Result<Rec, Unread>
     let (multi, rest) = number_at(rest)?;
     let multi = full_multi(multi)?;
     let (offset, rest) = number_at(rest)?;
-    let mut members = Sequence::new(alloc);
+    let mut members = Sequence::with_room(alloc, count_of(rest, b':'))?;
     let _rest = read_members(&mut members, rest)?;
     Ok(Rec::Multi {
         multi,

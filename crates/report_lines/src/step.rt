@@ -16,7 +16,7 @@ use report_words::{
     number_at, small, word_at,
 };
 use std::alloc::Global;
-use tx_model::{DumpOf, Memory, NameList, Step};
+use tx_model::{BoxedReply, DumpOf, Memory, NameList, Step};
 
 #[tactic(auto, unfolding(crate::specs::Steps::page_of))]
 fn page_of(word: &[u8], page: u32) -> Option<DumpOf>
@@ -62,7 +62,7 @@ fn dump_at(alloc: Global, rest: &[u8]) -> Result<Step, Unread>
     let (length, rest) = number_at(rest)?;
     let length = small(length)?;
     let (_arrow, rest) = word_at(rest)?;
-    let reply = dump_reply_at(alloc, rest)?;
+    let reply = BoxedReply::of(alloc, dump_reply_at(alloc, rest)?)?;
     Ok(Step::Dump {
         what,
         at,
@@ -72,12 +72,12 @@ fn dump_at(alloc: Global, rest: &[u8]) -> Result<Step, Unread>
 }
 
 #[tactic(auto, unfolding(crate::specs::Steps::checkpoint_at))]
-fn checkpoint_at(names: &NameList, rest: &[u8]) -> Result<Step, Unread>
+fn checkpoint_at(alloc: Global, names: &NameList, rest: &[u8]) -> Result<Step, Unread>
     requires { length names.now < 2 ^ 32 }
     ensures { Gives (λ x. x) result (checkpoint_at names.now (behind rest.now)) }
 {
     let (_arrow, rest) = word_at(rest)?;
-    let reply = checkpoint_reply_at(names, rest)?;
+    let reply = BoxedReply::of(alloc, checkpoint_reply_at(names, rest)?)?;
     Ok(Step::Checkpoint { reply })
 }
 
@@ -89,7 +89,7 @@ fn step_at(alloc: Global, names: &NameList, rest: &[u8]) -> Result<Step, Unread>
 {
     let (word, rest) = word_at(rest)?;
     if is_word(word, b"checkpoint") {
-        return checkpoint_at(names, rest);
+        return checkpoint_at(alloc, names, rest);
     }
     if is_word(word, b"dump") {
         return dump_at(alloc, rest);
@@ -119,13 +119,13 @@ fn fits_step(names: &NameList, step: &Step) -> bool
 {
     match step {
         Step::Round { .. } => false,
-        Step::Checkpoint { reply } => fits_checkpoint_reply(names, reply),
+        Step::Checkpoint { reply } => fits_checkpoint_reply(names, reply.reply()),
         Step::Dump {
             what,
             at,
             length,
             reply,
-        } => fits_dump(*what, *at, *length) && fits_dump_reply(reply),
+        } => fits_dump(*what, *at, *length) && fits_dump_reply(reply.reply()),
     }
 }
 

@@ -3,6 +3,7 @@
 
 mod growing;
 mod law;
+mod multi_history;
 mod naming;
 mod read;
 mod sharing;

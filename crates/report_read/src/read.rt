@@ -78,8 +78,9 @@ pub fn read_report(alloc: Global, bytes: &[u8]) -> Result<Report, ReadRefusal>
             line: count as u64 + 1,
         });
     }
+    let lives = told.lives.finish(alloc);
     Ok(Report {
         names: told.names,
-        lives: told.lives,
+        lives,
     })
 }

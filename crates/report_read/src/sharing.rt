@@ -41,8 +41,8 @@ fn shared_with(lines: &[KeptLine], lists: SharedSnap) -> Result<SharedSnap, Memo
     Ok(lists)
 }
 
-/// The same line. Where it tells what a snapshot holds, it shares that with one of the last lines that tells the same: a
-/// session often takes one snapshot after another while others run.
+/// The same line. Where it tells what a snapshot holds, it shares that with one of the last lines that tells the same:
+/// a session often takes one snapshot after another while others run.
 pub fn shared(lines: &[KeptLine], line: Line) -> Result<Line, Memory>
     ensures { IfOk result (λ l. l ≡ line) }
 {

@@ -6,6 +6,7 @@ ghost use Rattle.report_read.specs.Taking.{AreFew, IsRefused, IsTaken};
 ghost use Rattle.report_read.specs.declared.told.Stage.TheVariants as stages;
 
 use crate::growing::Growing;
+use crate::multi_history::MultiHistory;
 use crate::naming::note;
 use crate::steps::take_step;
 use crate::told::{Stage, Told};
@@ -17,7 +18,7 @@ use report_lines::{
 use report_text::Text;
 use report_words::Unread;
 use std::alloc::Global;
-use tx_model::{Event, How, IdList, Life, LifeReport, Memory, MultiEvent, RecList};
+use tx_model::{Event, How, IdList, Life, LifeReport, Memory, MultiEvent, Rec, RecList};
 
 fn take_life(alloc: Global, out: &mut Text, told: &mut Told, line: &[u8]) -> Result<(), Unread>
     requires stage { told.old.stage ≡ stages.Between }
@@ -54,7 +55,7 @@ fn take_event(alloc: Global, out: &mut Text, told: &mut Told, line: &[u8]) -> Re
 {
     if is_multis(&line[1..]) {
         told.stage = Stage::Multis;
-        told.multis = Growing::new(alloc);
+        told.multis = MultiHistory::new(alloc);
         return Ok(());
     }
     let name = second_word(&line[..line.len() - 1])?;
@@ -131,6 +132,13 @@ fn next_number(told: &Told) -> Option<u64>
     told.start.from.checked_add(told.recs.items().len() as u64)
 }
 
+fn add_record(told: &mut Told, rec: Rec) -> Result<(), Memory>
+    ensures ok { OnOk result (told.new ≡ record told.old { recs = told.old.recs ++ rec ∷ [] }) }
+{
+    let rec = told.multis.shared(rec)?;
+    told.recs.push(rec)
+}
+
 fn take_record(alloc: Global, out: &mut Text, told: &mut Told, line: &[u8]) -> Result<(), Unread>
     requires stage { told.old.stage ≡ stages.Log }
     requires some { 1 ≤ length line.now }
@@ -151,7 +159,7 @@ fn take_record(alloc: Global, out: &mut Text, told: &mut Told, line: &[u8]) -> R
         None => Err(Unread::Form),
         Some(number) => {
             let rec = read_record(alloc, out, number, line)?;
-            told.recs.push(rec)?;
+            add_record(told, rec)?;
             Ok(())
         }
     }

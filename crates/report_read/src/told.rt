@@ -5,9 +5,10 @@ ghost use Rattle.report_read.specs.Item as items;
 ghost use Rattle.report_read.specs.Reports.{nothing_told};
 
 use crate::growing::Growing;
+use crate::multi_history::MultiHistory;
 use report_lines::{LogHead, Start};
 use std::alloc::Global;
-use tx_model::{Counters, Event, KeptLine, LifeList, MultiEvent, NameList, Rec, Sequence, Step};
+use tx_model::{Counters, Event, KeptLine, LifeReport, NameList, Rec, Sequence, Step};
 
 /// What may follow.
 #[derive(Clone, Copy, PartialEq, Eq)]
@@ -38,7 +39,7 @@ pub struct Told {
     pub stage: Stage,
     /// The sessions' names, in the order of their first places.
     pub names: NameList,
-    pub lives: LifeList,
+    pub lives: Growing<LifeReport>,
     pub start: Start,
     /// The steps that are complete.
     pub steps: Growing<Step>,
@@ -53,7 +54,7 @@ pub struct Told {
     /// The sessions that had commands in the round, by their first.
     pub spoken: Sequence<u32>,
     pub events: Growing<Event>,
-    pub multis: Growing<MultiEvent>,
+    pub multis: MultiHistory,
     pub log: LogHead,
     pub recs: Growing<Rec>,
 }
@@ -67,7 +68,7 @@ impl Told {
         Told {
             stage: Stage::Between,
             names: NameList::new(alloc),
-            lives: LifeList::new(alloc),
+            lives: Growing::new(alloc),
             start: Start {
                 from: 0,
                 base: Counters::of_new_log(),
@@ -79,7 +80,7 @@ impl Told {
             speaker: None,
             spoken: Sequence::new(alloc),
             events: Growing::new(alloc),
-            multis: Growing::new(alloc),
+            multis: MultiHistory::new(alloc),
             log: LogHead { flushed: 0, end: 0 },
             recs: Growing::new(alloc),
         }

@@ -144,13 +144,13 @@ pub fn put_step(out: &mut Text, names: &NameList, step: &Step) -> Result<(), Mem
             put_round_line(out, *number)?;
             put_lines(out, names, lines.items())
         }
-        Step::Checkpoint { reply } => put_checkpoint(out, names, reply),
+        Step::Checkpoint { reply } => put_checkpoint(out, names, reply.reply()),
         Step::Dump {
             what,
             at,
             length,
             reply,
-        } => put_dump(out, names, what, *at, *length, reply),
+        } => put_dump(out, names, what, *at, *length, reply.reply()),
     }
 }
 

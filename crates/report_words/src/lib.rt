@@ -18,7 +18,7 @@ pub use fits::{
     members_fit, multi_fits, pairs_fit,
 };
 pub use life::{counters_at, snap_at};
-pub use list::{full_multi, named_at, read_ids, read_list};
+pub use list::{count_of, full_multi, named_at, read_ids, read_list};
 pub use member::{read_members, read_pairs, read_verdicts};
 pub use names::{by_at, name_place, name_place_near};
 pub use piece::small;

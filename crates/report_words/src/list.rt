@@ -27,6 +27,11 @@ pub fn full_multi(number: u64) -> Result<FullMulti, Unread>
     }
 }
 
+/// How often the byte stands in these words, so that a list of what it stands before takes no more room than it needs.
+pub fn count_of(rest: &[u8], byte: u8) -> usize {
+    rest.iter().filter(|b| **b == byte).count()
+}
+
 /// The ids at the front are added. What is returned begins behind them.
 #[tactic(auto, using(crate::proofs::Ids::number_none, crate::proofs::Ids::id_none, crate::proofs::Ids::id_some, crate::proofs::Ids::shorter))]
 pub fn read_ids<'a>(ids: &mut IdList, rest: &'a [u8]) -> Result<&'a [u8], Memory>

@@ -6,7 +6,7 @@ ghost use Rattle.report_words.specs.Members.{until_arrow};
 ghost use Rattle.report_words.specs.Replies.{kind_of, warn_at, wrote_at, multi_reply_at, horizon_at, ok_at, is_answer, look_in, status_in, did_in, answer_in, reply_at, pending_at, checkpoint_reply_at, byte_of, hex_value, bytes_at, cut_at, dump_reply_at};
 
 use crate::life::snap_at;
-use crate::list::{full_multi, read_list};
+use crate::list::{count_of, full_multi, read_list};
 use crate::member::read_verdicts;
 use crate::names::name_place;
 use crate::piece::small;
@@ -71,7 +71,7 @@ fn warn_at(rest: &[u8]) -> bool
 fn wrote_at(alloc: Global, rest: &[u8]) -> Result<Reply, Unread>
     ensures { Gives (λ x. x) result (wrote_at (behind rest.now)) }
 {
-    let mut ids = IdList::new(alloc);
+    let mut ids = IdList::with_room(alloc, count_of(rest, b' '))?;
     let rest = read_list(&mut ids, rest)?;
     let warn = warn_at(rest);
     Ok(Reply::Wrote {
@@ -118,7 +118,7 @@ fn ok_at(alloc: Global, kind: Kind, rest: &[u8]) -> Result<Reply, Unread>
         }
         Kind::Multi => multi_reply_at(rest),
         Kind::Members => {
-            let mut verdicts = VerdictList::new(alloc);
+            let mut verdicts = VerdictList::with_room(alloc, count_of(rest, b':') / 2)?;
             let _rest = read_verdicts(&mut verdicts, rest)?;
             Ok(Reply::Verdicts { verdicts })
         }

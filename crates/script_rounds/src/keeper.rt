@@ -2,9 +2,10 @@
 ghost use Rattle.std.specs.Prelude.{◌≡◌, ℕ, List, [], ◌∷◌, ◌++◌, OnOk};
 ghost use Rattle.tx_model.specs.declared.report.Line.{Line};
 ghost use Rattle.tx_model.specs.declared.report.Step.{Step as Told};
+ghost use Rattle.tx_model.specs.declared.report.Step.TheVariants as steps;
 
 use std::alloc::Global;
-use tx_model::{By, Command, Memory, NameList, Reply, Step};
+use tx_model::{BoxedReply, By, Command, DumpOf, Memory, NameList, Reply, Step};
 
 /// What is kept of the lines of a run while it goes on, as their text or how many there are. In a round each session
 /// has a keeper of its own, which then joins that of the run. After want of memory it isn't said what is kept.
@@ -69,3 +70,39 @@ pub fn keeper_laws<K: LineKeeper>(_names: &NameList)
     ensures join { (kept : K) (lines : List Line)
         → K.joined kept (K.with_lines _names.now K.nothing lines) ≡ K.with_lines _names.now kept lines }
 {}
+
+/// Keeps a checkpoint that was answered so.
+pub fn keep_checkpoint<K: LineKeeper>(
+    alloc: Global,
+    names: &NameList,
+    reply: Reply,
+    kept: &mut K,
+) -> Result<(), Memory>
+    ensures { OnOk result (kept.new ≡ K.with_step names.now kept.old (steps.Checkpoint reply)) }
+{
+    let step = Step::Checkpoint {
+        reply: BoxedReply::of(alloc, reply)?,
+    };
+    kept.add_step(names, &step)
+}
+
+/// Keeps a dump that was answered so.
+pub fn keep_dump<K: LineKeeper>(
+    alloc: Global,
+    names: &NameList,
+    what: DumpOf,
+    at: u64,
+    length: u32,
+    reply: Reply,
+    kept: &mut K,
+) -> Result<(), Memory>
+    ensures { OnOk result (kept.new ≡ K.with_step names.now kept.old (steps.Dump what at length reply)) }
+{
+    let step = Step::Dump {
+        what,
+        at,
+        length,
+        reply: BoxedReply::of(alloc, reply)?,
+    };
+    kept.add_step(names, &step)
+}

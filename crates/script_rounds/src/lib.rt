@@ -18,7 +18,7 @@ mod told;
 mod turns;
 mod woven;
 
-pub use keeper::{LineKeeper, keeper_laws};
+pub use keeper::{LineKeeper, keep_checkpoint, keep_dump, keeper_laws};
 pub use life_text::{LifeText, have_full_multis, put_life, whole_text};
 pub use places::PlacesLeft;
 pub use plan::{Plan, SparePlan};

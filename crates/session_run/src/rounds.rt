@@ -21,12 +21,14 @@ use engine_life::new_sessions;
 use engine_parts::{EngineLaw, Gate, Session};
 use hall::Hall;
 use host_calls::{checkpoint, show};
-use script_rounds::{LineKeeper, Plan, RoundThreads, SparePlan, next_round};
+use script_rounds::{
+    LineKeeper, Plan, RoundThreads, SparePlan, keep_checkpoint, keep_dump, next_round,
+};
 use session_lang::{Between, Dump, Items};
 use std::alloc::Global;
 use std::sync::Wait;
 use std::thread::Threads;
-use tx_model::{Memory, NameList, Step};
+use tx_model::{Memory, NameList};
 
 /// Runs a round that has commands, behind so many rounds, and keeps it.
 fn run_numbered<K: LineKeeper + Send + Drop, L: LogDisk + Send + Sync, P: PageDisk + Send + Sync>(
@@ -125,13 +127,7 @@ fn show_dump<R: Wait, K: LineKeeper, L: LogDisk, P: PageDisk>(
         (asked.dump dump.what dump.at dump.length ∷ []) host.old host.new _sessions.now kept.old kept.new) }
 {
     let reply = show(rt, alloc, hall, host, dump)?;
-    let step = Step::Dump {
-        what: dump.what,
-        at: dump.at,
-        length: dump.length,
-        reply,
-    };
-    kept.add_step(names, &step)
+    keep_dump(alloc, names, dump.what, dump.at, dump.length, reply, kept)
 }
 
 /// Makes a checkpoint, and keeps what it was answered. The sessions are all home.
@@ -151,8 +147,7 @@ fn make_checkpoint<R: Wait, K: LineKeeper, L: LogDisk, P: PageDisk>(
         sessions.now kept.old kept.new) }
 {
     let reply = checkpoint(rt, alloc, hall, host, sessions);
-    let step = Step::Checkpoint { reply };
-    kept.add_step(names, &step)
+    keep_checkpoint(alloc, names, reply, kept)
 }
 
 /// Answers what the item at this place asks for between two rounds, if it does, and keeps it.

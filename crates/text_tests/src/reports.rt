@@ -7,8 +7,8 @@ use tx_events::{
     Name, Rec, RecList, Refusal, Sequence, SharedCounters, Xid,
 };
 use tx_model::{
-    Command, DumpOf, How, KeptLine, Life, LifeReport, Line, NameList, Pair, Reply, Report, Step,
-    StepList,
+    BoxedReply, Command, DumpOf, How, KeptLine, Life, LifeReport, Line, NameList, Pair, Reply,
+    Report, Step, StepList,
 };
 
 fn first_counters(rt: &impl Abort) -> Counters {
@@ -90,27 +90,33 @@ fn round(rt: &(impl Abort + AllocGlobal)) -> Step {
     Step::Round { number: 1, lines }
 }
 
+fn boxed(rt: &(impl Abort + AllocGlobal), reply: Reply) -> BoxedReply {
+    BoxedReply::of(rt.alloc(), reply).expect(rt, "memory")
+}
+
 fn steps(rt: &(impl Abort + AllocGlobal)) -> StepList {
+    let pending = Reply::Pending {
+        session: 0,
+        refusal: Refusal::CommitPending,
+    };
     let checkpoint = Step::Checkpoint {
-        reply: Reply::Pending {
-            session: 0,
-            refusal: Refusal::CommitPending,
-        },
+        reply: boxed(rt, pending),
     };
     let bytes = list(rt, [0x40, 0x06, 0x00, 0xaf]);
     let states = Step::Dump {
         what: DumpOf::Xact { page: 0 },
         at: 0,
         length: 4,
-        reply: Reply::Bytes { bytes },
+        reply: boxed(rt, Reply::Bytes { bytes }),
+    };
+    let failed = Reply::Refused {
+        refusal: Refusal::LogFault,
     };
     let log = Step::Dump {
         what: DumpOf::Log,
         at: 62,
         length: 8,
-        reply: Reply::Refused {
-            refusal: Refusal::LogFault,
-        },
+        reply: boxed(rt, failed),
     };
     list(rt, [round(rt), checkpoint, states, log])
 }

@@ -43,7 +43,7 @@ pub use full_xid::{FullXid, near};
 pub use limits::Limits;
 pub use listed::is_listed;
 pub use members::member_stop;
-pub use multi::{Member, MemberList, Mode, MultiEvent, MultiEventList};
+pub use multi::{Member, MemberList, Mode, MultiEvent, MultiEventList, same_members};
 pub use multi_limits::MultiLimits;
 pub use name::{Name, is_name};
 pub use next_id::check_id;

@@ -1,5 +1,5 @@
 //! Multixacts: modes, members, and what happens under their lock.
-ghost use Rattle.std.specs.Prelude.{◌≡◌, ◌≤◌, ◌↔◌, Some};
+ghost use Rattle.std.specs.Prelude.{◌≡◌, ◌≤◌, ◌↔◌, IsTrue, Some};
 ghost use Rattle.tx_events.specs.declared.multi.Mode.{Mode};
 ghost use Rattle.tx_events.specs.Modes.{mode_number, mode_of};
 ghost use Rattle.tx_events.specs.Multis.{multi_by};
@@ -60,6 +60,27 @@ impl Mode {
 pub struct Member {
     pub id: FullXid,
     pub mode: Mode,
+}
+
+fn is_same(a: &Member, b: &Member) -> bool
+    ensures { IsTrue result ↔ (a.now ≡ b.now) }
+{
+    a.id == b.id && a.mode == b.mode
+}
+
+/// Whether these are the same members in the same order.
+pub fn same_members(a: &[Member], b: &[Member]) -> bool
+    ensures { IsTrue result ↔ (a.now ≡ b.now) }
+{
+    if a.len() != b.len() {
+        return false;
+    }
+    for (place, member) in a.iter().enumerate() {
+        if !is_same(member, &b[place]) {
+            return false;
+        }
+    }
+    true
 }
 
 /// The members of a multixact, in order, which copies share.

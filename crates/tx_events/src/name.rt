@@ -3,7 +3,6 @@ ghost use Rattle.std.specs.Prelude.{◌≡◌, ◌≤◌, true, length, take};
 ghost use Rattle.std.specs.List.{list_all};
 ghost use Rattle.tx_events.specs.Names.{is_letter, is_name_byte, is_name};
 
-use crate::sequence::{Copied, Memory};
 use std::alloc::AllocError;
 use std::marker::Model;
 
@@ -106,12 +105,6 @@ impl Name {
             bytes: self.bytes,
             count: self.count,
         }
-    }
-}
-
-impl Copied for Name {
-    fn copy(&self) -> Result<Self, Memory> {
-        Ok(self.same())
     }
 }
 

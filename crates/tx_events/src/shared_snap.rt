@@ -59,12 +59,7 @@ impl SharedSnap {
         ensures { IfOk result (λ s. s ≡ holds) }
     {
         if holds.xip.items().is_empty() && holds.subxip.items().is_empty() && !holds.overflowed {
-            return Ok(SharedSnap {
-                held: Held::Idle {
-                    xmin: holds.xmin,
-                    xmax: holds.xmax,
-                },
-            });
+            return Ok(SharedSnap::idle(holds.xmin, holds.xmax));
         }
         Ok(SharedSnap {
             held: Held::Lists {

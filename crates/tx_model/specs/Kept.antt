@@ -1,10 +1,10 @@
 -- Commands and replies, by how a report keeps them.
 use Rattle.std.specs.Prelude.{◌∷◌, []}
-use Rattle.tx_events.specs.SharedSnaps.{idle_data}
 use Rattle.tx_model.specs.declared.command.Command.{Command}
 use Rattle.tx_model.specs.declared.command.Command.TheVariants as commands
 use Rattle.tx_model.specs.declared.reply.Reply.{Reply}
 use Rattle.tx_model.specs.declared.reply.Reply.TheVariants as replies
+use Rattle.tx_model.specs.Brief.{refusal_of}
 use Rattle.tx_model.specs.declared.kept_command.KeptCommand.{KeptCommand}
 use Rattle.tx_model.specs.declared.kept_command.KeptCommand.TheVariants as kept_commands
 use Rattle.tx_model.specs.declared.kept_reply.KeptReply.{KeptReply}
@@ -34,11 +34,7 @@ abbrev pub reply_in : KeptReply → Reply
 reply_in kept_replies.Done = replies.Done
 reply_in (kept_replies.WroteNothing warn) = replies.Wrote warn []
 reply_in (kept_replies.Wrote warn id) = replies.Wrote warn (id ∷ [])
-reply_in (kept_replies.Snapped limit) = replies.Snapped (idle_data limit limit)
-reply_in (kept_replies.Seen visible) = replies.Seen visible
-reply_in (kept_replies.Known status) = replies.Known status
-reply_in (kept_replies.Did did) = replies.Did did
-reply_in (kept_replies.Multi warn offset multi) = replies.Multi multi offset warn
 reply_in (kept_replies.Horizon oldest_xmin) = replies.Horizon oldest_xmin
-reply_in (kept_replies.Refused refusal) = replies.Refused refusal.value
+reply_in (kept_replies.Refused refusal) = replies.Refused (refusal_of refusal)
+reply_in (kept_replies.RefusedLong refusal) = replies.Refused refusal.value
 reply_in (kept_replies.Long reply) = reply.value

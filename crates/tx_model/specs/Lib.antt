@@ -22,3 +22,5 @@ pub mod Rounds
 pub mod Given
 pub mod Kept
 pub mod Looks
+pub mod Brief
+pub mod Exchanged

@@ -3,7 +3,7 @@ ghost use Rattle.std.specs.Prelude.{◌≡◌, [], ◌∷◌};
 
 use std::alloc::AllocError;
 use std::marker::Model;
-use tx_events::{Copied, FullXid, IdList, Memory};
+use tx_events::{FullXid, IdList};
 
 #[derive(Clone, Drop)]
 enum Held {
@@ -49,6 +49,15 @@ impl GivenIds {
         }
     }
 
+    /// Two ids.
+    pub fn two(ids: [FullXid; 2]) -> GivenIds
+        ensures { result ≡ ids }
+    {
+        GivenIds {
+            held: Held::Two { ids },
+        }
+    }
+
     /// These. Takes no memory.
     pub fn of(ids: IdList) -> GivenIds
         ensures { result ≡ ids }
@@ -56,11 +65,7 @@ impl GivenIds {
         match ids.items() {
             [] => GivenIds::none(),
             [id] => GivenIds::one(*id),
-            [first, second] => GivenIds {
-                held: Held::Two {
-                    ids: [*first, *second],
-                },
-            },
+            [first, second] => GivenIds::two([*first, *second]),
             _ => GivenIds {
                 held: Held::Listed { ids },
             },
@@ -77,12 +82,6 @@ impl GivenIds {
             Held::Two { ids } => ids,
             Held::Listed { ids } => ids.items(),
         }
-    }
-}
-
-impl Copied for GivenIds {
-    fn copy(&self) -> Result<Self, Memory> {
-        Ok(self.clone()?)
     }
 }
 

@@ -56,7 +56,25 @@ impl<'a> Model for CommandLook<'a> {
     ghost view = { λ l. command_seen l.looked };
 }
 
-impl CommandLook<'_> {
+impl<'a> CommandLook<'a> {
+    /// A command made for this look.
+    pub(crate) fn made(command: Command) -> CommandLook<'a>
+        ensures { result ≡ command }
+    {
+        CommandLook {
+            looked: Looked::Made { command },
+        }
+    }
+
+    /// A command that is kept.
+    pub(crate) fn lent(command: &'a Command) -> CommandLook<'a>
+        ensures { result ≡ command.now }
+    {
+        CommandLook {
+            looked: Looked::Lent { command },
+        }
+    }
+
     /// The command.
     pub fn command(&self) -> &Command
         ensures { result.now ≡ self.now }
@@ -78,13 +96,15 @@ impl CommandLook<'_> {
     }
 }
 
-fn is_commit(command: &Command) -> bool
+/// Whether the command commits.
+pub(crate) fn is_commit(command: &Command) -> bool
     ensures { IsTrue result ↔ (command.now ≡ commands.Commit) }
 {
     matches!(command, Command::Commit)
 }
 
-fn is_abort(command: &Command) -> bool
+/// Whether it aborts.
+pub(crate) fn is_abort(command: &Command) -> bool
     ensures { IsTrue result ↔ (command.now ≡ commands.Abort) }
 {
     matches!(command, Command::Abort)
@@ -189,14 +209,8 @@ impl KeptCommand {
             },
             KeptCommand::Freeze { oldest } => Command::Freeze { oldest: *oldest },
             KeptCommand::MultiFreeze { multi } => Command::MultiFreeze { multi: *multi },
-            KeptCommand::Long { command } => {
-                return CommandLook {
-                    looked: Looked::Lent { command },
-                };
-            }
+            KeptCommand::Long { command } => return CommandLook::lent(command),
         };
-        CommandLook {
-            looked: Looked::Made { command },
-        }
+        CommandLook::made(command)
     }
 }

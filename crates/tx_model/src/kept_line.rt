@@ -2,35 +2,35 @@
 ghost use Rattle.std.specs.Prelude.{◌≡◌, ◌↔◌, IfOk, IsTrue};
 ghost use Rattle.tx_model.specs.declared.command.Command.TheVariants as commands;
 
-use crate::kept_command::{CommandLook, KeptCommand};
-use crate::kept_reply::{KeptReply, ReplyLook};
+use crate::exchange::Exchange;
+use crate::kept_command::CommandLook;
+use crate::kept_reply::ReplyLook;
 use crate::report::Line;
 use std::alloc::Global;
 use std::marker::Model;
 use tx_events::{By, Memory};
 
-/// A line as a report keeps it, in half the bytes of a `Line`. No report that is read has so many lines that the number of
-/// a command wouldn't fit. A contract sees the `Line`.
+/// A line as a report keeps it, in a third of the bytes of a `Line`. No report that is read has so many lines that the
+/// number of a command wouldn't fit. A contract sees the `Line`.
 #[derive(Drop)]
 pub struct KeptLine {
     session: u32,
     number: u32,
-    command: KeptCommand,
-    reply: KeptReply,
+    exchange: Exchange,
 }
 
-const _: () = prove!(size_of::<KeptLine>() == 40);
+const _: () = prove!(size_of::<KeptLine>() == 32);
 
 impl Model for KeptLine {
     ghost use Rattle.tx_model.specs.declared.report.Line.{Line};
-    ghost use Rattle.tx_model.specs.Kept.{command_in, reply_in};
+    ghost use Rattle.tx_model.specs.Exchanged.{command_said, reply_said};
 
     ghost Value = { Line };
 
     ghost view = { λ k. record {
       by = record { session = k.session; command = k.number };
-      command = command_in k.command;
-      reply = reply_in k.reply;
+      command = command_said k.exchange;
+      reply = reply_said k.exchange;
     } };
 }
 
@@ -44,13 +44,10 @@ impl KeptLine {
             Ok(number) => number,
             Err(_e) => return Err(Memory),
         };
-        let command = KeptCommand::of(alloc, command)?;
-        let reply = KeptReply::of(alloc, reply)?;
         Ok(KeptLine {
             session: by.session,
             number,
-            command,
-            reply,
+            exchange: Exchange::of(alloc, command, reply)?,
         })
     }
 
@@ -68,36 +65,36 @@ impl KeptLine {
     pub fn is_commit(&self) -> bool
         ensures { IsTrue result ↔ (self.now.command ≡ commands.Commit) }
     {
-        self.command.is_commit()
+        self.exchange.is_commit()
     }
 
     /// Whether it aborts.
     pub fn is_abort(&self) -> bool
         ensures { IsTrue result ↔ (self.now.command ≡ commands.Abort) }
     {
-        self.command.is_abort()
+        self.exchange.is_abort()
     }
 
     /// The command, to be looked at.
     pub fn command(&self) -> CommandLook<'_>
         ensures { result ≡ self.now.command }
     {
-        self.command.look()
+        self.exchange.command()
     }
 
     /// The reply, to be looked at.
     pub fn reply(&self) -> ReplyLook<'_>
         ensures { result ≡ self.now.reply }
     {
-        self.reply.look()
+        self.exchange.reply()
     }
 
     /// The line itself. Takes memory only where the command or the reply is kept in a block.
     pub fn line(&self) -> Result<Line, Memory>
         ensures { IfOk result (λ l. l ≡ self.now) }
     {
-        let command = self.command.look().owned()?;
-        let reply = self.reply.look().owned()?;
+        let command = self.exchange.command().owned()?;
+        let reply = self.exchange.reply().owned()?;
         Ok(Line {
             by: self.by(),
             command,

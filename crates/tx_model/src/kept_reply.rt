@@ -3,53 +3,28 @@ ghost use Rattle.std.specs.Prelude.{◌≡◌, IfOk, IfSome};
 ghost use Rattle.tx_model.specs.declared.reply.Reply.TheVariants as replies;
 ghost use Rattle.tx_model.specs.Kept.{reply_in};
 
+use crate::brief::WordRefusal;
 use crate::given_ids::GivenIds;
-use crate::reply::{Reply, Status};
+use crate::reply::Reply;
 use std::alloc::Global;
 use std::marker::Model;
-use tx_events::{Copied, FullMulti, FullXid, Memory, Refusal, SharedSnap};
+use tx_events::{Copied, FullXid, Memory, Refusal};
 
-/// A reply in 16 bytes.
+/// The reply to a command of one word, in 16 bytes.
 #[derive(Drop)]
 pub(crate) enum KeptReply {
     Done,
     /// No id was given.
-    WroteNothing {
-        warn: bool,
-    },
+    WroteNothing { warn: bool },
     /// One id was given.
-    Wrote {
-        warn: bool,
-        id: FullXid,
-    },
-    /// The snapshot was taken where nothing ran, and this is its xmin and its xmax.
-    Snapped {
-        limit: FullXid,
-    },
-    Seen {
-        visible: bool,
-    },
-    Known {
-        status: Status,
-    },
-    Did {
-        yes: bool,
-    },
-    Multi {
-        warn: bool,
-        offset: u32,
-        multi: FullMulti,
-    },
-    Horizon {
-        oldest_xmin: FullXid,
-    },
-    Refused {
-        refusal: Box<Refusal>,
-    },
-    /// One with a list, or of a checkpoint or a dump.
-    Long {
-        reply: Box<Reply>,
-    },
+    Wrote { warn: bool, id: FullXid },
+    Horizon { oldest_xmin: FullXid },
+    /// A refusal of one word.
+    Refused { refusal: WordRefusal },
+    /// Any other one.
+    RefusedLong { refusal: Box<Refusal> },
+    /// Any other.
+    Long { reply: Box<Reply> },
 }
 
 const _: () = prove!(size_of::<KeptReply>() == 16);
@@ -75,7 +50,25 @@ impl<'a> Model for ReplyLook<'a> {
     ghost view = { λ l. reply_seen l.looked };
 }
 
-impl ReplyLook<'_> {
+impl<'a> ReplyLook<'a> {
+    /// A reply made for this look.
+    pub(crate) fn made(reply: Reply) -> ReplyLook<'a>
+        ensures { result ≡ reply }
+    {
+        ReplyLook {
+            looked: Looked::Made { reply },
+        }
+    }
+
+    /// A reply that is kept.
+    pub(crate) fn lent(reply: &'a Reply) -> ReplyLook<'a>
+        ensures { result ≡ reply.now }
+    {
+        ReplyLook {
+            looked: Looked::Lent { reply },
+        }
+    }
+
     /// The reply.
     pub fn reply(&self) -> &Reply
         ensures { result.now ≡ self.now }
@@ -107,30 +100,6 @@ fn short_wrote(warn: bool, ids: &GivenIds) -> Option<KeptReply>
     }
 }
 
-fn short_snapped(lists: &SharedSnap) -> Option<KeptReply>
-    ensures { IfSome result (λ r. reply_in r ≡ replies.Snapped lists.now) }
-{
-    if lists.is_idle() && lists.xmin() == lists.xmax() {
-        return Some(KeptReply::Snapped {
-            limit: lists.xmax(),
-        });
-    }
-    None
-}
-
-fn short_multi(multi: FullMulti, offset: u64, warn: bool) -> Option<KeptReply>
-    ensures { IfSome result (λ r. reply_in r ≡ replies.Multi multi offset warn) }
-{
-    match u32::try_from(offset) {
-        Ok(offset) => Some(KeptReply::Multi {
-            warn,
-            offset,
-            multi,
-        }),
-        Err(_e) => None,
-    }
-}
-
 /// The reply in place, if it has room.
 fn short(reply: &Reply) -> Option<KeptReply>
     ensures { IfSome result (λ r. reply_in r ≡ reply.now) }
@@ -138,18 +107,13 @@ fn short(reply: &Reply) -> Option<KeptReply>
     match reply {
         Reply::Done => Some(KeptReply::Done),
         Reply::Wrote { warn, ids } => short_wrote(*warn, ids),
-        Reply::Snapped { lists } => short_snapped(lists),
-        Reply::Seen { visible } => Some(KeptReply::Seen { visible: *visible }),
-        Reply::Known { status } => Some(KeptReply::Known { status: *status }),
-        Reply::Did { yes } => Some(KeptReply::Did { yes: *yes }),
-        Reply::Multi {
-            multi,
-            offset,
-            warn,
-        } => short_multi(*multi, *offset, *warn),
         Reply::Horizon { oldest_xmin } => Some(KeptReply::Horizon {
             oldest_xmin: *oldest_xmin,
         }),
+        Reply::Refused { refusal } => match WordRefusal::of(*refusal) {
+            Some(refusal) => Some(KeptReply::Refused { refusal }),
+            None => None,
+        },
         _ => None,
     }
 }
@@ -159,7 +123,7 @@ fn long(alloc: Global, reply: Reply) -> Result<KeptReply, Memory>
     ensures { IfOk result (λ r. reply_in r ≡ reply) }
 {
     if let Reply::Refused { refusal } = &reply {
-        return Ok(KeptReply::Refused {
+        return Ok(KeptReply::RefusedLong {
             refusal: Box::new(alloc, *refusal)?,
         });
     }
@@ -169,7 +133,7 @@ fn long(alloc: Global, reply: Reply) -> Result<KeptReply, Memory>
 }
 
 impl KeptReply {
-    /// This reply. Takes memory where it has a list or is a refusal.
+    /// This reply. Takes memory where it has no room in place.
     pub(crate) fn of(alloc: Global, reply: Reply) -> Result<KeptReply, Memory>
         ensures { IfOk result (λ r. reply_in r ≡ reply) }
     {
@@ -193,33 +157,15 @@ impl KeptReply {
                 warn: *warn,
                 ids: GivenIds::one(*id),
             },
-            KeptReply::Snapped { limit } => Reply::Snapped {
-                lists: SharedSnap::idle(*limit, *limit),
-            },
-            KeptReply::Seen { visible } => Reply::Seen { visible: *visible },
-            KeptReply::Known { status } => Reply::Known { status: *status },
-            KeptReply::Did { yes } => Reply::Did { yes: *yes },
-            KeptReply::Multi {
-                warn,
-                offset,
-                multi,
-            } => Reply::Multi {
-                multi: *multi,
-                offset: u64::from(*offset),
-                warn: *warn,
-            },
             KeptReply::Horizon { oldest_xmin } => Reply::Horizon {
                 oldest_xmin: *oldest_xmin,
             },
-            KeptReply::Refused { refusal } => Reply::Refused { refusal: **refusal },
-            KeptReply::Long { reply } => {
-                return ReplyLook {
-                    looked: Looked::Lent { reply },
-                };
-            }
+            KeptReply::Refused { refusal } => Reply::Refused {
+                refusal: refusal.refusal(),
+            },
+            KeptReply::RefusedLong { refusal } => Reply::Refused { refusal: **refusal },
+            KeptReply::Long { reply } => return ReplyLook::lent(reply),
         };
-        ReplyLook {
-            looked: Looked::Made { reply },
-        }
+        ReplyLook::made(reply)
     }
 }

@@ -1,4 +1,5 @@
 //! What a run reports, life by life.
+use crate::boxed_reply::BoxedReply;
 use crate::command::Command;
 use crate::kept_line::KeptLine;
 use crate::reply::Reply;
@@ -43,16 +44,18 @@ pub enum Step {
     },
     /// A checkpoint.
     Checkpoint {
-        reply: Reply,
+        reply: BoxedReply,
     },
     /// `length` bytes from place `at` on.
     Dump {
         what: DumpOf,
         at: u64,
         length: u32,
-        reply: Reply,
+        reply: BoxedReply,
     },
 }
+
+const _: () = prove!(size_of::<Step>() == 40);
 
 /// The steps of a life, in order.
 pub type StepList = Sequence<Step>;

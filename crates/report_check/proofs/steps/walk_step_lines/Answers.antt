@@ -1,6 +1,7 @@
 use Rattle.std.proofs.Common.{◌≡◌, ◌+◌, List, take, ap, subst, sym, ◌∙◌}
 use Rattle.std.specs.List.{flat_map}
 use Rattle.std.proofs.lemmas.Result.{IfOk-weaker}
+use Rattle.tx_model.specs.declared.reply.Reply.{Reply}
 use Rattle.tx_model.specs.declared.report.Line.{Line}
 use Rattle.tx_model.specs.declared.report.Step.{Step}
 use Rattle.tx_model.specs.declared.report.Step.TheVariants as steps
@@ -44,8 +45,8 @@ is_lawful_dump-requires g c =
 
 pub returns-in-Checkpoint-clause-walked : goal.returns-in-Checkpoint-clause-walked
 returns-in-Checkpoint-clause-walked g c =
-    let is : g.of.step ≡ steps.Checkpoint c.in-Checkpoint.reply = sym c.requires.1.1.1.1.1.1.0 ∙ c.in-Checkpoint.is in
-    subst (λ (s : Step). IsWalked (step_lines g.of.j (steps_before g.of) s) c.one_line.result) (sym is) (c.one_line.ensures (checkpoint g.of.j (steps_before g.of) c.in-Checkpoint.reply) c.is_lawful_there.ensures)
+    let is : g.of.step ≡ steps.Checkpoint c.reply.result.now = sym c.requires.1.1.1.1.1.1.0 ∙ c.in-Checkpoint.is ∙ ap (λ (r : Reply). steps.Checkpoint r) (sym c.reply.ensures) in
+    subst (λ (s : Step). IsWalked (step_lines g.of.j (steps_before g.of) s) c.one_line.result) (sym is) (c.one_line.ensures (checkpoint g.of.j (steps_before g.of) c.reply.result.now) c.is_lawful_there.ensures)
 
 pub returns-in-Checkpoint-clause-passed : goal.returns-in-Checkpoint-clause-passed
 returns-in-Checkpoint-clause-passed g c =
@@ -56,9 +57,10 @@ returns-in-Checkpoint-clause-passed g c =
 
 pub returns-in-Dump-clause-walked : goal.returns-in-Dump-clause-walked
 returns-in-Dump-clause-walked g c =
-    let is : g.of.step ≡ steps.Dump c.in-Dump.what c.in-Dump.at c.in-Dump.length c.in-Dump.reply = sym c.requires.1.1.1.1.1.1.0 ∙ c.in-Dump.is in
+    let d = c.in-Dump in
+    let is : g.of.step ≡ steps.Dump d.what d.at d.length c.reply-in-Dump.result.now = sym c.requires.1.1.1.1.1.1.0 ∙ d.is ∙ ap (λ (r : Reply). steps.Dump d.what d.at d.length r) (sym c.reply-in-Dump.ensures) in
     subst (λ (s : Step). IsWalked (step_lines g.of.j (steps_before g.of) s) c.one_line-in-Dump.result) (sym is)
-    (c.one_line-in-Dump.ensures (dump g.of.j (steps_before g.of) c.in-Dump.what c.in-Dump.at c.in-Dump.length c.in-Dump.reply) c.is_lawful_dump.ensures)
+    (c.one_line-in-Dump.ensures (dump g.of.j (steps_before g.of) d.what d.at d.length c.reply-in-Dump.result.now) c.is_lawful_dump.ensures)
 
 pub returns-in-Dump-clause-passed : goal.returns-in-Dump-clause-passed
 returns-in-Dump-clause-passed g c =

@@ -1,5 +1,10 @@
-use Rattle.std.proofs.Common.{◌∙◌, ◌+◌, refl, sym, drop, arith}
+use Rattle.std.proofs.Common.{◌≡◌, ℕ, List, ◌∙◌, ◌+◌, refl, sym, subst, drop, arith}
 use Rattle.std.proofs.lemmas.Bool.{false≢true}
+use Rattle.tx_model.specs.declared.report.LifeReport.{LifeReport}
+use Rattle.tx_model.specs.declared.report.Report.{Report}
+use Rattle.report_text.specs.ReportText.{report_text}
+use Rattle.report_read.specs.Reports.{IsReport}
+use Rattle.report_read.specs.declared.told.Told.{Told}
 use Rattle.report_read.proofs.Reading.{WholeReport, all_read, longer, no_title, not_a_report, one_more, one_report, title_read, title_room, wrong_end, wrong_line}
 use Rattle.report_read.proofs.Standing.{refused}
 use Rattle.report_read.proofs.read.read_report.Goals as goal
@@ -59,14 +64,25 @@ returns-then-not-is_whole-clause-read c =
     let b = i.room in
     not_a_report c.args.bytes.now (c.loop-line.count + 1) (wrong_end c.args.bytes.now c.loop-line.told c.loop-line.rest.now c.loop-line.count (c.loop-line.count + 1) i.so_far (omega arith) refl c.in_default.ensures.none (λ s. longer c.loop-line.rest.now (λ k. false≢true (sym c.if-not-is_whole.true ∙ c.is_whole.ensures.1 (s, k)))))
 
+abbrev report_of : List (List ℕ) → List LifeReport → Report
+report_of names lives = record { names = names; lives = lives }
+
+abbrev IsWhole : List ℕ → Report → Type 0
+IsWhole bytes r = IsReport r × (bytes ≡ report_text r)
+
+-- the lives that are handed on are those that were told
+with_lives : (bytes : List ℕ) (t : Told) (lives : List LifeReport) → lives ≡ t.lives → WholeReport bytes t → IsWhole bytes (report_of t.names lives)
+with_lives bytes t lives e r = subst (λ (k : List LifeReport). IsWhole bytes (report_of t.names k)) (sym e) (r.is, r.text)
+
 pub returns-clause-found : goal.returns-clause-found
 returns-clause-found c =
     let w = c.is_whole.ensures.0 c.if-not-is_whole.false in
-    let r : WholeReport c.args.bytes.now c.loop-line.told = all_read c.args.bytes.now c.loop-line.told c.loop-line.rest.now c.loop-line.count c.loop-line.invariant.so_far w.1 w.0 in
-    (r.is, r.text)
+    let t = c.loop-line.told in
+    with_lives c.args.bytes.now t c.finish-lives.result c.finish-lives.ensures.items (all_read c.args.bytes.now t c.loop-line.rest.now c.loop-line.count c.loop-line.invariant.so_far w.1 w.0)
 
 pub returns-clause-read : goal.returns-clause-read
 returns-clause-read c =
     let w = c.is_whole.ensures.0 c.if-not-is_whole.false in
-    let r : WholeReport c.args.bytes.now c.loop-line.told = all_read c.args.bytes.now c.loop-line.told c.loop-line.rest.now c.loop-line.count c.loop-line.invariant.so_far w.1 w.0 in
-    λ s i e. one_report _ s r.is i (sym r.text ∙ e)
+    let t = c.loop-line.told in
+    let r = with_lives c.args.bytes.now t c.finish-lives.result c.finish-lives.ensures.items (all_read c.args.bytes.now t c.loop-line.rest.now c.loop-line.count c.loop-line.invariant.so_far w.1 w.0) in
+    λ s i e. one_report _ s r.0 i (sym r.1 ∙ e)

@@ -1,4 +1,4 @@
-use Rattle.std.proofs.Common.{List, refl, sym, ap, ◌∙◌, subst, drop, arith}
+use Rattle.std.proofs.Common.{refl, sym, ap, ◌∙◌, subst, drop, arith}
 use Rattle.std.proofs.lemmas.List.{take_rest}
 use Rattle.report_text.specs.ReportText.{end_text}
 use Rattle.report_lines.specs.Texts.{IsLineOf, record_line}
@@ -43,12 +43,12 @@ returns-in_err-rec-in-Some-next_number-clause-refused c =
     (λ h e. none_some {X = How} h (c.in_default.ensures.only h (take_rest l 1 ∙ e)))
     (λ r k i. unread_none {X = Rec} c.in_err-rec-in-Some-next_number.field-0.0 r (sym q ∙ f) (c.in_err-rec-in-Some-next_number.ensures.only r (subst (λ j. IsLineOf (FitsRecord j) (record_line j) (drop 1 l) r) (sym n) i)))))
 
-pub returns-in_ok-push-in-Some-next_number-clause-taken : goal.returns-in_ok-push-in-Some-next_number-clause-taken
-returns-in_ok-push-in-Some-next_number-clause-taken c =
+pub returns-in_ok-add_record-in-Some-next_number-clause-taken : goal.returns-in_ok-add_record-in-Some-next_number-clause-taken
+returns-in_ok-add_record-in-Some-next_number-clause-taken c =
     let t = c.args.told.now in
     let n = c.in-Some-next_number.number in
     let r = c.in_ok-rec-in-Some-next_number.rec in
     let x = items.logged n r in
     let found = c.in_ok-rec-in-Some-next_number.ensures.found in
     plain_taken t x _ (drop 1 c.args.line.now) (ap (may_stand x) c.requires.stage) (refl, c.in-Some-next_number.ensures.some, omega arith, found.fit) found.text refl
-    (ap (λ (rs : List Rec). record t { recs = rs }) c.in_ok-push-in-Some-next_number.ensures.ok)
+    c.in_ok-add_record-in-Some-next_number.ensures.ok

@@ -15,8 +15,8 @@ returns-clause-home g c =
 
 pub returns-clause-ran : goal.returns-clause-ran
 returns-clause-ran g c =
-    on_ok_weaker c.add_step.result (λ put. λ all front r.
+    on_ok_weaker c.keep_checkpoint.result (λ put. λ all front r.
     let e = c.checkpoint-reply.ensures in
     let home = home_still c.args.hall.now c.args.host.now c.checkpoint-reply.new.host c.args.sessions.now c.requires.home e.home e.cluster e.parked in
-    ran_checkpoint g.K.LineKeeper c.args.hall.now c.args.host.now c.checkpoint-reply.new.host c.args.sessions.now c.args.names.now c.checkpoint-reply.result all front c.args.kept.now c.add_step.new.self home e.went e.fault put r)
-    c.add_step.ensures
+    ran_checkpoint g.K.LineKeeper c.args.hall.now c.args.host.now c.checkpoint-reply.new.host c.args.sessions.now c.args.names.now c.checkpoint-reply.result all front c.args.kept.now c.keep_checkpoint.new.kept home e.went e.fault put r)
+    c.keep_checkpoint.ensures

@@ -13,9 +13,9 @@ returns-clause-home g c = home_shown c.args.hall.now c.args.host.now c.show.new.
 
 pub returns-clause-ran : goal.returns-clause-ran
 returns-clause-ran g c =
-    on_ok_weaker c.add_step.result (λ put. λ all front r.
+    on_ok_weaker c.keep_dump.result (λ put. λ all front r.
     let home = home_shown c.args.hall.now c.args.host.now c.show.new.host c.args._sessions.now c.requires.home c.show.ensures.stays in
     let d = c.args.dump in
-    ran_dump g.K.LineKeeper c.args.hall.now c.args.host.now c.show.new.host c.args._sessions.now c.args.names.now d.what d.at d.length c.in_ok-reply.reply all front c.args.kept.now c.add_step.new.self
+    ran_dump g.K.LineKeeper c.args.hall.now c.args.host.now c.show.new.host c.args._sessions.now c.args.names.now d.what d.at d.length c.in_ok-reply.reply all front c.args.kept.now c.keep_dump.new.kept
     c.show.ensures.stays home c.in_ok-reply.ensures.reply put r)
-    c.add_step.ensures
+    c.keep_dump.ensures

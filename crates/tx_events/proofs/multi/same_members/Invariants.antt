@@ -1,5 +1,5 @@
 use Rattle.std.proofs.Common.{◌≡◌, take}
-use Rattle.reply_rules.proofs.in_turn.same_members.Given as goal
+use Rattle.tx_events.proofs.multi.same_members.Given as goal
 
 abbrev pub invariant-loop-place : goal.invariant-loop-place
 invariant-loop-place l = take l.place l.a ≡ take l.place l.b

@@ -45,12 +45,10 @@ pub fn check_first<R: Abort + AllocGlobal>(rt: &R, acts: &[MultiAct], illegal: O
 pub fn places_of<R: Abort + AllocGlobal>(rt: &R, acts: &[(u32, MultiAct)]) -> MultiPlaces {
     let base = counters(rt, NEW_LOG);
     assert!(rt; is_base(&base));
-    let mut places = MultiPlaces::new(rt.alloc(), base, Vec::new(rt.alloc()), 0).expect(
-        rt, "memory",
-    );
+    let mut places = MultiPlaces::new(rt.alloc(), base, &[], 0).expect(rt, "memory");
     for (session, act) in acts {
         let event = multi_event_of(rt, *session, *act);
-        assert!(rt; places.add(&event).expect(rt, "memory"));
+        assert!(rt; places.add(&[], &event).expect(rt, "memory"));
     }
     places
 }

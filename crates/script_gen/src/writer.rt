@@ -55,11 +55,11 @@ impl Writer {
     }
 
     /// Adds a command.
-    fn put(&mut self, session: u8, command: Said<'_>) -> Result<(), Memory>
-        requires { IsInRange (said command) }
-        ensures { OnOk result (Adds self.old self.new self.old.draws.state (run_by session (said command ∷ []))) }
+    fn put(&mut self, session: u8, command: &Said<'_>) -> Result<(), Memory>
+        requires { IsInRange (said command.now) }
+        ensures { OnOk result (Adds self.old self.new self.old.draws.state (run_by session (said command.now ∷ []))) }
     {
-        self.items.push_command(session, &command)
+        self.items.push_command(session, command)
     }
 
     /// Adds a command without arguments.
@@ -67,7 +67,7 @@ impl Writer {
         ensures { OnOk result (Adds self.old self.new self.old.draws.state
             (run_by session (plain_command command ∷ []))) }
     {
-        self.put(session, Said::Plain { command })
+        self.put(session, &Said::Plain { command })
     }
 
     /// Ends the round before each 64th transaction but the first.
@@ -125,9 +125,9 @@ impl Writer {
             (run_by session (look_commands (seen_of number self.old.draws.state)))) }
     {
         let x = 3 + self.draws.below(number + 1);
-        self.put(session, of_snapshot(NamedCommand::Snap, 0))?;
-        self.put(session, of_snapshot(NamedCommand::See, x))?;
-        self.put(session, of_snapshot(NamedCommand::DropSnap, 0))
+        self.put(session, &of_snapshot(NamedCommand::Snap, 0))?;
+        self.put(session, &of_snapshot(NamedCommand::See, x))?;
+        self.put(session, &of_snapshot(NamedCommand::DropSnap, 0))
     }
 
     /// Adds the end of a transaction.

@@ -10,7 +10,10 @@ mod law;
 mod life;
 mod multi;
 mod record;
+mod spelled;
 mod step;
+mod usual;
+mod usual_events;
 
 pub use command::read_line;
 pub use cut::next_line;
@@ -21,3 +24,5 @@ pub use life::{LogHead, Start, read_log_head, read_start};
 pub use multi::read_multi_event;
 pub use record::read_record;
 pub use step::{is_round, read_step};
+pub use usual::usual_line;
+pub use usual_events::{usual_event, usual_record};

@@ -102,19 +102,22 @@ module _ {H K L P : Type 0} {l : logs.Ghosts L} {p : disks.Ghosts P} (keep : kee
     abbrev own : Member K L P l p
     own = record { caller = r.caller; kept = keep.with_lines names keep.nothing r.lines; lines = r.lines; lost = lost }
 
+    one : RunsRound keep hall first.cluster.banks names round (own.lost ≡ false) x own
+    one = record {
+      ran = ran.ran;
+      may = ran.may;
+      number = ran.number;
+      all = λ so. ran.all (enough so);
+      kept_is = λ so. ap (λ (z : K). keep.with_lines names z r.lines) (sym none);
+    }
+
+    each : (i : ℕ) (m : Member K L P l p) → i < length (x ∷ [])
+        → RunsRound keep hall first.cluster.banks names round ((get_or (own ∷ []) i m).lost ≡ false) (get_or (x ∷ []) i m) (get_or (own ∷ []) i m)
+    each zero m low = one
+    each (suc i) m low = absurd (omega (arith, low))
+
     one_ran : AllRan keep hall first.cluster.banks names round (x ∷ []) (own ∷ [])
-    one_ran =
-        let one : RunsRound keep hall first.cluster.banks names round (own.lost ≡ false) x own = record {
-          ran = ran.ran;
-          may = ran.may;
-          number = ran.number;
-          all = λ so. ran.all (enough so);
-          kept_is = λ so. ap (λ (z : K). keep.with_lines names z r.lines) (sym none);
-        } in
-        record {
-          count = refl;
-          each = one_at (λ i m. RunsRound keep hall first.cluster.banks names round ((get_or (own ∷ []) i m).lost ≡ false) m (get_or (own ∷ []) i m)) x one;
-        }
+    one_ran = record { count = refl; each = each }
 
     numbers : numbers_of (own ∷ []) ≡ plan.sessions.items
     numbers = numbers_are keep hall first start plan round (x ∷ []) is.sent planned places names (own ∷ []) one_ran

@@ -61,7 +61,7 @@ returns-clause-all g c =
     let ran = c.run_session-ran.result in
     let r' : Member _ _ _ _ _ = member_of c.run_session-ran.new.caller c.run_session-ran.new.kept c.run_session-ran.new.lines in
     let gone = taken_back keep h c.args.host.now start c.args.plan.now c.args.round.now n c.requires.alone c.requires.plan.0 c.requires.plan.1
-    names laws c.admit-caller.new.host _ x c.run_member.new.member c.replace.result is refl c.run_member.ensures
+    names laws c.admit-caller.new.host _ x r' c.args.kept.now is refl _ (was_lost ran) (not_lost ran) c.run_session-ran.ensures
     c.dismiss.new.host _ c.dismiss.result d.host d.cluster d.joined d.names d.parked d.session d.stay refl in
     gone.all
 
@@ -85,7 +85,7 @@ returns-clause-parked g c =
     let ran = c.run_session-ran.result in
     let r' : Member _ _ _ _ _ = member_of c.run_session-ran.new.caller c.run_session-ran.new.kept c.run_session-ran.new.lines in
     let gone = taken_back keep h c.args.host.now start c.args.plan.now c.args.round.now n c.requires.alone c.requires.plan.0 c.requires.plan.1
-    names laws c.admit-caller.new.host _ x c.run_member.new.member c.replace.result is refl c.run_member.ensures
+    names laws c.admit-caller.new.host _ x r' c.args.kept.now is refl _ (was_lost ran) (not_lost ran) c.run_session-ran.ensures
     c.dismiss.new.host _ c.dismiss.result d.host d.cluster d.joined d.names d.parked d.session d.stay refl in
     gone.parked
 
@@ -109,6 +109,6 @@ returns-clause-went g c =
     let ran = c.run_session-ran.result in
     let r' : Member _ _ _ _ _ = member_of c.run_session-ran.new.caller c.run_session-ran.new.kept c.run_session-ran.new.lines in
     let gone = taken_back keep h c.args.host.now start c.args.plan.now c.args.round.now n c.requires.alone c.requires.plan.0 c.requires.plan.1
-    names laws c.admit-caller.new.host _ x c.run_member.new.member c.replace.result is refl c.run_member.ensures
+    names laws c.admit-caller.new.host _ x r' c.args.kept.now is refl _ (was_lost ran) (not_lost ran) c.run_session-ran.ensures
     c.dismiss.new.host _ c.dismiss.result d.host d.cluster d.joined d.names d.parked d.session d.stay refl in
     both_ok (was_lost ran ≡ false) (was_lost ran ≡ false) _ ran (λ so _. gone.went so) (none_lost ran) (none_lost ran)

@@ -21,3 +21,4 @@ pub mod Answers
 pub mod Reading
 pub mod Plain
 pub mod Packed
+pub mod Pieces

@@ -11,8 +11,8 @@ mod parser;
 mod script;
 
 pub use items::{ItemList, Items};
-pub use lines::line_of;
-pub use parser::parse;
+pub use lines::{line_of, next_line};
+pub use parser::{Front, Reading, parse};
 pub use report_text::print_report;
 pub use script::{Between, Dump, Item, ParseRefusal, Script};
 pub use script_lines::Kind;

@@ -1,6 +1,6 @@
 //! The lines of a text, and on which of them a script's items stand.
 
-ghost use Rattle.std.specs.Prelude.{◌≡◌, ℕ, ◌+◌, ◌<◌, ◌≤◌, List, [], ◌∷◌, ◌&&◌, nat_le, true, not, cond, get_or, length, take};
+ghost use Rattle.std.specs.Prelude.{◌≡◌, ℕ, ◌+◌, ◌<◌, ◌≤◌, List, [], ◌∷◌, ◌++◌, ◌&&◌, nat_le, true, false, not, cond, get_or, length, take};
 ghost use Rattle.std.specs.List.{prefix_len};
 ghost use Rattle.script_lines.specs.LineWords.{is_plain, words_in};
 ghost use Rattle.session_lang.specs.Lines.{ArePrintable, first_set, is_line_end, is_printable, lines_of, without_cr};
@@ -100,6 +100,9 @@ fn without_cr(raw: &[u8], plain: bool) -> (&[u8], bool)
 /// there.
 pub fn next_line(bytes: &[u8]) -> (&[u8], &[u8], bool, bool)
     ensures lines { lines_of bytes.now ≡ result.0.now ∷ cond result.2 (lines_of result.1.now) [] }
+    ensures on { result.2 ≡ true → (more : List ℕ)
+        → lines_of (bytes.now ++ more) ≡ result.0.now ∷ lines_of (result.1.now ++ more) }
+    ensures whole { result.2 ≡ false → result.0.now ≡ bytes.now }
     ensures within { length result.0.now + length result.1.now ≤ length bytes.now }
     ensures shorter { result.2 ≡ true → length result.0.now + length result.1.now < length bytes.now }
     ensures plain { result.3 ≡ is_plain result.0.now }

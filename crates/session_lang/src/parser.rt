@@ -11,7 +11,7 @@ ghost use Rattle.session_lang.specs.Script.{no_front, read_lines, read_script};
 mod reading;
 
 use crate::lines::next_line;
-use crate::parser::reading::{Front, Reading};
+pub use crate::parser::reading::{Front, Reading};
 use crate::script::{ParseRefusal, Script};
 use script_lines::Kind;
 use std::alloc::Global;

@@ -14,4 +14,5 @@ mod run;
 mod stop;
 mod tool;
 
-pub use tool::{run_tool, run_tool_behind, say_out_of_memory};
+pub use script_rounds::say_out_of_memory;
+pub use tool::{run_tool, run_tool_behind};

@@ -1,5 +1,6 @@
 //! The lines of a report read back, each exactly: commands with their replies, checkpoints and dumps, events, multixact
-//! events, records, and the lines that begin and end a life. A line is read by its words, printed again and compared.
+//! events, records, and the lines that begin and end a life. A line is read by its words, printed again and compared;
+//! the commonest ones are compared as they are read.
 #![tactic(auto)]
 
 mod command;

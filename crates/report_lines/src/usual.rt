@@ -69,7 +69,6 @@ fn plain_done(rest: &[u8]) -> Option<Command>
 }
 
 /// A write that was given one id or two, behind `ok`.
-#[inline(always)]
 fn wrote(rest: &[u8]) -> Option<(Command, Reply)>
     ensures { IfSome result (λ x. IsExchange (codes " write -> ok " ++ rest.now) x.0 x.1) }
 {
@@ -104,7 +103,6 @@ fn seen(rest: &[u8]) -> Option<bool>
 }
 
 /// A look at an id, behind the first word.
-#[inline(always)]
 fn look(rest: &[u8]) -> Option<(Command, Reply)>
     ensures { IfSome result (λ x. IsExchange (codes " see " ++ rest.now) x.0 x.1) }
 {
@@ -121,7 +119,6 @@ fn look(rest: &[u8]) -> Option<(Command, Reply)>
 }
 
 /// A snapshot that was dropped, behind the first word.
-#[inline(always)]
 fn dropped(rest: &[u8]) -> Option<(Command, Reply)>
     ensures { IfSome result (λ x. IsExchange (codes " drop " ++ rest.now) x.0 x.1) }
 {

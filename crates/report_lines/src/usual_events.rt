@@ -63,7 +63,6 @@ fn by_and_name(names: &NameList, session: usize, bytes: &[u8]) -> Option<(By, Na
 
 /// An id that was given, behind the first word.
 #[tactic(auto, using(crate::proofs::Exchanges::is_given))]
-#[inline(always)]
 fn given(names: &NameList, session: usize, rest: &[u8]) -> Option<Event>
     requires { session < 2 ^ 32 }
     ensures { IfSome result (λ x. IsLineOf (FitsEvent names.now) (event_line names.now) (codes "id " ++ rest.now) x) }
@@ -77,7 +76,6 @@ fn given(names: &NameList, session: usize, rest: &[u8]) -> Option<Event>
 
 /// A commit.
 #[tactic(auto, using(crate::proofs::Exchanges::is_committed))]
-#[inline(always)]
 fn committed(names: &NameList, session: usize, rest: &[u8]) -> Option<Event>
     requires { session < 2 ^ 32 }
     ensures { IfSome result (λ x. IsLineOf (FitsEvent names.now) (event_line names.now) (codes "commit " ++ rest.now) x) }
@@ -90,7 +88,6 @@ fn committed(names: &NameList, session: usize, rest: &[u8]) -> Option<Event>
 }
 
 /// A subtransaction's id.
-#[inline(always)]
 fn given_below(names: &NameList, session: usize, rest: &[u8]) -> Option<Event>
     requires { session < 2 ^ 32 }
     ensures { IfSome result (λ x. IsLineOf (FitsEvent names.now) (event_line names.now) (codes "sub " ++ rest.now) x) }
@@ -111,7 +108,6 @@ fn given_below(names: &NameList, session: usize, rest: &[u8]) -> Option<Event>
 }
 
 /// A snapshot that was taken.
-#[inline(always)]
 fn taken(names: &NameList, session: usize, rest: &[u8]) -> Option<Event>
     requires { session < 2 ^ 32 }
     ensures { IfSome result (λ x. IsLineOf (FitsEvent names.now) (event_line names.now) (codes "snap " ++ rest.now) x) }
@@ -124,7 +120,6 @@ fn taken(names: &NameList, session: usize, rest: &[u8]) -> Option<Event>
 }
 
 /// A snapshot that was dropped.
-#[inline(always)]
 fn dropped(names: &NameList, session: usize, rest: &[u8]) -> Option<Event>
     requires { session < 2 ^ 32 }
     ensures { IfSome result (λ x. IsLineOf (FitsEvent names.now) (event_line names.now) (codes "drop " ++ rest.now) x) }

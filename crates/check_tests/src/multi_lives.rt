@@ -1,5 +1,6 @@
 // Lives with multixacts, by the events of a test.
 use crate::events::{MultiAct, NEW_LOG, Start, counters, multi_event_of};
+use event_rules::multi_front;
 use history_check::{add_multi, first_illegal_multi};
 use history_places::MultiPlaces;
 use multi_store::MultiGen;
@@ -45,12 +46,13 @@ pub fn check_first<R: Abort + AllocGlobal>(rt: &R, acts: &[MultiAct], illegal: O
 pub fn places_of<R: Abort + AllocGlobal>(rt: &R, acts: &[(u32, MultiAct)]) -> MultiPlaces {
     let base = counters(rt, NEW_LOG);
     assert!(rt; is_base(&base));
-    let mut places = MultiPlaces::new(rt.alloc(), base, Vec::new(rt.alloc()), 0).expect(
-        rt, "memory",
-    );
+    let mut events = Vec::new(rt.alloc());
     for (session, act) in acts {
-        let event = multi_event_of(rt, *session, *act);
-        assert!(rt; places.add(&event).expect(rt, "memory"));
+        events
+            .push(multi_event_of(rt, *session, *act))
+            .expect(rt, "memory");
     }
+    let places = multi_front(rt.alloc(), base, &[], events.as_slice()).expect(rt, "memory");
+    assert!(rt; places.events().len() == acts.len());
     places
 }

@@ -16,16 +16,16 @@ use tx_events::{Counters, Memory, MultiEvent};
 pub fn multi_front(
     alloc: Global,
     base: Counters,
-    starts: Vec<Start>,
+    starts: &[Start],
     multis: &[MultiEvent],
 ) -> Result<MultiPlaces, Memory>
     requires base { IsBase base }
-    requires starts { FitsBase base starts.items }
-    ensures { IfOk result (λ p. IsMultiFront base starts.items multis.now p) }
+    requires starts { FitsBase base starts.now }
+    ensures { IfOk result (λ p. IsMultiFront base starts.now multis.now p) }
 {
     let mut places = MultiPlaces::new(alloc, base, starts, multis.len())?;
     for event in multis {
-        if !places.add(event)? {
+        if !places.add(starts, event)? {
             return Ok(places);
         }
     }

@@ -12,8 +12,10 @@ ghost use Rattle.history_places.specs.Starts.{BeginsAs, FitsBase, IsAmiss, IsWel
 use crate::start::{Start, is_start};
 use history_check::add_multi;
 use multi_store::{MultiGen, counters_never_fall};
+use notes::Note;
 use place_columns::{Span, column_of, span_of};
 use std::alloc::Global;
+use std::collections::LinkedList;
 use std::marker::Model;
 use tx_events::laws::limits_rise;
 use tx_events::{Counters, FullMulti, Memory, MultiEvent, MultiLimits, make_one_room, member_stop};
@@ -26,7 +28,8 @@ use tx_events::{Counters, FullMulti, Memory, MultiEvent, MultiLimits, make_one_r
 pub struct MultiPlaces {
     multis: MultiGen,
     first: FullMulti,
-    starts: Vec<Start>,
+    /// Where multixacts of the base begin, for contracts alone.
+    starts: Note<LinkedList<Start>>,
     nexts: Vec<u64>,
     firsts: Vec<u64>,
     oldests: Vec<u64>,
@@ -40,9 +43,9 @@ impl Model for MultiPlaces {
 
     ghost Value = { MultiReplayed };
 
-    ghost view = { λ p. record { base = p.multis.base; starts = p.starts.items; events = p.multis.events } };
+    ghost view = { λ p. record { base = p.multis.base; starts = p.starts.value; events = p.multis.events } };
 
-    ghost invariant = { λ p. (p.first ≡ p.multis.base.multi) × AreMultiPlaces p.multis.base p.starts.items p.multis.events p.nexts.items p.firsts.items p.oldests.items p.stops.items p.member_stops.items };
+    ghost invariant = { λ p. (p.first ≡ p.multis.base.multi) × AreMultiPlaces p.multis.base p.starts.value p.multis.events p.nexts.items p.firsts.items p.oldests.items p.stops.items p.member_stops.items };
 }
 
 /// Where members begin: at the next free offset, or one later where the stored half of that is 0.
@@ -102,12 +105,12 @@ impl MultiPlaces {
     pub fn new(
         alloc: Global,
         base: Counters,
-        starts: Vec<Start>,
+        starts: &[Start],
         count: usize,
     ) -> Result<MultiPlaces, Memory>
         requires base { IsBase base }
-        requires starts { FitsBase base starts.items }
-        ensures { IfOk result (λ r. r ≡ record { base = base; starts = starts.items; events = [] }) }
+        requires starts { FitsBase base starts.now }
+        ensures { IfOk result (λ r. r ≡ record { base = base; starts = starts.now; events = [] }) }
     {
         let first = base.multi;
         let multis = MultiGen::new(alloc, base);
@@ -121,7 +124,7 @@ impl MultiPlaces {
         Ok(MultiPlaces {
             multis,
             first,
-            starts,
+            starts: Note::by(&starts),
             nexts,
             firsts,
             oldests,
@@ -130,8 +133,10 @@ impl MultiPlaces {
         })
     }
 
-    /// Adds the event if it may come next, and tells whether it did. Else nothing changed.
-    pub fn add(&mut self, event: &MultiEvent) -> Result<bool, Memory>
+    /// Adds the event if it may come next in a life whose base's multixacts begin so, and tells whether it did. Else
+    /// nothing changed.
+    pub fn add(&mut self, starts: &[Start], event: &MultiEvent) -> Result<bool, Memory>
+        requires { starts.now ≡ self.old.starts }
         ensures added { IfOk result (λ b. b ≡ true → MultiMayCome self.old.base (BeginsAs self.old.starts) self.old.events event.now × (self.new ≡ with_event self.old event.now)) }
         ensures refused { IfOk result (λ b. b ≡ false → (MultiMayCome self.old.base (BeginsAs self.old.starts) self.old.events event.now → ⊥) × (self.new ≡ self.old)) }
         ensures err { OnErr result (self.new ≡ self.old) }
@@ -141,7 +146,7 @@ impl MultiPlaces {
         make_one_room(&mut self.oldests)?;
         make_one_room(&mut self.stops)?;
         make_one_room(&mut self.member_stops)?;
-        if is_amiss(self.first, self.starts.as_slice(), event) {
+        if is_amiss(self.first, starts, event) {
             return Ok(false);
         }
         if !add_multi(&mut self.multis, event)? {

@@ -8,7 +8,7 @@ mod telling;
 
 pub use committed::add_all_committed;
 pub use making::{
-    copied, counts_in, front_of, late_of, log_end_of, logs_of, multi_front_of, oks_of, owned,
-    recorded_in, table_of, taken_of, turns_of,
+    counts_in, front_of, late_of, log_end_of, logs_of, multi_front_of, oks_of, owned, recorded_in,
+    table_of, taken_of, turns_of,
 };
 pub use telling::{gave_by_lines, lists_by_lines};

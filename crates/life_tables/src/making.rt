@@ -124,22 +124,11 @@ pub fn taken_of(
     taken_by_lines(alloc, table, own, snaps)
 }
 
-/// The same once more.
-pub fn copied(alloc: Global, starts: &[Start]) -> Result<Vec<Start>, Memory>
-    ensures { IfOk result (λ copies. copies.items ≡ starts.now) }
-{
-    let mut copies = Vec::with_capacity(alloc, starts.len())?;
-    for start in starts {
-        copies.push(*start)?;
-    }
-    Ok(copies)
-}
-
 /// The legal front of the multixact events.
-pub fn multi_front_of(alloc: Global, life: &Life, starts: Vec<Start>) -> Result<MultiPlaces, Memory>
+pub fn multi_front_of(alloc: Global, life: &Life, starts: &[Start]) -> Result<MultiPlaces, Memory>
     requires base { IsBase life.now.base }
-    requires starts { FitsBase life.now.base starts.items }
-    ensures { IfOk result (λ p. IsMultiFront life.now.base starts.items life.now.multis p) }
+    requires starts { FitsBase life.now.base starts.now }
+    ensures { IfOk result (λ p. IsMultiFront life.now.base starts.now life.now.multis p) }
 {
     multi_front(alloc, life.base.same(), starts, life.multis.items())
 }

@@ -9,7 +9,7 @@ ghost use Rattle.life_tables.specs.Lives.{LifeAt, judged_life};
 
 use history_places::{Start, id_marks};
 use life_tables::{
-    copied, counts_in, front_of, gave_by_lines, late_of, lists_by_lines, log_end_of, logs_of,
+    counts_in, front_of, gave_by_lines, late_of, lists_by_lines, log_end_of, logs_of,
     multi_front_of, oks_of, owned, recorded_in, table_of, taken_of, turns_of,
 };
 use multi_rules::held_limits;
@@ -45,7 +45,7 @@ pub fn known_of(alloc: Global, report: &LifeReport, starts: &[Start]) -> Result<
     let turns = turns_of(alloc, front.places.replay().events())?;
     let marks = id_marks(alloc, front.places.replay())?;
     let taken = taken_of(alloc, &table, &own, front.snaps.as_slice())?;
-    let multi_places = multi_front_of(alloc, life, copied(alloc, starts)?)?;
+    let multi_places = multi_front_of(alloc, life, starts)?;
     let multi_turns = turns_of(alloc, multi_places.events())?;
     let multi_links = links_of_all(alloc, multi_turns.as_slice())?;
     let held = held_limits(alloc, &multi_places)?;

@@ -7,3 +7,5 @@ pub mod Compared
 pub mod Apart
 pub mod Crashes
 pub mod AreLines
+pub mod Digits
+pub mod Exchanges

@@ -8,3 +8,4 @@ pub mod Fits
 pub mod Fixed
 pub mod Front
 pub mod Laws
+pub mod Usual

@@ -1,8 +1,9 @@
 //! The lines of the steps of a life are taken one by one.
-ghost use Rattle.std.specs.Prelude.{◌≡◌, ◌≤◌, ◌+◌, ◌-◌, ◌||◌, ◌↔◌, ◌^◌, ◌<◌, [], None, Some, length, drop, take, true, IfErr, IfOk, IsTrue, OnOk};
-ghost use Rattle.report_text.specs.ReportText.{round_line};
+ghost use Rattle.std.specs.Prelude.{◌≡◌, ◌≤◌, ◌+◌, ◌-◌, ◌||◌, ◌↔◌, ◌^◌, ◌<◌, [], None, Some, length, drop, take, true, IfErr, IfOk, IfSome, IsTrue, OnOk};
+ghost use Rattle.report_text.specs.ReportText.{command_line, round_line};
 ghost use Rattle.report_words.specs.Words.{behind};
-ghost use Rattle.report_read.specs.Grammar.{begins_step, is_round, steps_told};
+ghost use Rattle.report_read.specs.Grammar.{Rule, after, begins_step, is_round, steps_told};
+ghost use Rattle.report_read.specs.Item as items;
 ghost use Rattle.report_read.specs.Taking.{AreFew, IsNoStep, IsRefused, IsTaken, note_some, pending_name, said_name};
 
 use crate::growing::Growing;
@@ -10,11 +11,11 @@ use crate::naming::{may_speak, note, note_turn};
 use crate::sharing::shared;
 use crate::told::{Stage, Told};
 use crate::words::{pending_name, said_name};
-use report_lines::{is_history, is_round, read_line, read_step};
+use report_lines::{is_history, is_round, read_line, read_step, usual_line};
 use report_text::Text;
 use report_words::Unread;
 use std::alloc::Global;
-use tx_model::{KeptLine, Memory, NameList, Sequence, Step};
+use tx_model::{KeptLine, Line, Memory, NameList, Sequence, Step};
 
 /// The round that has spoken becomes a step.
 fn close_round(alloc: Global, told: &mut Told) -> Result<(), Memory>
@@ -66,6 +67,42 @@ fn near_speaker(speaker: Option<u32>) -> usize
     }
 }
 
+/// Takes a command with its reply, where it may stand.
+fn add_line(alloc: Global, told: &mut Told, said: Line) -> Result<(), Memory>
+    requires { said.by.session < 64 }
+    ensures { OnOk result (told.new ≡ after told.old (items.command said)) }
+{
+    let session = said.by.session;
+    note_turn(told.speaker, &mut told.spoken, session)?;
+    told.speaker = Some(session);
+    told.counts[session as usize] = said.by.command;
+    let line = shared(told.lines.items(), said)?;
+    told.lines.push(KeptLine::of(alloc, line)?)?;
+    told.stage = Stage::Spoken;
+    Ok(())
+}
+
+/// The command with its reply that the line tells, where it is one of the commonest, of the session that spoke last, and
+/// may stand.
+fn usual_said(told: &Told, line: &[u8]) -> Option<Line>
+    requires { AreFew told.now.names }
+    ensures stands { IfSome result (λ l. is_round told.now.stage ≡ true) }
+    ensures rule { IfSome result (λ l. Rule told.now (items.command l) told.now.names) }
+    ensures text { IfSome result (λ l. line.now ≡ command_line told.now.names l) }
+{
+    if !in_round(told.stage) {
+        return None;
+    }
+    let said = usual_line(&told.names, near_speaker(told.speaker), line)?;
+    let session = said.by.session;
+    if is_next(said.by.command, told.counts[session as usize])
+        && may_speak(told.speaker, &told.spoken, session)
+    {
+        return Some(said);
+    }
+    None
+}
+
 /// A command with its reply, of the session of this name.
 fn take_command(
     alloc: Global,
@@ -94,12 +131,7 @@ fn take_command(
     if !may_speak(told.speaker, &told.spoken, session) {
         return Err(Unread::Form);
     }
-    note_turn(told.speaker, &mut told.spoken, session)?;
-    told.speaker = Some(session);
-    told.counts[session as usize] = said.by.command;
-    let line = shared(told.lines.items(), said)?;
-    told.lines.push(KeptLine::of(alloc, line)?)?;
-    told.stage = Stage::Spoken;
+    add_line(alloc, told, said)?;
     Ok(())
 }
 
@@ -176,7 +208,7 @@ fn take_unsaid(alloc: Global, out: &mut Text, told: &mut Told, line: &[u8]) -> R
 }
 
 /// A line where a step may stand, or a further command of a round.
-pub fn take_step(alloc: Global, out: &mut Text, told: &mut Told, line: &[u8]) -> Result<(), Unread>
+fn take_step(alloc: Global, out: &mut Text, told: &mut Told, line: &[u8]) -> Result<(), Unread>
     requires stage { (begins_step told.old.stage || is_round told.old.stage) ≡ true }
     requires few { AreFew told.old.names }
     requires some { 1 ≤ length line.now }
@@ -187,5 +219,27 @@ pub fn take_step(alloc: Global, out: &mut Text, told: &mut Told, line: &[u8]) ->
         Ok(name) => take_command(alloc, out, told, name, line),
         Err(Unread::Form) => take_unsaid(alloc, out, told, line),
         Err(Unread::Memory) => Err(Unread::Memory),
+    }
+}
+
+/// The same, where the commonest commands are tried first.
+pub fn take_step_line(
+    alloc: Global,
+    out: &mut Text,
+    told: &mut Told,
+    line: &[u8],
+) -> Result<(), Unread>
+    requires stage { (begins_step told.old.stage || is_round told.old.stage) ≡ true }
+    requires few { AreFew told.old.names }
+    requires some { 1 ≤ length line.now }
+    ensures taken { OnOk result (IsTaken told.old told.new (drop 1 line.now)) }
+    ensures refused { IfErr result (λ u. IsRefused u told.old (drop 1 line.now)) }
+{
+    match usual_said(told, &line[1..]) {
+        Some(said) => {
+            add_line(alloc, told, said)?;
+            Ok(())
+        }
+        None => take_step(alloc, out, told, line),
     }
 }

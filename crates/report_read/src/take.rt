@@ -1,19 +1,21 @@
 //! Lines are taken one by one.
 ghost use Rattle.std.specs.Prelude.{◌≡◌, ◌<◌, ◌≤◌, ◌||◌, ◌++◌, ◌∷◌, [], true, false, length, drop, IfErr, IfNone, IfSome, OnOk, Some, Option, ◌+◌, ◌^◌};
 ghost use Rattle.report_words.specs.Words.{behind};
-ghost use Rattle.report_read.specs.Grammar.{begins_step, is_opening, is_round, life_told};
+ghost use Rattle.report_read.specs.Grammar.{Rule, begins_step, is_opening, is_round, life_told};
+ghost use Rattle.report_read.specs.Item as items;
+ghost use Rattle.report_lines.specs.Texts.{record_line};
 ghost use Rattle.report_read.specs.Taking.{AreFew, IsRefused, IsTaken};
 ghost use Rattle.report_read.specs.declared.told.Stage.TheVariants as stages;
 
 use crate::growing::Growing;
 use crate::multi_history::MultiHistory;
 use crate::naming::note;
-use crate::steps::take_step;
+use crate::steps::take_step_line;
 use crate::told::{Stage, Told};
 use crate::words::second_word;
 use report_lines::{
     crash_at, is_end, is_multis, read_event, read_log_head, read_multi_event, read_record,
-    read_start,
+    read_start, usual_event, usual_record,
 };
 use report_text::Text;
 use report_words::Unread;
@@ -65,7 +67,29 @@ fn take_event(alloc: Global, out: &mut Text, told: &mut Told, line: &[u8]) -> Re
     Ok(())
 }
 
-/// The same for multixact events.
+/// The same, where the commonest events are tried first.
+fn take_event_line(
+    alloc: Global,
+    out: &mut Text,
+    told: &mut Told,
+    line: &[u8],
+) -> Result<(), Unread>
+    requires stage { told.old.stage ≡ stages.History }
+    requires few { AreFew told.old.names }
+    requires some { 1 ≤ length line.now }
+    ensures taken { OnOk result (IsTaken told.old told.new (drop 1 line.now)) }
+    ensures refused { IfErr result (λ u. IsRefused u told.old (drop 1 line.now)) }
+{
+    match usual_event(&told.names, near_event(told.events.items()), &line[1..]) {
+        Some(event) => {
+            told.events.push(event)?;
+            Ok(())
+        }
+        None => take_event(alloc, out, told, line),
+    }
+}
+
+/// Where the name of the next multixact event's session is looked for first.
 fn near_multi(events: &[MultiEvent]) -> usize
     ensures { result < 2 ^ 32 }
 {
@@ -165,6 +189,31 @@ fn take_record(alloc: Global, out: &mut Text, told: &mut Told, line: &[u8]) -> R
     }
 }
 
+/// The next record, where the line tells it and it is one of the commonest.
+fn usual_next(alloc: Global, told: &Told, line: &[u8]) -> Option<Rec>
+    ensures rule { IfSome result (λ r. Rule told.now (items.logged (told.now.start.from + length told.now.recs) r) told.now.names) }
+    ensures text { IfSome result (λ r. line.now ≡ record_line (told.now.start.from + length told.now.recs) r) }
+{
+    let number = next_number(told)?;
+    usual_record(alloc, number, line)
+}
+
+/// A line of the log, where the commonest records are tried first.
+fn take_log_line(alloc: Global, out: &mut Text, told: &mut Told, line: &[u8]) -> Result<(), Unread>
+    requires stage { told.old.stage ≡ stages.Log }
+    requires some { 1 ≤ length line.now }
+    ensures taken { OnOk result (IsTaken told.old told.new (drop 1 line.now)) }
+    ensures refused { IfErr result (λ u. IsRefused u told.old (drop 1 line.now)) }
+{
+    match usual_next(alloc, told, &line[1..]) {
+        Some(rec) => {
+            told.recs.push(rec)?;
+            Ok(())
+        }
+        None => take_record(alloc, out, told, line),
+    }
+}
+
 /// Takes a line behind the title, where it may stand. The bytes begin with the one before the line, and end with the line's end. After
 /// an `Err` nothing is known of what is told.
 pub fn take(alloc: Global, out: &mut Text, told: &mut Told, line: &[u8]) -> Result<(), Unread>
@@ -177,12 +226,12 @@ pub fn take(alloc: Global, out: &mut Text, told: &mut Told, line: &[u8]) -> Resu
     match told.stage {
         Stage::Opening => Err(Unread::Form),
         Stage::Between => take_life(alloc, out, told, line),
-        Stage::Steps => take_step(alloc, out, told, line),
-        Stage::Silent => take_step(alloc, out, told, line),
-        Stage::Spoken => take_step(alloc, out, told, line),
-        Stage::History => take_event(alloc, out, told, line),
+        Stage::Steps => take_step_line(alloc, out, told, line),
+        Stage::Silent => take_step_line(alloc, out, told, line),
+        Stage::Spoken => take_step_line(alloc, out, told, line),
+        Stage::History => take_event_line(alloc, out, told, line),
         Stage::Multis => take_multi(alloc, out, told, line),
-        Stage::Log => take_record(alloc, out, told, line),
+        Stage::Log => take_log_line(alloc, out, told, line),
         Stage::Closed => Err(Unread::Form),
     }
 }

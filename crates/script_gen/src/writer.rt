@@ -1,6 +1,7 @@
 //! A script that is being written, transaction by transaction.
 ghost use Rattle.std.specs.Prelude.{◌≡◌, ◌==◌, [], ◌∷◌, ◌+◌, ◌<◌, ◌^◌, ◌%◌, cond, OnOk};
 ghost use Rattle.std.specs.List.{flat_map};
+ghost use Rattle.script_lines.specs.Said.{named_command, plain_command, said};
 ghost use Rattle.session_lang.specs.Plain.{IsInRange};
 ghost use Rattle.session_lang.specs.declared.script.Item.TheVariants as items;
 ghost use Rattle.script_gen.specs.Choices.{aborted_of, behind_count, behind_transaction, choices, savepoints, seen_of, undone_of};
@@ -9,11 +10,10 @@ ghost use Rattle.script_gen.specs.Generated.{end_command, is_round_first, look_c
 ghost use Rattle.script_gen.specs.Writing.{Adds};
 
 use crate::draws::Draws;
-use script_lines::Directive;
+use script_lines::{Directive, NamedCommand, PlainCommand, Said};
 use session_lang::ItemList;
 use std::alloc::Global;
-use tx_events::Xid;
-use tx_model::{Command, Memory, Name};
+use tx_model::Memory;
 
 /// The sessions that take turns.
 const SESSIONS: u32 = 4;
@@ -31,11 +31,15 @@ pub struct Writer {
     pub items: ItemList,
 }
 
-/// The name of each transaction's snapshot.
-fn snapshot() -> Name
-    ensures { result ≡ snapshot }
+/// A command of each transaction's snapshot.
+fn of_snapshot(command: NamedCommand, number: u32) -> Said<'static>
+    ensures { said result ≡ named_command command snapshot number }
 {
-    Name::of(b"s")
+    Said::Named {
+        command,
+        number,
+        name: b"s",
+    }
 }
 
 impl Writer {
@@ -51,11 +55,19 @@ impl Writer {
     }
 
     /// Adds a command.
-    fn put(&mut self, session: u8, command: Command) -> Result<(), Memory>
-        requires { IsInRange command }
-        ensures { OnOk result (Adds self.old self.new self.old.draws.state (run_by session (command ∷ []))) }
+    fn put(&mut self, session: u8, command: &Said<'_>) -> Result<(), Memory>
+        requires { IsInRange (said command.now) }
+        ensures { OnOk result (Adds self.old self.new self.old.draws.state (run_by session (said command.now ∷ []))) }
     {
-        self.items.push_command(session, &command)
+        self.items.push_command(session, command)
+    }
+
+    /// Adds a command without arguments.
+    fn put_plain(&mut self, session: u8, command: PlainCommand) -> Result<(), Memory>
+        ensures { OnOk result (Adds self.old self.new self.old.draws.state
+            (run_by session (plain_command command ∷ []))) }
+    {
+        self.put(session, &Said::Plain { command })
     }
 
     /// Ends the round before each 64th transaction but the first.
@@ -74,13 +86,13 @@ impl Writer {
         ensures { OnOk result (Adds self.old self.new (next_state self.old.draws.state)
             (run_by session (savepoint_commands (next_state self.old.draws.state % 3 == 0)))) }
     {
-        self.put(session, Command::Save)?;
-        self.put(session, Command::Write)?;
+        self.put_plain(session, PlainCommand::Save)?;
+        self.put_plain(session, PlainCommand::Write)?;
         let end = match self.draws.below(3) {
-            0 => Command::Undo,
-            _ => Command::Release,
+            0 => PlainCommand::Undo,
+            _ => PlainCommand::Release,
         };
-        self.put(session, end)
+        self.put_plain(session, end)
     }
 
     /// How many savepoints a transaction opens.
@@ -112,18 +124,10 @@ impl Writer {
         ensures { OnOk result (Adds self.old self.new (next_state self.old.draws.state)
             (run_by session (look_commands (seen_of number self.old.draws.state)))) }
     {
-        let x = Xid {
-            number: 3 + self.draws.below(number + 1),
-        };
-        self.put(session, Command::Snap { name: snapshot() })?;
-        self.put(
-            session,
-            Command::See {
-                name: snapshot(),
-                x,
-            },
-        )?;
-        self.put(session, Command::DropSnap { name: snapshot() })
+        let x = 3 + self.draws.below(number + 1);
+        self.put(session, &of_snapshot(NamedCommand::Snap, 0))?;
+        self.put(session, &of_snapshot(NamedCommand::See, x))?;
+        self.put(session, &of_snapshot(NamedCommand::DropSnap, 0))
     }
 
     /// Adds the end of a transaction.
@@ -132,10 +136,10 @@ impl Writer {
             (run_by session (end_command (aborted_of self.old.draws.state) ∷ []))) }
     {
         let end = match self.draws.below(5) {
-            0 => Command::Abort,
-            _ => Command::Commit,
+            0 => PlainCommand::Abort,
+            _ => PlainCommand::Commit,
         };
-        self.put(session, end)
+        self.put_plain(session, end)
     }
 
     /// Adds the transaction of this number.
@@ -146,8 +150,8 @@ impl Writer {
     {
         self.put_round_end(number)?;
         let session = (number % SESSIONS) as u8;
-        self.put(session, Command::Begin)?;
-        self.put(session, Command::Write)?;
+        self.put_plain(session, PlainCommand::Begin)?;
+        self.put_plain(session, PlainCommand::Write)?;
         let count = self.draw_savepoints(number);
         self.put_savepoints(session, count)?;
         self.put_look(session, number)?;

@@ -8,6 +8,7 @@ mod directive;
 mod header;
 mod kind;
 mod member;
+mod said;
 mod word;
 
 pub use argument::number_in;
@@ -15,4 +16,5 @@ pub use command::command_at;
 pub use directive::{Directive, directive_at};
 pub use header::{Header, is_header_word};
 pub use kind::{Kind, Stop};
+pub use said::{IdCommand, NamedCommand, PlainCommand, Said};
 pub use word::{is_plain, next_word};

@@ -4,6 +4,7 @@
 #![tactic(auto)]
 
 mod keeper;
+mod last_text;
 mod life_text;
 mod pieces;
 mod places;
@@ -17,6 +18,7 @@ mod turns;
 mod woven;
 
 pub use keeper::{LineKeeper, keep_checkpoint, keep_dump, keeper_laws};
+pub use last_text::{finish, say_out_of_memory};
 pub use life_text::{LifeText, have_full_multis, put_life, whole_text};
 pub use places::PlacesLeft;
 pub use plan::{Plan, SparePlan};

@@ -12,7 +12,8 @@ use Rattle.session_lang.specs.declared.packed.PackedItem.TheVariants as packs
 use Rattle.session_lang.specs.declared.packed.Span.{Span}
 use Rattle.session_lang.specs.declared.script.Item.{Item}
 use Rattle.session_lang.specs.declared.script.Item.TheVariants as items
-use Rattle.session_lang.specs.Packed.{ArePacked, IsPacked, dump_item, dump_of, named_command, no_span, unpacked, unpacked_all}
+use Rattle.script_lines.specs.Said.{named_command}
+use Rattle.session_lang.specs.Packed.{ArePacked, IsPacked, dump_item, dump_of, no_span, unpacked, unpacked_all}
 
 -- more stands apart, behind what stood there
 pub record HasMore (before after : Apart) (bytes : List ℕ) (pairs : List Pair) (places : List Span) : Type 0 where

@@ -10,6 +10,7 @@ pub use Rattle.script_lines.specs.LineWords
 pub use Rattle.script_lines.specs.Arguments
 pub use Rattle.script_lines.specs.Members
 pub use Rattle.script_lines.specs.Commands
+pub use Rattle.script_lines.specs.Said
 pub use Rattle.script_lines.specs.Directives
 pub use Rattle.script_lines.specs.Header
 pub mod Rounds

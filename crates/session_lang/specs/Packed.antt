@@ -6,46 +6,21 @@ use Rattle.tx_model.specs.declared.command.Command.{Command}
 use Rattle.tx_model.specs.declared.command.Command.TheVariants as commands
 use Rattle.tx_model.specs.declared.report.DumpOf.{DumpOf}
 use Rattle.tx_model.specs.declared.report.DumpOf.TheVariants as dumps
+use Rattle.script_lines.specs.Said.{id_command, named_command, plain_command}
 use Rattle.session_lang.specs.declared.packed.Apart.{Apart}
 use Rattle.session_lang.specs.declared.packed.DumpKind.{DumpKind}
 use Rattle.session_lang.specs.declared.packed.DumpKind.TheVariants as kinds
 use Rattle.session_lang.specs.declared.packed.Halves.{Halves}
-use Rattle.session_lang.specs.declared.packed.IdCommand.{IdCommand}
-use Rattle.session_lang.specs.declared.packed.IdCommand.TheVariants as ids
-use Rattle.session_lang.specs.declared.packed.NamedCommand.{NamedCommand}
-use Rattle.session_lang.specs.declared.packed.NamedCommand.TheVariants as named
+use Rattle.script_lines.specs.declared.said.IdCommand.{IdCommand}
+use Rattle.script_lines.specs.declared.said.IdCommand.TheVariants as ids
 use Rattle.session_lang.specs.declared.packed.PackedItem.{PackedItem}
 use Rattle.session_lang.specs.declared.packed.PackedItem.TheVariants as packs
-use Rattle.session_lang.specs.declared.packed.PlainCommand.{PlainCommand}
-use Rattle.session_lang.specs.declared.packed.PlainCommand.TheVariants as plain
 use Rattle.session_lang.specs.declared.packed.Span.{Span}
 use Rattle.session_lang.specs.declared.script.Item.{Item}
 use Rattle.session_lang.specs.declared.script.Item.TheVariants as items
 
 abbrev pub whole : Halves → ℕ
 whole h = h.high * 2 ^ 32 + h.low
-
-abbrev pub plain_command : PlainCommand → Command
-plain_command plain.Begin = commands.Begin
-plain_command plain.Save = commands.Save
-plain_command plain.Write = commands.Write
-plain_command plain.Release = commands.Release
-plain_command plain.Undo = commands.Undo
-plain_command plain.Commit = commands.Commit
-plain_command plain.Abort = commands.Abort
-plain_command plain.Trim = commands.Trim
-plain_command plain.Horizon = commands.Horizon
-
-abbrev pub named_command : NamedCommand → List ℕ → ℕ → Command
-named_command named.Snap name number = commands.Snap name
-named_command named.DropSnap name number = commands.DropSnap name
-named_command named.See name number = commands.See name (record { number = number })
-named_command named.SeeMulti name number = commands.SeeMulti name (record { number = number })
-
-abbrev pub id_command : IdCommand → ℕ → Command
-id_command ids.Status number = commands.Status number
-id_command ids.Freeze number = commands.Freeze number
-id_command ids.MultiFreeze number = commands.MultiFreeze number
 
 abbrev pub IsIdOf : IdCommand → ℕ → Type 0
 IsIdOf ids.Status number = IsXidNumber number

@@ -2,7 +2,8 @@
 ghost use Rattle.std.specs.Prelude.{◌≡◌, ◌≤◌, ◌↔◌, [], ◌∷◌, ◌++◌, IfOk, OnOk, drop, get_or, length, slice_get, take, true};
 ghost use Rattle.session_lang.specs.declared.script.Item.TheVariants as items;
 ghost use Rattle.tx_model.specs.declared.command.Command.TheVariants as commands;
-ghost use Rattle.session_lang.specs.Packed.{IsIdOf, id_command, named_command, plain_command};
+ghost use Rattle.script_lines.specs.Said.{id_command, named_command, plain_command, said};
+ghost use Rattle.session_lang.specs.Packed.{IsIdOf};
 ghost use Rattle.session_lang.specs.Plain.{IsInRange};
 ghost use Rattle.session_lang.specs.Rounds.{asked_at, asked_by, crash_in, is_look, session_of};
 ghost use Rattle.session_lang.specs.Script.{item_of};
@@ -10,14 +11,14 @@ ghost use Rattle.tx_events.specs.Names.{is_name};
 
 use crate::looks::is_look;
 use crate::packed::{
-    Apart, Halves, IdCommand, NamedCommand, PackedItem, PlainCommand, Span, dump_parts,
-    packed_between, packed_crash, packed_session, unpack,
+    Apart, Halves, PackedItem, Span, dump_parts, packed_between, packed_crash, packed_session,
+    unpack,
 };
 use crate::script::{Between, Item};
-use script_lines::Directive;
+use script_lines::{Directive, IdCommand, NamedCommand, PlainCommand, Said};
 use std::alloc::Global;
 use std::marker::Model;
-use tx_model::{Command, DumpOf, How, Memory, Name, PairList};
+use tx_model::{DumpOf, How, Memory, PairList};
 
 /// The items of a script, in order: twelve bytes for each, the bytes of a name of more than four, eight for each of its
 /// members, and twelve more for a dump. That is at most twice the text of any line. A contract sees the list of them.
@@ -65,6 +66,17 @@ fn place_of(length: usize) -> Result<u32, Memory>
     match u32::try_from(length) {
         Ok(place) => Ok(place),
         Err(_) => Err(Memory),
+    }
+}
+
+/// The byte at this place of a name; 0 behind its end.
+#[inline(always)]
+fn byte_at(name: &[u8], place: usize) -> u8
+    ensures { result ≡ get_or name.now place 0 }
+{
+    match name.get(place) {
+        Some(byte) => *byte,
+        None => 0,
     }
 }
 
@@ -126,8 +138,12 @@ impl ItemList {
         ensures { OnOk result (self.new
             ≡ self.old ++ items.Run session (named_command command name.now number) ∷ []) }
     {
-        let mut bytes = [0; 4];
-        bytes[..name.len()].copy_from_slice(name);
+        let bytes = [
+            byte_at(name, 0),
+            byte_at(name, 1),
+            byte_at(name, 2),
+            byte_at(name, 3),
+        ];
         self.packed.push(PackedItem::Short {
             session,
             command,
@@ -143,23 +159,22 @@ impl ItemList {
         &mut self,
         session: u8,
         command: NamedCommand,
-        name: &Name,
+        name: &[u8],
         number: u32,
     ) -> Result<(), Memory>
         requires { is_name name.now ≡ true }
         ensures { OnOk result (self.new
             ≡ self.old ++ items.Run session (named_command command name.now number) ∷ []) }
     {
-        let bytes = name.items();
-        if bytes.len() <= 4 {
-            return self.push_short(session, command, bytes, number);
+        if name.len() <= 4 {
+            return self.push_short(session, command, name, number);
         }
         let at = place_of(self.apart.names.len())?;
-        self.apart.names.extend_from_slice(bytes)?;
+        self.apart.names.extend_from_slice(name)?;
         self.packed.push(PackedItem::Named {
             session,
             command,
-            length: bytes.len() as u8,
+            length: name.len() as u8,
             at,
             number,
         })?;
@@ -211,38 +226,23 @@ impl ItemList {
 
     /// Adds a command of the session of this number at the end.
     #[inline(always)]
-    pub fn push_command(&mut self, session: u8, command: &Command) -> Result<(), Memory>
-        requires { IsInRange command.now }
-        ensures { OnOk result (self.new ≡ self.old ++ items.Run session command.now ∷ []) }
+    pub fn push_command(&mut self, session: u8, command: &Said<'_>) -> Result<(), Memory>
+        requires { IsInRange (said command.now) }
+        ensures { OnOk result (self.new ≡ self.old ++ items.Run session (said command.now) ∷ []) }
     {
         match command {
-            Command::Begin => self.push_plain(session, PlainCommand::Begin),
-            Command::Save => self.push_plain(session, PlainCommand::Save),
-            Command::Write => self.push_plain(session, PlainCommand::Write),
-            Command::Release => self.push_plain(session, PlainCommand::Release),
-            Command::Undo => self.push_plain(session, PlainCommand::Undo),
-            Command::Commit => self.push_plain(session, PlainCommand::Commit),
-            Command::Abort => self.push_plain(session, PlainCommand::Abort),
-            Command::Trim => self.push_plain(session, PlainCommand::Trim),
-            Command::Horizon => self.push_plain(session, PlainCommand::Horizon),
-            Command::Snap { name } => self.push_named(session, NamedCommand::Snap, name, 0),
-            Command::DropSnap { name } => self.push_named(session, NamedCommand::DropSnap, name, 0),
-            Command::See { name, x } => self.push_named(session, NamedCommand::See, name, x.number),
-            Command::SeeMulti { name, multi } => {
-                self.push_named(session, NamedCommand::SeeMulti, name, multi.number)
-            }
-            Command::Did { x } => {
+            Said::Plain { command } => self.push_plain(session, *command),
+            Said::Named {
+                command,
+                number,
+                name,
+            } => self.push_named(session, *command, name, *number),
+            Said::Did { x } => {
                 self.packed.push(PackedItem::Did { session, x: *x })?;
                 Ok(())
             }
-            Command::Status { x } => self.push_id(session, IdCommand::Status, x.number()),
-            Command::Multi { members } => self.push_multi(session, members),
-            Command::Freeze { oldest } => {
-                self.push_id(session, IdCommand::Freeze, oldest.number())
-            }
-            Command::MultiFreeze { multi } => {
-                self.push_id(session, IdCommand::MultiFreeze, multi.number())
-            }
+            Said::OfId { command, number } => self.push_id(session, *command, *number),
+            Said::Multi { members } => self.push_multi(session, members),
         }
     }
 

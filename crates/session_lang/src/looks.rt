@@ -1,10 +1,12 @@
 //! Which items of a script ask of an id or a multixact.
 ghost use Rattle.std.specs.Prelude.{◌≡◌, List, ℕ};
-ghost use Rattle.session_lang.specs.Packed.{id_command, named_command, plain_command, unpacked};
+ghost use Rattle.script_lines.specs.Said.{id_command, named_command, plain_command};
+ghost use Rattle.session_lang.specs.Packed.{unpacked};
 ghost use Rattle.session_lang.specs.declared.packed.Apart.{Apart};
 ghost use Rattle.session_lang.specs.Rounds.{is_look, looks};
 
-use crate::packed::{IdCommand, NamedCommand, PackedItem, PlainCommand};
+use crate::packed::PackedItem;
+use script_lines::{IdCommand, NamedCommand, PlainCommand};
 
 /// Whether a command that names a snapshot asks of an id or a multixact.
 fn named_looks(command: NamedCommand) -> bool

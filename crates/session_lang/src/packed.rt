@@ -1,46 +1,17 @@
 //! An item of a script in twelve bytes, and what stands apart.
-ghost use Rattle.std.specs.Prelude.{◌≡◌, IfOk};
+ghost use Rattle.std.specs.Prelude.{◌≡◌, ◌≤◌, IfOk, take};
 ghost use Rattle.tx_events.specs.Ids.{IsFullMulti, IsXidNumber};
-ghost use Rattle.session_lang.specs.Packed.{IsIdOf, IsPacked, dump_of, id_command, named_command, plain_command};
+ghost use Rattle.script_lines.specs.Said.{id_command, named_command, plain_command};
+ghost use Rattle.session_lang.specs.Packed.{IsIdOf, IsPacked, dump_of};
 ghost use Rattle.session_lang.specs.Packed.{unpacked, whole};
 ghost use Rattle.session_lang.specs.declared.packed.Apart.{Apart};
 ghost use Rattle.session_lang.specs.Rounds.{asked_by, asked_in, crash_in, session_of};
 
 use crate::script::{Between, Dump, Item};
+use script_lines::{IdCommand, NamedCommand, PlainCommand};
 use std::alloc::Global;
 use tx_events::{FullMulti, FullXid, MultiId, Xid};
 use tx_model::{Command, DumpOf, How, Memory, Name, Pair, PairList};
-
-/// A command without arguments.
-#[derive(Clone, Copy)]
-pub enum PlainCommand {
-    Begin,
-    Save,
-    Write,
-    Release,
-    Undo,
-    Commit,
-    Abort,
-    Trim,
-    Horizon,
-}
-
-/// A command that names a snapshot, and maybe has a stored number.
-#[derive(Clone, Copy)]
-pub enum NamedCommand {
-    Snap,
-    DropSnap,
-    See,
-    SeeMulti,
-}
-
-/// A command of an id in full.
-#[derive(Clone, Copy)]
-pub enum IdCommand {
-    Status,
-    Freeze,
-    MultiFreeze,
-}
 
 /// What a dump shows bytes of, but for the page.
 #[derive(Clone, Copy)]
@@ -209,6 +180,16 @@ fn named_command(command: NamedCommand, name: Name, number: u32) -> Command
     }
 }
 
+/// A name of up to four bytes.
+#[inline(always)]
+fn short_name(name: [u8; 4], length: u8) -> Name
+    requires { length ≤ 4 }
+    ensures { result ≡ take length name }
+{
+    let (a, b, c, d) = (name[0], name[1], name[2], name[3]);
+    Name::of_padded([a, b, c, d, 0, 0, 0, 0, 0, 0, 0, 0, 0, 0, 0, 0], length)
+}
+
 /// The id of a number that is one.
 fn id_of(number: u64) -> FullXid
     requires { IsXidNumber number }
@@ -317,13 +298,10 @@ pub fn unpack(apart: &Apart, packed: &PackedItem) -> Result<Item, Memory>
             length,
             name,
             number,
-        } => {
-            let name = Name::of(&name[..length as usize]);
-            Item::Run {
-                session: u32::from(session),
-                command: named_command(command, name, number),
-            }
-        }
+        } => Item::Run {
+            session: u32::from(session),
+            command: named_command(command, short_name(name, length), number),
+        },
         PackedItem::Named {
             session,
             command,

@@ -26,3 +26,4 @@ mod GoingOn
 mod LivesRun
 mod Counted
 mod Again
+mod Alone

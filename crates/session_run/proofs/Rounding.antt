@@ -72,7 +72,7 @@ there (x ∷ xs) (suc k) low = there xs k (omega (arith, low))
 
 module _ {K L P : Type 0} {l : logs.Ghosts L} {p : disks.Ghosts P} where
   -- whose lines they are
-  abbrev told_of : Member K L P l p → ℕ × List Line
+  abbrev pub told_of : Member K L P l p → ℕ × List Line
   told_of m = (m.caller.number, m.lines)
 
   firsts_told : (ms : List (Member K L P l p)) → map (λ (t : ℕ × List Line). t.0) (map told_of ms) ≡ numbers_of ms

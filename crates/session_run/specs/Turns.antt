@@ -1,5 +1,5 @@
 -- What a session does in a round.
-use Rattle.std.specs.Prelude.{◌≡◌, ℕ, ◌+◌, ◌^◌, ◌<◌, Bool, IsTrue, List, [], ◌∷◌, ◌++◌, Contains, OnOk, Result, get_or, length, map}
+use Rattle.std.specs.Prelude.{◌≡◌, ℕ, ◌+◌, ◌^◌, ◌<◌, Bool, false, IsTrue, List, [], ◌∷◌, ◌++◌, Contains, OnOk, Result, get_or, length, map}
 use Rattle.disk_core.specs.declared.log_disk.LogDisk as logs
 use Rattle.disk_core.specs.declared.page_disk.PageDisk as disks
 use Rattle.hall.specs.declared.hall.Hall.{Hall}
@@ -72,6 +72,10 @@ module _ {H L P : Type 0} {l : logs.Ghosts L} {p : disks.Ghosts P} where
   RanLines hall old new (line ∷ lines) = (next : Caller L P l p) × RanLine hall old next line × RanLines hall next new lines
 
 module _ {K L P : Type 0} {l : logs.Ghosts L} {p : disks.Ghosts P} where
+  -- a member that has lost nothing
+  abbrev pub member_of : Caller L P l p → K → List Line → Member K L P l p
+  member_of caller kept lines = record { caller = caller; kept = kept; lines = lines; lost = false }
+
   -- the member, where this is kept of its lines
   abbrev pub keeping : Member K L P l p → K → Member K L P l p
   keeping m kept = record m { kept = kept }

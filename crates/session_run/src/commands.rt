@@ -2,8 +2,8 @@
 ghost use Rattle.std.specs.Prelude.{◌≡◌, Bool, IsTrue};
 ghost use Rattle.tx_model.specs.declared.reply.Reply.TheVariants as replies;
 ghost use Rattle.hall.specs.Calls.{start_of};
-ghost use Rattle.engine_parts.specs.Answers.{reply_of};
 ghost use Rattle.engine_parts.specs.Calls.{MayRun, Ran, next_command};
+ghost use Rattle.engine_parts.specs.Answers.{reply_of};
 ghost use Rattle.run_law.specs.Turns.{MayAsk};
 ghost use Rattle.life_law.specs.Replies.{is_told_verdict};
 ghost use Rattle.xact_writes.specs.Writes.{reply_to};
@@ -13,27 +13,18 @@ ghost use Rattle.session_run.specs.Turns.{AreToldBy, IsMade, IsRaised, IsTrimmed
 use disk_core::{LogDisk, PageDisk};
 use engine_parts::{Caller, EngineLaw, Passing};
 use hall::Hall;
+use host_calls::{done, judged, known, seen, snapped, told};
 use multi_makes::multi;
 use multi_store::MultiGiven;
 use std::alloc::Global;
-use tx_model::{Command, GivenIds, Refusal, Reply, SharedSnap, Status, VerdictList};
+use tx_model::{Command, GivenIds, Refusal, Reply};
 use xact_ends::{abort, commit, undo};
 use xact_engine::{begin, drop_snap, release, save, snap};
 use xact_freezes::{freeze, multi_freeze, trim};
 use xact_reads::{did, horizon, see, see_multi, status};
 use xact_writes::{Wrote, write};
 
-// The reply of a command that says no more than that it is done.
-fn done(answer: Result<(), Refusal>) -> Reply
-    ensures { result ≡ reply_of (λ _. replies.Done) answer }
-{
-    match answer {
-        Ok(()) => Reply::Done,
-        Err(refusal) => Reply::Refused { refusal },
-    }
-}
-
-// That of a write.
+// The reply of a write.
 fn wrote(answer: Result<Wrote, Refusal>) -> Reply
     ensures { result ≡ reply_of reply_to answer }
 {
@@ -42,46 +33,6 @@ fn wrote(answer: Result<Wrote, Refusal>) -> Reply
             warn,
             ids: GivenIds::of(ids),
         },
-        Err(refusal) => Reply::Refused { refusal },
-    }
-}
-
-// That of a snapshot.
-fn snapped(answer: Result<SharedSnap, Refusal>) -> Reply
-    ensures { result ≡ reply_of replies.Snapped answer }
-{
-    match answer {
-        Ok(lists) => Reply::Snapped { lists },
-        Err(refusal) => Reply::Refused { refusal },
-    }
-}
-
-// That of a look.
-fn seen(answer: Result<bool, Refusal>) -> Reply
-    ensures { result ≡ reply_of replies.Seen answer }
-{
-    match answer {
-        Ok(visible) => Reply::Seen { visible },
-        Err(refusal) => Reply::Refused { refusal },
-    }
-}
-
-// That of a question for an id's status.
-fn known(answer: Result<Status, Refusal>) -> Reply
-    ensures { result ≡ reply_of replies.Known answer }
-{
-    match answer {
-        Ok(status) => Reply::Known { status },
-        Err(refusal) => Reply::Refused { refusal },
-    }
-}
-
-// That of a question whether an id has committed.
-fn told(answer: Result<bool, Refusal>) -> Reply
-    ensures { result ≡ reply_of replies.Did answer }
-{
-    match answer {
-        Ok(yes) => Reply::Did { yes },
         Err(refusal) => Reply::Refused { refusal },
     }
 }
@@ -96,16 +47,6 @@ fn given(answer: Result<MultiGiven, Refusal>) -> Reply
             offset: given.offset,
             warn: given.warn,
         },
-        Err(refusal) => Reply::Refused { refusal },
-    }
-}
-
-// That of a look at a multixact's members.
-fn judged(answer: Result<VerdictList, Refusal>) -> Reply
-    ensures { result ≡ reply_of replies.Verdicts answer }
-{
-    match answer {
-        Ok(verdicts) => Reply::Verdicts { verdicts },
         Err(refusal) => Reply::Refused { refusal },
     }
 }

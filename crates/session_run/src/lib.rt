@@ -14,4 +14,4 @@ mod run;
 mod stop;
 mod tool;
 
-pub use tool::{run_tool, run_tool_behind, say_out_of_memory};
+pub use tool::{run_tool, run_tool_behind};

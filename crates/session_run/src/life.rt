@@ -1,9 +1,8 @@
 //! Runs a part of a script in a life that is open, and closes the life.
-ghost use Rattle.std.specs.Prelude.{◌≡◌, ◌^◌, ◌<◌, ℕ, IsTrue, List, OnOk, length};
+ghost use Rattle.std.specs.Prelude.{◌≡◌, ℕ, List, OnOk, length};
 ghost use Rattle.disk_core.specs.declared.media.Volumes.{Volumes};
 ghost use Rattle.engine_host.specs.declared.cluster.Cluster.{Cluster};
 ghost use Rattle.engine_host.specs.Opening.{Beginning};
-ghost use Rattle.wal_core.specs.LogViews.{log_disk};
 ghost use Rattle.session_run.specs.OneLife.{HasRunLife, IsOpened, MayRunIn};
 ghost use Rattle.session_run.specs.Parts.{IsTakenPart};
 
@@ -13,28 +12,13 @@ use disk_core::{LogDisk, PageDisk};
 use engine_host::LifeRooms;
 use engine_life::{ClosedLife, OpenLife, close_life};
 use engine_parts::Gate;
+use host_calls::{has_64_bits, pages_read_an_image, reads_an_image};
 use script_rounds::{LineKeeper, RoundThreads, SparePlan};
 use session_lang::Items;
 use std::alloc::Global;
 use std::sync::Wait;
 use std::thread::Threads;
 use tx_model::{Memory, NameList};
-use wal_core::WalLog;
-
-// A place in a log is below 2^64.
-fn has_64_bits(_place: u64)
-    ensures { _place < 2 ^ 64 }
-{}
-
-// A log's volume as it reads is one of its images.
-fn reads_an_image<L: LogDisk>(_log: &WalLog<L>)
-    ensures { IsTrue L.tells → L.images (log_disk _log.now) (L.reads (log_disk _log.now)) }
-{}
-
-// So a page volume.
-fn pages_read_an_image<P: PageDisk>()
-    ensures { IsTrue P.tells → (v : P) → P.images v (P.pages v) }
-{}
 
 /// Runs a part of a script in a life that is open, closes the life, and keeps its lines: its rounds one after another, the
 /// sessions of a round on such threads, and the dumps and checkpoints between them.

@@ -6,7 +6,7 @@ ghost use Rattle.engine_parts.specs.Calls.{MayRun};
 ghost use Rattle.script_rounds.specs.Plans.{HasPlaces};
 ghost use Rattle.run_law.specs.Turns as runnable;
 ghost use Rattle.run_law.specs.Turns.{MayAsk};
-ghost use Rattle.session_run.specs.Turns.{AreToldBy, Begins, MayGo, RunsNext, RunsRound, commands_of};
+ghost use Rattle.session_run.specs.Turns.{AreToldBy, Begins, MayGo, RunsNext, RunsRound, commands_of, member_of};
 
 use crate::commands::run_command;
 use disk_core::{LogDisk, PageDisk};
@@ -33,52 +33,87 @@ pub struct Member<K, L: LogDisk, P: PageDisk> {
 fn run_turn<R: Passing, K: LineKeeper, L: LogDisk, P: PageDisk>(
     rt: &R,
     hall: &Hall<EngineLaw<L, P>>,
-    member: &mut Member<K, L, P>,
+    caller: &mut Caller<L, P>,
+    lines: &mut ToldLines,
+    kept: &mut K,
     banks: u32,
     alloc: Global,
     names: &NameList,
     command: &Command,
 ) -> Result<(), Memory>
     requires ask { MayAsk command.now }
-    requires may { MayRun hall.now banks member.old.caller }
-    requires few { commands_of member.old.caller + 1 < 2 ^ 48 }
+    requires may { MayRun hall.now banks caller.old }
+    requires few { commands_of caller.old + 1 < 2 ^ 48 }
     requires told { AreToldBy P.tells (start_of hall.now) }
-    ensures { RunsNext K.LineKeeper hall.now banks names.now command.now result member.old member.new }
+    ensures { RunsNext K.LineKeeper hall.now banks names.now command.now result
+        (member_of caller.old kept.old lines.old) (member_of caller.new kept.new lines.new) }
 {
-    let reply = run_command(rt, hall, &mut member.caller, banks, alloc, command);
-    let by = command_of(&member.caller);
-    member.lines.add(by, command, &reply);
-    member.kept.add_line(names, by, command, &reply)
+    let reply = run_command(rt, hall, caller, banks, alloc, command);
+    let by = command_of(caller);
+    lines.add(by, command, &reply);
+    kept.add_line(names, by, command, &reply)
 }
 
 /// Runs the session's commands of a round, in their order: those at these places. Where memory is wanting it stops.
 fn run_places<R: Passing, K: LineKeeper, L: LogDisk, P: PageDisk>(
     rt: &R,
     hall: &Hall<EngineLaw<L, P>>,
-    member: &mut Member<K, L, P>,
+    caller: &mut Caller<L, P>,
+    lines: &mut ToldLines,
+    kept: &mut K,
     banks: u32,
     alloc: Global,
     names: &NameList,
     places: PlacesLeft<'_>,
     round: &Items,
 ) -> Result<(), Memory>
-    requires begins { Begins hall.now banks (length places) member.old }
+    requires begins { Begins hall.now banks (length places) (member_of caller.old kept.old lines.old) }
     requires items { All (runnable.MayRun (start_of hall.now).sessions) round.now }
-    requires places { HasPlaces member.old.caller.number round.now round.now places }
+    requires places { HasPlaces caller.old.number round.now round.now places }
     requires told { AreToldBy P.tells (start_of hall.now) }
-    ensures { RunsRound K.LineKeeper hall.now banks names.now round.now (IsOk result) member.old member.new }
+    ensures { RunsRound K.LineKeeper hall.now banks names.now round.now (IsOk result)
+        (member_of caller.old kept.old lines.old) (member_of caller.new kept.new lines.new) }
 {
     let mut left = places;
     while let Some(place) = left.next() {
-        if let Some(command) = command_at(member.caller.number, round, place as usize)? {
-            run_turn(rt, hall, member, banks, alloc, names, &command)?;
+        if let Some(command) = command_at(caller.number, round, place as usize)? {
+            run_turn(rt, hall, caller, lines, kept, banks, alloc, names, &command)?;
         }
     }
     Ok(())
 }
 
-/// Runs the session's commands of a round, at the places that the plan has for it. It
-/// passes the gate before each critical section.
+/// Runs the session's commands of a round, at the places that the plan has for it. It passes the gate before each critical
+/// section. Its lines are kept behind what was kept before.
+pub fn run_session<R: Wait, K: LineKeeper, L: LogDisk, P: PageDisk, G: Gate>(
+    rt: &R,
+    hall: &Hall<EngineLaw<L, P>>,
+    caller: &mut Caller<L, P>,
+    lines: &mut ToldLines,
+    kept: &mut K,
+    banks: u32,
+    alloc: Global,
+    names: &NameList,
+    plan: &Plan,
+    round: &Items,
+    gate: &G,
+) -> Result<(), Memory>
+    requires items { All (runnable.MayRun (start_of hall.now).sessions) round.now }
+    requires may { MayGo hall.now banks round.now plan.now (member_of caller.old kept.old lines.old) }
+    requires told { AreToldBy P.tells (start_of hall.now) }
+    ensures { RunsRound K.LineKeeper hall.now banks names.now round.now (IsOk result)
+        (member_of caller.old kept.old lines.old) (member_of caller.new kept.new lines.new) }
+{
+    let places = plan.places[caller.number as usize].left();
+    let gated = Gated { rt, gate };
+    let ran = run_places(
+        &gated, hall, caller, lines, kept, banks, alloc, names, places, round,
+    );
+    let Gated { rt: _, gate: _ } = gated;
+    ran
+}
+
+/// Runs the session's commands of a round, and notes whether memory was wanting for their lines.
 pub fn run_member<R: Wait, K: LineKeeper, L: LogDisk, P: PageDisk, G: Gate>(
     rt: &R,
     hall: &Hall<EngineLaw<L, P>>,
@@ -95,9 +130,9 @@ pub fn run_member<R: Wait, K: LineKeeper, L: LogDisk, P: PageDisk, G: Gate>(
     requires told { AreToldBy P.tells (start_of hall.now) }
     ensures { RunsRound K.LineKeeper hall.now banks names.now round.now (member.new.lost ≡ false) member.old member.new }
 {
-    let places = plan.places[member.caller.number as usize].left();
-    let gated = Gated { rt, gate };
-    let ran = run_places(&gated, hall, member, banks, alloc, names, places, round);
-    let Gated { rt: _, gate: _ } = gated;
+    let (by, told, kept) = (&mut member.caller, &mut member.lines, &mut member.kept);
+    let ran = run_session(
+        rt, hall, by, told, kept, banks, alloc, names, plan, round, gate,
+    );
     member.lost = ran.is_err();
 }

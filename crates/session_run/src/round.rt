@@ -1,5 +1,5 @@
 //! A round: its sessions are let in at the lock table, run on threads, and are taken back.
-ghost use Rattle.std.specs.Prelude.{◌≡◌, ℕ, List, ◌<◌, ◌≤◌, [], ◌++◌, All, OnOk, false, get_or, length, vec_capacity};
+ghost use Rattle.std.specs.Prelude.{◌≡◌, ℕ, List, ◌<◌, ◌≤◌, [], ◌∷◌, ◌++◌, All, OnOk, false, get_or, length, vec_capacity};
 ghost use Rattle.hall.specs.Calls.{start_of, view};
 ghost use Rattle.tx_model.specs.declared.report.Line.{Line};
 ghost use Rattle.engine_host.specs.Hosts.{HoldsAllBut, IsHost, IsParked};
@@ -9,7 +9,7 @@ ghost use Rattle.script_rounds.specs.Plans.{IsPlanOf};
 ghost use Rattle.session_run.specs.Rounds.{AllRan, AreApart, AreBack, AreParked, AreSent, HaveRun, MayAdd, MayReturn, StayBehind, WentRound, callers_of, is_among, numbers_of, with_members};
 ghost use Rattle.session_run.specs.Turns.{AreToldBy, MayGo};
 
-use crate::member::{Member, run_member};
+use crate::member::{Member, run_member, run_session};
 use disk_core::{LogDisk, PageDisk};
 use engine_host::{Host, admit, dismiss, new_session};
 use engine_parts::{EngineLaw, Gate, Session};
@@ -193,6 +193,49 @@ fn take_back<K: LineKeeper + Drop, L: LogDisk, P: PageDisk>(
     }
 }
 
+/// Runs a round of one session. Its lines are kept for the run at once.
+fn run_alone<R: Wait, K: LineKeeper, L: LogDisk, P: PageDisk, G: Gate>(
+    rt: &R,
+    alloc: Global,
+    hall: &Hall<EngineLaw<L, P>>,
+    host: &mut Host<L, P>,
+    sessions: &mut [Session],
+    number: u32,
+    plan: &Plan,
+    round: &Items,
+    names: &NameList,
+    kept: &mut K,
+    gate: &G,
+) -> Result<(), Memory>
+    requires host { IsHost hall.now host.old }
+    requires all { HoldsAllBut host.old [] }
+    requires parked { AreParked hall.now host.old sessions.old }
+    requires room { MayAdd (length round.now) sessions.old }
+    requires items { All (runnable.MayRun (start_of hall.now).sessions) round.now }
+    requires plan { IsPlanOf round.now round.now plan.now × (length plan.now.places.items ≡ length sessions.old) }
+    requires alone { plan.now.sessions.items ≡ number ∷ [] }
+    requires told { AreToldBy P.tells (start_of hall.now) }
+    ensures host { IsHost hall.now host.new }
+    ensures cluster { host.new.cluster ≡ host.old.cluster }
+    ensures all { HoldsAllBut host.new [] }
+    ensures parked { AreParked hall.now host.new sessions.new }
+    ensures count { length sessions.new ≡ length sessions.old }
+    ensures went { OnOk result ((lines : List Line)
+        × WentRound hall.now (turns_in round.now) host.old host.new sessions.old sessions.new lines
+        × (kept.new ≡ K.with_lines names.now kept.old lines)) }
+{
+    let session = mem::replace(&mut sessions[number as usize], new_session(alloc));
+    let banks = host.cluster.banks;
+    let mut caller = admit(hall, host, number, session);
+    let mut lines = ToldLines::none();
+    let (by, told) = (&mut caller, &mut lines);
+    let ran = run_session(
+        rt, hall, by, told, kept, banks, alloc, names, plan, round, gate,
+    );
+    sessions[number as usize] = dismiss(hall, host, caller);
+    ran
+}
+
 /// Runs a round of sessions over the lock table, in at most so many threads: each session with its commands, in their
 /// order. Keeps their lines, session by session in the order in which they first appear in the round.
 ///
@@ -228,6 +271,12 @@ pub fn run_round<K: LineKeeper + Send + Drop, L: LogDisk + Send + Sync, P: PageD
         × WentRound hall.now (turns_in round.now) host.old host.new sessions.old sessions.new lines
         × (kept.new ≡ K.with_lines names.now kept.old lines)) }
 {
+    if plan.sessions.len() == 1 {
+        let number = plan.sessions[0];
+        return run_alone(
+            rt, alloc, hall, host, sessions, number, plan, round, names, kept, gate,
+        );
+    }
     keeper_laws::<K>(names);
     let mut sent = Vec::with_capacity(alloc, plan.sessions.len())?;
     let banks = host.cluster.banks;

@@ -34,6 +34,7 @@ use engine_host::{Cluster, LifeRooms};
 use engine_life::laws::crash_goes_on;
 use engine_life::{EndText, NoLife, OpenLife, end_life, open_life};
 use engine_parts::Gate;
+use host_calls::same_cluster;
 use notes::Note;
 use script_gen::Summary;
 use script_rounds::{
@@ -57,17 +58,6 @@ fn cluster_of(script: &Script) -> Cluster
         base: script.base.same(),
         banks: script.banks,
         sessions: script.names.items().len() as u32,
-    }
-}
-
-/// The same cluster once more.
-fn same(cluster: &Cluster) -> Cluster
-    ensures { result ≡ cluster.now }
-{
-    Cluster {
-        base: cluster.base.same(),
-        banks: cluster.banks,
-        sessions: cluster.sessions,
     }
 }
 
@@ -259,7 +249,15 @@ fn end_part<R: Threads + Sync, K: Sink, M: Media>(
             return Err(stop);
         }
     };
-    match go_on(alloc, rooms, media, volumes, &log, how, same(cluster)) {
+    match go_on(
+        alloc,
+        rooms,
+        media,
+        volumes,
+        &log,
+        how,
+        same_cluster(cluster),
+    ) {
         Ok(life) => Ok(life),
         Err(refusal) => Err(Stopped::NoLife(refusal)),
     }
@@ -303,7 +301,7 @@ where
     let cluster = cluster_of(&script);
     let mut rooms = LifeRooms::new(alloc);
     let mut spare = SparePlan::none(alloc);
-    let mut life = match open_life(alloc, &mut rooms, media, same(&cluster)) {
+    let mut life = match open_life(alloc, &mut rooms, media, same_cluster(&cluster)) {
         Ok(life) => life,
         Err(refusal) => return Err(Stopped::NoLife(refusal)),
     };

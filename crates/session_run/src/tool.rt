@@ -1,5 +1,5 @@
 //! The tool's top call, with the main guarantee (`docs/GUARANTEES.md`).
-ghost use Rattle.std.specs.Prelude.{◌≡◌, ◌≤◌, ◌⊎◌, ◌++◌, ◌∷◌, ℕ, List, Option, [], IsTrue, codes, false, map, string_bytes, take};
+ghost use Rattle.std.specs.Prelude.{◌≡◌, ◌≤◌, ◌⊎◌, ℕ, List, Option, [], IsTrue, false, map, string_bytes, take};
 ghost use Rattle.std.specs.Io.KnownBytes.{Appends};
 ghost use Rattle.recoverable.specs.Fit.{KeptLog};
 ghost use Rattle.tx_io.specs.Amounts.{ReadsUpTo, most_read};
@@ -17,12 +17,12 @@ use disk_core::Media;
 use engine_parts::Gate;
 use script_gen::laws::generated_scripts_run;
 use script_gen::{Task, generate, task_of};
-use script_rounds::RoundThreads;
+use script_rounds::{RoundThreads, finish};
 use script_source::take_script;
 use std::alloc::Global;
 use std::sync::Wait;
 use std::thread::Threads;
-use tx_io::{Failed, Sink, Source, write_all};
+use tx_io::{Sink, Source};
 use tx_model::Memory;
 
 /// Reads the source, runs its script over the media, and makes the report.
@@ -138,19 +138,6 @@ where
     }
 }
 
-/// Writes the last text, and answers the status, or 4 where the sink fails.
-fn finish<K: Sink>(sink: &mut K, text: &[u8], status: u8) -> u8
-    ensures ends { ((result ≡ status) × Appends (K.held sink.old) (K.held sink.new) text.now)
-        ⊎ ((result ≡ 4) × Rose (K.faults sink.old) (K.faults sink.new)) }
-    ensures front { (n : ℕ) × Appends (K.held sink.old) (K.held sink.new) (take n text.now) }
-    ensures later { K.faults sink.old ≤ K.faults sink.new }
-{
-    match write_all(sink, text) {
-        Ok(()) => status,
-        Err(Failed) => 4,
-    }
-}
-
 /// Writes the text of an ending, and answers its status, or 4 where the sink fails.
 fn put_ending<K: Sink>(sink: &mut K, ending: Ending) -> u8
     ensures ends { ((result ≡ status_of ending) × Appends (K.held sink.old) (K.held sink.new) (text_of ending))
@@ -159,17 +146,6 @@ fn put_ending<K: Sink>(sink: &mut K, ending: Ending) -> u8
     ensures later { K.faults sink.old ≤ K.faults sink.new }
 {
     finish(sink, ending.text(), ending.status())
-}
-
-/// Says that the words of the command line found no memory, by the line `memory`. Answers status 6, or 4 where the sink
-/// failed.
-pub fn say_out_of_memory<K: Sink>(sink: &mut K) -> u8
-    ensures said { ((result ≡ 6) × Appends (K.held sink.old) (K.held sink.new) (codes "memory" ++ 10 ∷ []))
-        ⊎ ((result ≡ 4) × Rose (K.faults sink.old) (K.faults sink.new)) }
-    ensures front { result ≡ 4 → (n : ℕ)
-        × Appends (K.held sink.old) (K.held sink.new) (take n (codes "memory" ++ 10 ∷ [])) }
-{
-    finish(sink, b"memory\n", 6)
 }
 
 /// As `run_tool`, over a media whose volumes fit a log that is known (`kept`, which contracts alone see), as those do that

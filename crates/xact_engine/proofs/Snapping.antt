@@ -1,5 +1,5 @@
 -- What taking and dropping a snapshot leaves.
-use Rattle.std.proofs.Common.{◌≡◌, ◌≢◌, ℕ, ◌<◌, nat_le, is_some, is_none, List, [], ◌∷◌, ◌++◌, refl, sym, ap, subst, ◌∙◌, false, true, not, Bool, length, arith, take, Option, Some, None, inl}
+use Rattle.std.proofs.Common.{◌≡◌, ◌≢◌, ℕ, ◌<◌, nat_le, is_some, is_none, List, [], ◌∷◌, ◌++◌, refl, sym, ap, subst, ◌∙◌, false, true, not, Bool, length, arith, take, Option, Some, None, inl, cond, ◌||◌}
 use Rattle.std.proofs.lemmas.Bool.{lt-leb}
 use Rattle.std.proofs.lemmas.List.{length-map}
 use Rattle.std.proofs.Math.Seq.{take-append_seam}
@@ -158,3 +158,9 @@ pub call_reserved : (start : Start) (v : Knowledge) (n : ℕ) (s : Session) (new
 call_reserved start v n s new same items m =
     call_levels start v n s (record s { levels = new }) new refl (ap (λ z. z.commands) same)
     (λ st. stands start.base (history v.seen) n s.levels.commands new (rw (ap (λ z. z.open_ids.items) same, ap (λ z. z.level_ids.items) same, ap (λ z. z.unnamed) same, items) (stood start.base (history v.seen) n s.levels.commands s.levels st))) (λ q. inl (ap (λ (z : plain.Session). innermost (levels_of z.level_ids.items z.unnamed)) same)) m
+
+-- Of one item, at which the test gives true, nothing stays.
+pub forgets_only : {X : Type 0} (test : X → Bool) (xs : List X) → length xs ≡ 1 → list_any test xs ≡ true → [] ≡ filter (λ x. not (test x)) xs
+forgets_only test [] e is = refl
+forgets_only test (x ∷ []) e is = elim (test x) as (λ b. (b || false) ≡ true → [] ≡ cond (not b) (x ∷ []) []) [ true ↦ λ _. refl | false ↦ λ h. cc ] is
+forgets_only test (x ∷ y ∷ ys) e is = absurd (omega arith)

@@ -1,6 +1,6 @@
 //! Snapshots are taken and registered, and dropped.
-ghost use Rattle.std.specs.Prelude.{◌≡◌, ℕ, ◌+◌, ◌*◌, ◌<◌, ◌≤◌, ◌++◌, ◌∷◌, [], length, vec_len, vec_capacity, Some, None, MatchResult, false, true};
-ghost use Rattle.std.specs.List.{find, list_any};
+ghost use Rattle.std.specs.Prelude.{◌≡◌, ℕ, ◌+◌, ◌*◌, ◌<◌, ◌≤◌, ◌++◌, ◌∷◌, [], length, vec_len, vec_capacity, Some, None, MatchResult, false, not, true};
+ghost use Rattle.std.specs.List.{filter, find, list_any};
 ghost use Rattle.hall.specs.declared.view.Stage.TheVariants.{Inside};
 ghost use Rattle.hall.specs.Calls.{view, IsOf, start_of};
 ghost use Rattle.notes.specs.Lists.{at};
@@ -168,6 +168,18 @@ pub fn snap<R: Passing, L: LogDisk, P: PageDisk>(
     take(rt, hall, caller, name)
 }
 
+/// Lets go of the snapshot of this name, which is there: mostly the only one.
+fn let_go(registered: &mut Vec<RegisteredSnapshot>, name: &Name)
+    requires { list_any (λ k. same_name k.name name.now) registered.old.items ≡ true }
+    ensures { registered.new.items ≡ filter (λ k. not (same_name k.name name.now)) registered.old.items }
+{
+    if registered.len() == 1 {
+        registered.clear();
+    } else {
+        forget(registered, name.items());
+    }
+}
+
 /// Leaves the ProcArray, of which the session's snapshot of this name was dropped, and forgets it.
 fn unregister<L: LogDisk, P: PageDisk>(
     hall: &Hall<EngineLaw<L, P>>,
@@ -206,7 +218,7 @@ fn unregister<L: LogDisk, P: PageDisk>(
 {
     let entry = Note::by(&(by, name));
     leave_proc(hall, caller, table, entry);
-    forget(&mut caller.session.levels.registered, name.items());
+    let_go(&mut caller.session.levels.registered, name);
 }
 
 /// Drops a snapshot that the session has.

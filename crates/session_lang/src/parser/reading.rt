@@ -4,6 +4,7 @@ ghost use Rattle.std.specs.Prelude.{◌≡◌, ◌&&◌, not, ℕ, ◌+◌, ◌<
 ghost use Rattle.script_lines.specs.Kinds.{Gives};
 ghost use Rattle.script_lines.specs.Header.{is_header_word};
 ghost use Rattle.script_lines.specs.LineWords.{is_plain, words_in};
+ghost use Rattle.script_lines.specs.Said.{said};
 ghost use Rattle.tx_events.specs.Names.{is_name};
 ghost use Rattle.session_lang.specs.Reading.{HasRead, IsNew};
 ghost use Rattle.session_lang.specs.Answers.{ReadsAs};
@@ -15,10 +16,10 @@ ghost use Rattle.session_lang.specs.Script.{at_line, place_of, with_turn, comman
 use crate::items::ItemList;
 use crate::script::ParseRefusal;
 use script_lines::{
-    Directive, Header, Kind, Stop, command_at, directive_at, is_header_word, next_word,
+    Directive, Header, Kind, Said, Stop, command_at, directive_at, is_header_word, next_word,
 };
 use std::alloc::Global;
-use tx_model::{Command, Memory, Name, NameList, is_name};
+use tx_model::{Memory, Name, NameList, is_name};
 
 /// The sessions that a script may have.
 const MAX_SESSIONS: usize = 64;
@@ -149,11 +150,11 @@ impl Reading {
     }
 
     /// Adds a command of a session that has one.
-    fn add_old(&mut self, session: usize, name: &[u8], command: &Command) -> Result<(), Stop>
+    fn add_old(&mut self, session: usize, name: &[u8], command: &Said<'_>) -> Result<(), Stop>
         requires so_far { HasRead self.old.front.names self.old.commands.items self.old.front.items }
         requires known { session < length self.old.front.names }
-        requires ranges { IsInRange command.now }
-        ensures adds { Gives (λ _. self.new.front) result (with_turn self.old.front session name.now command.now) }
+        requires ranges { IsInRange (said command.now) }
+        ensures adds { Gives (λ _. self.new.front) result (with_turn self.old.front session name.now (said command.now)) }
         ensures few { OnOk result (length self.new.front.items ≡ length self.old.front.items + 1) }
         ensures so_far { OnOk result (HasRead self.new.front.names self.new.commands.items self.new.front.items) }
     {
@@ -169,13 +170,13 @@ impl Reading {
     }
 
     /// Adds the first command of a session.
-    fn add_new(&mut self, name: &[u8], command: &Command) -> Result<(), Stop>
+    fn add_new(&mut self, name: &[u8], command: &Said<'_>) -> Result<(), Stop>
         requires so_far { HasRead self.old.front.names self.old.commands.items self.old.front.items }
         requires named { is_name name.now ≡ true }
         requires short { length name.now ≤ 16 }
         requires fresh { IsNew self.old.front.names name.now }
-        requires ranges { IsInRange command.now }
-        ensures adds { Gives (λ _. self.new.front) result (with_turn self.old.front (length self.old.front.names) name.now command.now) }
+        requires ranges { IsInRange (said command.now) }
+        ensures adds { Gives (λ _. self.new.front) result (with_turn self.old.front (length self.old.front.names) name.now (said command.now)) }
         ensures few { OnOk result (length self.new.front.items ≡ length self.old.front.items + 1) }
         ensures so_far { OnOk result (HasRead self.new.front.names self.new.commands.items self.new.front.items) }
     {
@@ -196,12 +197,12 @@ impl Reading {
     }
 
     /// Adds a command. Sessions are numbered in the order in which their names first come.
-    fn add(&mut self, name: &[u8], command: &Command) -> Result<(), Stop>
+    fn add(&mut self, name: &[u8], command: &Said<'_>) -> Result<(), Stop>
         requires so_far { HasRead self.old.front.names self.old.commands.items self.old.front.items }
         requires named { is_name name.now ≡ true }
         requires short { length name.now ≤ 16 }
-        requires ranges { IsInRange command.now }
-        ensures adds { Gives (λ _. self.new.front) result (with_turn self.old.front (place_of self.old.front.names name.now) name.now command.now) }
+        requires ranges { IsInRange (said command.now) }
+        ensures adds { Gives (λ _. self.new.front) result (with_turn self.old.front (place_of self.old.front.names name.now) name.now (said command.now)) }
         ensures few { OnOk result (length self.new.front.items ≡ length self.old.front.items + 1) }
         ensures so_far { OnOk result (HasRead self.new.front.names self.new.commands.items self.new.front.items) }
     {

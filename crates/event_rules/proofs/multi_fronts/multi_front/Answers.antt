@@ -9,11 +9,14 @@ use Rattle.event_rules.proofs.multi_fronts.multi_front.Goals as goal
 pub returns-then-not-branch : goal.returns-then-not-branch
 returns-then-not-branch c =
     let stays = c.in_ok-add.ensures.refused c.if-not-branch.true in
-    subst (λ (r : MultiReplayed). IsMultiFront c.args.base c.args.starts.items c.args.multis.now r) (sym stays.1)
-    (multi_front_here c.args.base c.args.starts.items c.args.multis.now c.loop-event.places c.loop-event.event-index c.event-item.result
+    subst (λ (r : MultiReplayed). IsMultiFront c.args.base c.args.starts.now c.args.multis.now r) (sym stays.1)
+    (multi_front_here c.args.base c.args.starts.now c.args.multis.now c.loop-event.places c.loop-event.event-index c.event-item.result
     c.loop-event.invariant.base c.loop-event.invariant.starts c.loop-event-test.true c.loop-event.invariant.sofar c.event-item.is stays.0)
 
 pub returns : goal.returns
 returns c =
-    multi_front_whole c.args.base c.args.starts.items c.args.multis.now c.loop-event.places c.loop-event.event-index
+    multi_front_whole c.args.base c.args.starts.now c.args.multis.now c.loop-event.places c.loop-event.event-index
     c.loop-event.invariant.base c.loop-event.invariant.starts c.loop-event-test.false c.loop-event.invariant.sofar
+
+pub add-requires : goal.add-requires
+add-requires c = sym c.loop-event.invariant.starts

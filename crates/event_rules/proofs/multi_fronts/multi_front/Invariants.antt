@@ -5,5 +5,5 @@ abbrev pub invariant-loop-event : goal.invariant-loop-event
 invariant-loop-event l = record {
   sofar : l.places.events ≡ take l.event-index l.multis;
   base : l.places.base ≡ l.fn.base;
-  starts : l.places.starts ≡ l.fn.starts.items;
+  starts : l.places.starts ≡ l.starts;
 }

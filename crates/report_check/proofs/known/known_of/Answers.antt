@@ -149,7 +149,7 @@ returns g c =
     subst (λ (x : LifeReport). AreTakenByLines x.life.base.next h.places.events (bys_of table) c.in_ok-taken.taken.items) (sym e) taken_2 in
     let taken : AreTakenByLines g.at.begun.counters.next h.places.events (bys_of table) c.in_ok-taken.taken.items =
     subst (λ (b : Counters). AreTakenByLines b.next h.places.events (bys_of table) c.in_ok-taken.taken.items) (sym base) taken_3 in
-    let starts : m.starts ≡ c.args.starts.now = multi_front.starts_are ∙ c.in_ok-copied.ensures in
+    let starts : m.starts ≡ c.args.starts.now = multi_front.starts_are in
     let fronted : IsMultiFront g.at.begun.counters m.starts r.life.multis m =
     subst (λ (b : Counters). IsMultiFront b m.starts r.life.multis m) (sym base) (subst (λ (ss : List Start). IsMultiFront r.life.base ss r.life.multis m) (sym multi_front.starts_are) multi_front) in
     let multi_turns : AreAllOwn (map multi_by m.events) 64 c.in_ok-multi_turns.multi_turns.items =

@@ -38,5 +38,4 @@ returns-clause-taken c =
     let l = c.in_ok-said.said in
     command_taken t c.args.line.now c.args.name.now c.note.new.names l _ (sym c.in_round.ensures ∙ c.if-not-in_round.false) c.requires.some c.requires.name c.in_ok-place.ensures.noted c.in_ok-place.ensures.few c.in_ok-said.ensures.found
     (c.is_next.ensures.0 c.if-not-is_next.false) (sym c.may_speak.ensures ∙ c.if-not-may_speak.false)
-    (ap (λ (ls : List Line). record (after t (items.command l)) { names = c.note.new.names; lines = ls; spoken = c.note_turn.new.spoken }) (c.in_ok-push.ensures.ok ∙ ap (λ (x : Line). t.lines ++ x ∷ []) (c.in_ok-of.ensures ∙ c.in_ok-line.ensures))
-    ∙ ap (λ (ss : List ℕ). record (after t (items.command l)) { names = c.note.new.names; spoken = ss }) c.in_ok-note_turn.ensures)
+    c.in_ok-add_line.ensures

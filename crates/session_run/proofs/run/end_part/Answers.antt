@@ -43,7 +43,7 @@ go_on-requires g c κs within =
     let many : HasBanks (length (volumes_left closed).xact.items) (volumes_left closed) = subst (λ n. HasBanks n (volumes_left closed)) (sym has.xact) has in
     let back = c.tell_part-volumes.ensures.volumes in
     let banks = subst (λ volumes. HasBanks (length volumes.xact.items) volumes) (sym back) many in
-    let cluster = subst (λ (k : Cluster). IsCluster k) (sym c.same.ensures) c.requires.cluster in
+    let cluster = subst (λ (k : Cluster). IsCluster k) (sym c.same_cluster.ensures) c.requires.cluster in
     let kept = c.in-Ok.log.value.kept in
     let log = c.type_bounds.send-M-Log in
     let pages = c.type_bounds.send-M-Pages in
@@ -72,8 +72,8 @@ returns-in-Ok-go_on-clause-next g c = λ ran cluster.
     let part = told_so l p m.falls c.args.names.now c.args.number c.args.lived ran (Some how) w.0 w.1 in
     let same = life_over_is run.cluster run.begins run.faults c.args.lived.ended.start.value closed ran.is.start_is in
     let has = same_banks l p run.cluster.banks run.mounted (volumes_left closed) run.opened.banks w.1.left.same in
-    let gone = subst (λ (x : Cluster × ℕ). HasGoneOn l p m.falls how kept x.0 x.1 (volumes_left closed) next) (λ j. ((c.same.ensures ∙ cluster) j, (has.xact ∙ run.banks_are) j))
-    (subst (λ volumes. HasGoneOn l p m.falls how kept c.same.result (length volumes.xact.items) volumes next) c.tell_part-volumes.ensures.volumes c.in-Ok-go_on.ensures.next) in (
+    let gone = subst (λ (x : Cluster × ℕ). HasGoneOn l p m.falls how kept x.0 x.1 (volumes_left closed) next) (λ j. ((c.same_cluster.ensures ∙ cluster) j, (has.xact ∙ run.banks_are) j))
+    (subst (λ volumes. HasGoneOn l p m.falls how kept c.same_cluster.result (length volumes.xact.items) volumes next) c.tell_part-volumes.ensures.volumes c.in-Ok-go_on.ensures.next) in (
       r,
       part,
       w.2,
@@ -108,8 +108,8 @@ returns-clause-stopped g c = λ ran cluster.
       volumes_left closed,
       told_so l p m.falls c.args.names.now c.args.number c.args.lived ran (Some how) w.0 w.1,
       w.2,
-      subst (λ (x : Cluster). IsCrashed l p x m.falls how before now (volumes_left closed) gives refusal) (c.same.ensures ∙ cluster)
-          (subst (λ volumes. IsCrashed l p c.same.result m.falls how before now volumes gives refusal) back c.in-Err-go_on.ensures.refused),
+      subst (λ (x : Cluster). IsCrashed l p x m.falls how before now (volumes_left closed) gives refusal) (c.same_cluster.ensures ∙ cluster)
+          (subst (λ volumes. IsCrashed l p c.same_cluster.result m.falls how before now volumes gives refusal) back c.in-Err-go_on.ensures.refused),
       λ pt lt. (
         kept,
         subst (λ (life : Life). FitsLife l p life (volumes_left closed) kept) same (fits pt lt),

@@ -22,9 +22,9 @@ open_life-requires g c κs within =
     let own = c.requires.1.1.1.1.1.1 in
     let log = own.0 in
     let pages = own.1.0 in
-    let cluster = subst (λ (k : Cluster). IsCluster k) (sym c.same.ensures) c.cluster_of-cluster.ensures.cluster in
+    let cluster = subst (λ (k : Cluster). IsCluster k) (sym c.same_cluster.ensures) c.cluster_of-cluster.ensures.cluster in
     let asked = own.1.1.1.1.1.1.1 in
-    let may = may_over g.M.Log.LogDisk g.M.Pages.PageDisk c.args.script (MayMount (m.is_new c.args.media.now) (m.begins c.args.media.now) (m.gives c.args.media.now)) g.kept c.same.result (c.same.ensures ∙ c.cluster_of-cluster.ensures.is) asked.1 in
+    let may = may_over g.M.Log.LogDisk g.M.Pages.PageDisk c.args.script (MayMount (m.is_new c.args.media.now) (m.begins c.args.media.now) (m.gives c.args.media.now)) g.kept c.same_cluster.result (c.same_cluster.ensures ∙ c.cluster_of-cluster.ensures.is) asked.1 in
     (search (rules, within), (search (rules, within), (search (rules, within), (record { owned = log.owned; leaving = λ k. log.leaving (λ a. k (of_param 1)) }, (record { owned = pages.owned; leaving = λ k. pages.leaving (λ a. k (of_param 2)) }, (cluster, (asked.0, may)))))))
 
 pub returns-in-Err-clause-stopped : goal.returns-in-Err-clause-stopped
@@ -39,7 +39,7 @@ returns-in-Err-clause-stopped g c =
     let now = m.faults c.open_life.new.media in
     let gives = m.gives c.open_life.new.media in
     unopened_stops l p s first g.kept (m.is_new c.args.media.now ≡ false) m.falls before now gives (k.held c.args.sink.now) (k.faults c.args.sink.now) (k.faults c.args.sink.now) c.in-Err.refusal
-    (unopened_first l p s g.kept (m.is_new c.args.media.now) (m.begins c.args.media.now) (m.gives c.args.media.now) m.falls before now gives c.same.result c.in-Err.refusal (c.same.ensures ∙ c.cluster_of-cluster.ensures.is) c.in-Err.ensures.refused
+    (unopened_first l p s g.kept (m.is_new c.args.media.now) (m.begins c.args.media.now) (m.gives c.args.media.now) m.falls before now gives c.same_cluster.result c.in-Err.refusal (c.same_cluster.ensures ∙ c.cluster_of-cluster.ensures.is) c.in-Err.ensures.refused
     (λ was told. c.in-Err.ensures.again told was))
 
 pub lives-init : goal.lives-init
@@ -49,7 +49,7 @@ lives-init g c =
     let held = g.K.Sink.held c.args.sink.now in
     let first = MayMount (m.is_new c.args.media.now) (m.begins c.args.media.now) (m.gives c.args.media.now) in
     let life = c.in-Ok.life.value in
-    let is = is_first g.M.Log.LogDisk g.M.Pages.PageDisk s first g.kept c.same.result life (c.same.ensures ∙ c.cluster_of-cluster.ensures.is) (c.requires.1.1.1.1.1.1.1.1.1.1.1.1.1.1) c.in-Ok.ensures.life in (
+    let is = is_first g.M.Log.LogDisk g.M.Pages.PageDisk s first g.kept c.same_cluster.result life (c.same_cluster.ensures ∙ c.cluster_of-cluster.ensures.is) (c.requires.1.1.1.1.1.1.1.1.1.1.1.1.1.1) c.in-Ok.ensures.life in (
       subst (λ (its : List Item). HasCome {l = g.M.Log.LogDisk} {p = g.M.Pages.PageDisk} s first g.kept (m.is_new c.args.media.now ≡ false) m.falls held held its 1 life) (sym c.items-items.ensures) (come_first s first g.kept (m.is_new c.args.media.now ≡ false) m.falls held life (c.requires.1.1.1.1.1.1.1.1.1.1.1.1.0) is),
       c.in-Ok.ensures.count,
       omega arith,

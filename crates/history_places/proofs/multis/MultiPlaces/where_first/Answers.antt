@@ -12,4 +12,4 @@ span_of-requires c =
     (column_rises (first_in c.self.inside.multis.base) c.self.inside.multis.events c.self.inside.firsts.items c.self.invariant.1.first (firsts_rise c.self.inside.multis.base c.counters_never_fall.ensures c.events-legal.ensures.base c.self.inside.multis.events c.events-legal.ensures.legal))
 
 pub returns : goal.returns
-returns c = where_is first_in c.self.inside.multis c.self.inside.starts.items c.args.self.now c.self.inside.firsts.items c.as_slice.result.now c.args.offset c.span_of.result c.self.view_is c.self.invariant.1.first c.as_slice.ensures.value c.span_of.ensures
+returns c = where_is first_in c.self.inside.multis c.self.inside.starts.value c.args.self.now c.self.inside.firsts.items c.as_slice.result.now c.args.offset c.span_of.result c.self.view_is c.self.invariant.1.first c.as_slice.ensures.value c.span_of.ensures

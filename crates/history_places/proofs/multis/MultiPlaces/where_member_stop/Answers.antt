@@ -12,4 +12,4 @@ span_of-requires c =
     (column_rises (member_stop_in c.self.inside.multis.base) c.self.inside.multis.events c.self.inside.member_stops.items c.self.invariant.1.member_stop (member_stops_rise c.self.inside.multis.base c.counters_never_fall.ensures c.events-legal.ensures.base c.limits_rise.ensures c.self.inside.multis.events c.events-legal.ensures.legal))
 
 pub returns : goal.returns
-returns c = where_is member_stop_in c.self.inside.multis c.self.inside.starts.items c.args.self.now c.self.inside.member_stops.items c.as_slice.result.now c.args.stop c.span_of.result c.self.view_is c.self.invariant.1.member_stop c.as_slice.ensures.value c.span_of.ensures
+returns c = where_is member_stop_in c.self.inside.multis c.self.inside.starts.value c.args.self.now c.self.inside.member_stops.items c.as_slice.result.now c.args.stop c.span_of.result c.self.view_is c.self.invariant.1.member_stop c.as_slice.ensures.value c.span_of.ensures

@@ -12,4 +12,4 @@ span_of-requires c =
     (column_rises (next_in c.self.inside.multis.base) c.self.inside.multis.events c.self.inside.nexts.items c.self.invariant.1.next (nexts_rise c.self.inside.multis.base c.counters_never_fall.ensures c.events-legal.ensures.base c.self.inside.multis.events c.events-legal.ensures.legal))
 
 pub returns : goal.returns
-returns c = where_is next_in c.self.inside.multis c.self.inside.starts.items c.args.self.now c.self.inside.nexts.items c.as_slice.result.now c.args.multi c.span_of.result c.self.view_is c.self.invariant.1.next c.as_slice.ensures.value c.span_of.ensures
+returns c = where_is next_in c.self.inside.multis c.self.inside.starts.value c.args.self.now c.self.inside.nexts.items c.as_slice.result.now c.args.multi c.span_of.result c.self.view_is c.self.invariant.1.next c.as_slice.ensures.value c.span_of.ensures

@@ -1,6 +1,6 @@
 use Rattle.std.proofs.Common.{length, subst, sym, take_all, arith}
 use Rattle.std.specs.Io.KnownBytes.{Appends}
-use Rattle.session_run.proofs.tool.finish.Goals as goal
+use Rattle.script_rounds.proofs.last_text.finish.Goals as goal
 
 pub returns-in-Ok-clause-front : goal.returns-in-Ok-clause-front
 returns-in-Ok-clause-front g c =

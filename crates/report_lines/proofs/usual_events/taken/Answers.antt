@@ -1,0 +1,14 @@
+use Rattle.std.proofs.Common.{◌++◌, codes, subst, sym}
+use Rattle.tx_events.specs.declared.event.By.{By}
+use Rattle.tx_events.specs.declared.event.Event.TheVariants as events
+use Rattle.report_lines.specs.Fits.{FitsEvent}
+use Rattle.report_lines.specs.Texts.{IsLineOf, event_line}
+use Rattle.report_lines.proofs.Exchanges.{is_taken}
+use Rattle.report_lines.proofs.usual_events.taken.Goals as goal
+
+pub returns : goal.returns
+returns c =
+    let ns = c.args.names.now in
+    let rest = c.args.rest.now in
+    let f = c.in_ok-by.ensures in
+    subst (λ (b : By). IsLineOf (FitsEvent ns) (event_line ns) (codes "snap " ++ rest) (events.Snap c.in_ok-by.name b)) (sym c.of.ensures) (is_taken ns rest c.in_ok-by.by c.in_ok-by.name f.text f.fits f.name)

@@ -1,0 +1,26 @@
+-- The parts of the commonest lines.
+use Rattle.std.specs.Prelude.{◌≡◌, ℕ, Bool, cond, List, [], ◌∷◌, ◌++◌, codes}
+use Rattle.std.specs.Fmt.{decimal}
+use Rattle.tx_events.specs.declared.event.By.{By}
+use Rattle.report_text.specs.Words.{more, name_at}
+use Rattle.report_text.specs.CommandText.{command_words}
+use Rattle.report_text.specs.ReplyText.{reply_words}
+use Rattle.tx_model.specs.declared.command.Command.{Command}
+use Rattle.tx_model.specs.declared.reply.Reply.{Reply}
+use Rattle.report_words.specs.Fits.{FitsReply}
+use Rattle.report_words.specs.Replies.{kind_of}
+use Rattle.report_lines.specs.Fits.{FitsCommand}
+
+-- a session's name and the number of its command, and what is behind them
+abbrev pub by_front : List (List ℕ) → By → List ℕ → List ℕ
+by_front names by rest = name_at names by.session ++ 32 ∷ (decimal by.command ++ rest)
+
+-- what is behind a command's number: the command with its reply
+pub record IsExchange (rest : List ℕ) (c : Command) (r : Reply) : Type 0 where
+  pub text : (names : List (List ℕ)) → rest ≡ more (command_words c ++ codes "->" ∷ reply_words names r) ++ 10 ∷ []
+  pub command : FitsCommand c
+  pub reply : FitsReply (kind_of c) r
+
+-- the end of a line that tells whether an id is visible
+abbrev pub seen_end : Bool → List ℕ
+seen_end visible = cond visible (codes " -> visible") (codes " -> hidden") ++ 10 ∷ []

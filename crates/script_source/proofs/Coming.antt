@@ -1,5 +1,5 @@
 -- What came of a script so far.
-use Rattle.std.proofs.Common.{◌≡◌, ◌∙◌, ◌⊎◌, ℕ, ◌+◌, ◌<◌, ◌≤◌, ◌++◌, List, [], Option, ap, append-nil, append_assoc, arith, inl, inr, length, length-append, subst, sym, Result, Ok, Err}
+use Rattle.std.proofs.Common.{◌≡◌, ◌∙◌, ◌⊎◌, ℕ, ◌+◌, ◌-◌, ◌<◌, ◌≤◌, ◌++◌, List, [], Option, ap, append-nil, append_assoc, arith, inl, inr, length, length-append, subst, sym, Result, Ok, Err}
 use Rattle.std.proofs.KnownBytes.{Consumes-nil, Consumes-trans}
 use Rattle.std.specs.Io.KnownBytes.{Consumes, IsAtEnd}
 use Rattle.tx_io.specs.Amounts.{ReadsUpTo, most_read}
@@ -77,7 +77,7 @@ pub fault_came : (left left' : Option (List ℕ)) (r : ScriptReader) (kept : Lis
     → (more : List ℕ) → read_lines no_front 1 (lines_of (c.bytes ++ more)) ≡ Err (line, kind)
 fault_came left left' r kept came line kind c told more = c.on more ∙ told more
 
-rose_from : (a b c : ℕ) → a ≤ b → Rose b c → Rose a c
+pub rose_from : (a b c : ℕ) → a ≤ b → Rose b c → Rose a c
 rose_from a b c low rose = grind arith
 
 -- the refusal of what came is the whole source's
@@ -108,3 +108,11 @@ refused_long front left left' faults faults' (no_scripts.Refused text) passed to
     record { rest = passed.0; read = passed.1; ended = inr long; fault = (0, kinds.Size); refused = ap (refusal_by (front ++ passed.0)) (too_long (front ++ passed.0) long); exact = told }
 refused_long front left left' faults faults' no_scripts.ReadFault passed told = absurd told
 refused_long front left left' faults faults' no_scripts.Memory passed told = tt
+
+-- how much was read in all
+pub read_after : (left mid left' : Option (List ℕ)) (r : ScriptReader) (kept : List ℕ) (came : ℕ) → Comes left mid r kept came → came ≤ 16777217 → ReadsUpTo (most_read - came) mid left' → ReadsUpTo most_read left left'
+read_after left mid left' r kept came c bound more = let few = more.few in let count = c.count in record {
+  bytes = c.bytes ++ more.bytes;
+  read = Consumes-trans left mid left' c.bytes more.bytes c.read more.read;
+  few = omega (arith, few, count, bound, length-append c.bytes more.bytes);
+}

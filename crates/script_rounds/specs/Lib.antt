@@ -1,4 +1,5 @@
 pub mod Plans
 pub mod Stepped
 pub mod Counted
+pub mod Sources
 pub mod Woven

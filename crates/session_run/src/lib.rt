@@ -14,5 +14,4 @@ mod run;
 mod stop;
 mod tool;
 
-pub use script_rounds::say_out_of_memory;
 pub use tool::{run_tool, run_tool_behind};

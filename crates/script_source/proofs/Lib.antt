@@ -1,3 +1,0 @@
-mod StreamLemmas
-mod RunLemmas
-mod PieceLemmas

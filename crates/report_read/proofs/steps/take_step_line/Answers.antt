@@ -4,7 +4,7 @@ use Rattle.report_read.specs.Item as items
 use Rattle.report_read.proofs.Standing.{plain_taken}
 use Rattle.report_read.proofs.steps.take_step_line.Goals as goal
 
-pub returns-in-Some-clause-taken : goal.returns-in-Some-clause-taken
-returns-in-Some-clause-taken c =
+pub returns-in_ok-add_line-in-Some-clause-taken : goal.returns-in_ok-add_line-in-Some-clause-taken
+returns-in_ok-add_line-in-Some-clause-taken c =
     let f = c.in-Some.ensures in
-    plain_taken c.args.told.now (items.command c.in-Some.said) _ (drop 1 c.args.line.now) f.stands f.rule (sym (take_rest c.args.line.now 1) ∙ f.text) refl c.in_ok-add_line.ensures
+    plain_taken c.args.told.now (items.command c.in-Some.said) _ (drop 1 c.args.line.now) f.stands f.rule (sym (take_rest c.args.line.now 1) ∙ f.text) refl c.in_ok-add_line-in-Some.ensures

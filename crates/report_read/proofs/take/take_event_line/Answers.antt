@@ -10,8 +10,8 @@ use Rattle.report_read.proofs.Noting.{place_noted}
 use Rattle.report_read.proofs.Standing.{event_within, plain_taken}
 use Rattle.report_read.proofs.take.take_event_line.Goals as goal
 
-pub returns-in-Some-clause-taken : goal.returns-in-Some-clause-taken
-returns-in-Some-clause-taken c =
+pub returns-in_ok-push-in-Some-clause-taken : goal.returns-in_ok-push-in-Some-clause-taken
+returns-in_ok-push-in-Some-clause-taken c =
     let t = c.args.told.now in
     let e = c.in-Some.event in
     let f = c.in-Some.ensures in
@@ -20,4 +20,4 @@ returns-in-Some-clause-taken c =
     plain_taken t (items.event e) _ (drop 1 c.args.line.now) (ap (may_stand (items.event e)) c.requires.stage)
     (record { within = within; noted = place_noted t.names (name_at t.names s) s (place_again t.names s c.requires.few.are.distinct within); few = c.requires.few.few; are = c.requires.few.are }, f.fit)
     (sym (take_rest c.args.line.now 1) ∙ f.text) refl
-    (ap (λ (es : List Event). record t { events = es }) c.in_ok-push.ensures.ok)
+    (ap (λ (es : List Event). record t { events = es }) c.in_ok-push-in-Some.ensures.ok)

@@ -3,8 +3,6 @@ pub mod ItemLemmas
 pub mod RoundLemmas
 pub mod PlanLemmas
 pub mod Counting
-mod StreamLemmas
-mod RunLemmas
 mod Fronts
 mod Weaving
 mod Spreading

@@ -1,5 +1,4 @@
 pub mod Plans
 pub mod Stepped
 pub mod Counted
-pub mod Sources
 pub mod Woven

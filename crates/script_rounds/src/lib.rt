@@ -1,4 +1,4 @@
-//! A script from its source to its end: it is read, its lives and rounds tell which commands are whose, what was told of
+//! A script to its end: its lives and rounds tell which commands are whose, what was told of
 //! them and what is kept of that, on how many threads a round runs; and a life's text is written. See
 //! `docs/GUARANTEES.md`.
 #![tactic(auto)]
@@ -11,8 +11,6 @@ mod places;
 mod plan;
 mod repeated;
 mod round_threads;
-mod script;
-mod source;
 mod steps;
 mod tally;
 mod told;
@@ -25,8 +23,6 @@ pub use life_text::{LifeText, have_full_multis, put_life, whole_text};
 pub use places::PlacesLeft;
 pub use plan::{Plan, SparePlan};
 pub use round_threads::RoundThreads;
-pub use script::NoScript;
-pub use source::take_script;
 pub use steps::Steps;
 pub use tally::Tally;
 pub use told::ToldLines;

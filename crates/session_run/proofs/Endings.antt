@@ -15,9 +15,9 @@ use Rattle.script_gen.specs.Laws.{MayRunWhole}
 use Rattle.script_gen.specs.Summaries.{IsSummaryOf}
 use Rattle.script_gen.specs.Words.{IsGen}
 use Rattle.script_gen.proofs.GenWords.{gen_few}
-use Rattle.script_rounds.specs.declared.script.NoScript.{NoScript}
-use Rattle.script_rounds.specs.declared.script.NoScript.TheVariants as no_scripts
-use Rattle.script_rounds.specs.Sources.{HasScript, IsNoScriptOf}
+use Rattle.script_source.specs.declared.script.NoScript.{NoScript}
+use Rattle.script_source.specs.declared.script.NoScript.TheVariants as no_scripts
+use Rattle.script_source.specs.Sources.{HasScript, IsNoScriptOf}
 use Rattle.recoverable.specs.Fit.{KeptLog}
 use Rattle.engine_life.specs.declared.refusal.NoLife.{NoLife}
 use Rattle.engine_life.specs.declared.refusal.NoLife.TheVariants as no_lives

@@ -10,8 +10,8 @@ use Rattle.disk_core.specs.declared.media.Volumes.{Volumes}
 use Rattle.run_law.specs.Tool.{IsRefused, IsRun, IsWholeRun}
 use Rattle.script_gen.specs.Generated.{generated}
 use Rattle.script_gen.specs.Words.{IsGen}
-use Rattle.script_rounds.specs.declared.script.NoScript.{NoScript}
-use Rattle.script_rounds.specs.declared.script.NoScript.TheVariants as no_scripts
+use Rattle.script_source.specs.declared.script.NoScript.{NoScript}
+use Rattle.script_source.specs.declared.script.NoScript.TheVariants as no_scripts
 use Rattle.recoverable.specs.Fit.{KeptLog}
 use Rattle.engine_life.specs.declared.refusal.NoLife.{NoLife}
 use Rattle.engine_life.specs.declared.refusal.NoLife.TheVariants as no_lives

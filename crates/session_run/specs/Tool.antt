@@ -17,9 +17,9 @@ use Rattle.script_gen.specs.declared.task.Task.TheVariants as tasks
 use Rattle.script_gen.specs.Summaries.{IsSummaryOf}
 pub use Rattle.script_gen.specs.Tasks.{IsAccepted, IsSized, IsTask}
 use Rattle.tx_io.specs.Causes.{Rose}
-use Rattle.script_rounds.specs.declared.script.NoScript.{NoScript}
-use Rattle.script_rounds.specs.declared.script.NoScript.TheVariants as no_scripts
-use Rattle.script_rounds.specs.Sources.{HasScript}
+use Rattle.script_source.specs.declared.script.NoScript.{NoScript}
+use Rattle.script_source.specs.declared.script.NoScript.TheVariants as no_scripts
+use Rattle.script_source.specs.Sources.{HasScript}
 use Rattle.recoverable.specs.Fit.{KeptLog}
 use Rattle.engine_life.specs.declared.refusal.NoLife.{NoLife}
 use Rattle.engine_life.specs.declared.refusal.NoLife.TheVariants as no_lives

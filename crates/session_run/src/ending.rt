@@ -5,7 +5,7 @@ ghost use Rattle.session_run.specs.Tool.{TellsRefusal, TellsStop, damage_text, s
 use crate::stop::Stopped;
 use engine_life::NoLife;
 use report_text::Text;
-use script_rounds::NoScript;
+use script_source::NoScript;
 use std::alloc::Global;
 use tx_model::Memory;
 

@@ -7,9 +7,9 @@ use Rattle.run_law.specs.Refusals.{refusal_by, refusal_of}
 use Rattle.session_lang.specs.declared.script.Script.{Script}
 use Rattle.session_lang.specs.Script.{read_script}
 use Rattle.run_law.specs.Turns.{IsRunnable}
-use Rattle.script_rounds.specs.declared.script.NoScript.{NoScript}
-use Rattle.script_rounds.specs.declared.script.NoScript.TheVariants as no_scripts
-use Rattle.script_rounds.specs.Sources.{HasScript, IsNoScriptOf, Refuses, TellsFault}
+use Rattle.script_source.specs.declared.script.NoScript.{NoScript}
+use Rattle.script_source.specs.declared.script.NoScript.TheVariants as no_scripts
+use Rattle.script_source.specs.Sources.{HasScript, IsNoScriptOf, Refuses, TellsFault}
 
 -- bytes of a script that isn't refused
 pub has_script : (left left' : Option (List ℕ)) (bytes : List ℕ) (r : Result Script NoScript) → Consumes left left' bytes → IsAtEnd left'

@@ -1,0 +1,3 @@
+mod StreamLemmas
+mod RunLemmas
+mod PieceLemmas

@@ -1,3 +1,4 @@
 mod StreamLemmas
 mod RunLemmas
 mod PieceLemmas
+mod Coming

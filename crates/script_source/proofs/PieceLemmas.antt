@@ -12,7 +12,7 @@ use Rattle.session_lang.specs.Script.{read_line, read_lines}
 pub to_end : (f g : Front) (n m : ℕ) (bytes last : List ℕ) → read_lines f n (lines_of (bytes ++ [])) ≡ read_lines g m (lines_of (last ++ [])) → read_lines f n (lines_of bytes) ≡ read_lines g m (lines_of last)
 to_end f g n m bytes last e = ap (λ xs. read_lines f n (lines_of xs)) (sym (append-nil bytes)) ∙ e ∙ ap (λ xs. read_lines g m (lines_of xs)) (append-nil last)
 
-behind : List (List ℕ) → List (List ℕ)
+abbrev behind : List (List ℕ) → List (List ℕ)
 behind [] = []
 behind (line ∷ lines) = lines
 

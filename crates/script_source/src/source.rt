@@ -200,8 +200,8 @@ pub fn take_script<S: Source>(alloc: Global, source: &mut S) -> Result<Script, N
     while came <= LIMIT {
         let count = match read_piece(source, &mut kept, came) {
             Ok(count) => count,
-            Err(ReadStop::Memory) => return Err(NoScript::Memory),
-            Err(_) => return Err(NoScript::ReadFault),
+            Err(ReadStop::Fault) => return Err(NoScript::ReadFault),
+            Err(_) => return Err(NoScript::Memory),
         };
         if count == 0 {
             return script_of(alloc, reader, kept.as_slice());

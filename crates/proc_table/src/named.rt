@@ -14,6 +14,17 @@ struct NamedXmin {
     xmin: FullXid,
 }
 
+impl NamedXmin {
+    fn of(name: &Name, xmin: FullXid) -> NamedXmin
+        ensures { result ≡ record { name = name.now; xmin = xmin } }
+    {
+        NamedXmin {
+            name: name.same(),
+            xmin,
+        }
+    }
+}
+
 /// The xmin of each live snapshot of one session, by its name. A session with one at a time asks for no memory.
 #[derive(Drop)]
 pub struct NamedXmins {
@@ -59,10 +70,7 @@ impl NamedXmins {
             let key = bytes_of(alloc, &last.name)?;
             self.earlier.insert(key, last.xmin)?;
         }
-        self.last = Some(NamedXmin {
-            name: name.same(),
-            xmin,
-        });
+        self.last = Some(NamedXmin::of(name, xmin));
         Ok(())
     }
 

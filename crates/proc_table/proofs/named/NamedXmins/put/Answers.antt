@@ -1,6 +1,7 @@
 use Rattle.std.proofs.Common.{Some, ◌≡◌, cond, sym, ap, ◌∙◌}
 use Rattle.tx_events.specs.Events.{same_name}
 use Rattle.proc_table.specs.Lives.{xmin_in_place, xmin_of_bytes, xmin_under}
+use Rattle.proc_table.specs.declared.named.NamedXmin.{NamedXmin}
 use Rattle.proc_table.specs.declared.named.NamedXmins.{NamedXmins}
 use Rattle.proc_table.proofs.LiveSteps.{put_last, under_after}
 use Rattle.proc_table.proofs.named.NamedXmins.put.Goals.{in-Some+in_ok-key+in_ok-insert, in_default}
@@ -16,4 +17,4 @@ returns-clause-ok c = λ n.
       | in_default w ↦
           ap (λ (m : NamedXmins). xmin_of_bytes n m.earlier) w.self-is ∙ ap (λ l. xmin_in_place n l (xmin_of_bytes n c.args.self.now.earlier)) (sym w.in_default.is)
     ] in
-    ap (λ b. cond b (Some c.args.xmin) (xmin_of_bytes n c.match-self.self.earlier)) (ap (λ l. same_name l n) c.same.ensures) ∙ ap (cond (same_name c.args.name.now n) (Some c.args.xmin)) kept
+    ap (λ (l : NamedXmin). cond (same_name l.name n) (Some l.xmin) (xmin_of_bytes n c.match-self.self.earlier)) c.of.ensures ∙ ap (cond (same_name c.args.name.now n) (Some c.args.xmin)) kept

@@ -7,5 +7,3 @@ pub mod Compared
 pub mod Apart
 pub mod Crashes
 pub mod AreLines
-pub mod Digits
-pub mod Exchanges

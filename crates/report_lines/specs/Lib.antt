@@ -8,4 +8,3 @@ pub mod Fits
 pub mod Fixed
 pub mod Front
 pub mod Laws
-pub mod Usual

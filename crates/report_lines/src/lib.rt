@@ -1,6 +1,5 @@
 //! The lines of a report read back, each exactly: commands with their replies, checkpoints and dumps, events, multixact
-//! events, records, and the lines that begin and end a life. A line is read by its words, printed again and compared;
-//! the commonest ones are compared as they are read.
+//! events, records, and the lines that begin and end a life. A line is read by its words, printed again and compared.
 #![tactic(auto)]
 
 mod command;
@@ -11,10 +10,7 @@ mod law;
 mod life;
 mod multi;
 mod record;
-mod spelled;
 mod step;
-mod usual;
-mod usual_events;
 
 pub use command::read_line;
 pub use cut::next_line;
@@ -25,5 +21,3 @@ pub use life::{LogHead, Start, read_log_head, read_start};
 pub use multi::read_multi_event;
 pub use record::read_record;
 pub use step::{is_round, read_step};
-pub use usual::usual_line;
-pub use usual_events::{usual_event, usual_record};

@@ -15,9 +15,10 @@ use crate::told::{Stage, Told};
 use crate::words::second_word;
 use report_lines::{
     crash_at, is_end, is_multis, read_event, read_log_head, read_multi_event, read_record,
-    read_start, usual_event, usual_record,
+    read_start,
 };
 use report_text::Text;
+use report_usual::{usual_event, usual_record};
 use report_words::Unread;
 use std::alloc::Global;
 use tx_model::{Event, How, IdList, Life, LifeReport, Memory, MultiEvent, Rec, RecList};

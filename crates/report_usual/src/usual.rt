@@ -9,7 +9,7 @@ ghost use Rattle.report_words.specs.Replies.{kind_of};
 ghost use Rattle.report_words.specs.declared.reply.Kind.TheVariants as kinds;
 ghost use Rattle.report_lines.specs.Fits.{FitsCommand, FitsLine};
 ghost use Rattle.report_lines.specs.Texts.{IsLineOf};
-ghost use Rattle.report_lines.specs.Usual.{IsExchange, by_front, seen_end};
+ghost use Rattle.report_usual.specs.Usual.{IsExchange, by_front, seen_end};
 
 use crate::spelled::{
     behind_byte, behind_piece, id_of, is_end, is_piece, spelled_name, spelled_number,

@@ -21,7 +21,7 @@ use Rattle.report_words.specs.Replies.{kind_of}
 use Rattle.report_words.specs.declared.reply.Kind.TheVariants as kinds
 use Rattle.report_lines.specs.Fits.{FitsCommand, FitsEvent, FitsLine, FitsRecord}
 use Rattle.report_lines.specs.Texts.{IsLineOf, event_line, record_line}
-use Rattle.report_lines.specs.Usual.{IsExchange, by_front, seen_end}
+use Rattle.report_usual.specs.Usual.{IsExchange, by_front, seen_end}
 
 abbrev Names : Type 0
 Names = List (List ℕ)

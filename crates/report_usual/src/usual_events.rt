@@ -4,7 +4,7 @@ ghost use Rattle.std.specs.Fmt.{decimal};
 ghost use Rattle.report_words.specs.Fits.{FitsBy, FitsId};
 ghost use Rattle.report_lines.specs.Fits.{FitsEvent, FitsRecord};
 ghost use Rattle.report_lines.specs.Texts.{IsLineOf, event_line, record_line};
-ghost use Rattle.report_lines.specs.Usual.{by_front};
+ghost use Rattle.report_usual.specs.Usual.{by_front};
 ghost use Rattle.tx_events.specs.Names.{IsName};
 
 use crate::spelled::{behind_byte, behind_piece, id_of, is_end, spelled_name, spelled_number};

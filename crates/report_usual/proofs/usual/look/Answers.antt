@@ -1,6 +1,6 @@
 use Rattle.std.proofs.Common.{arith}
-use Rattle.report_lines.proofs.Exchanges.{is_look}
-use Rattle.report_lines.proofs.usual.look.Goals as goal
+use Rattle.report_usual.proofs.Exchanges.{is_look}
+use Rattle.report_usual.proofs.usual.look.Goals as goal
 
 pub returns : goal.returns
 returns c =

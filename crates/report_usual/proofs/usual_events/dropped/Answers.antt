@@ -3,8 +3,8 @@ use Rattle.tx_events.specs.declared.event.By.{By}
 use Rattle.tx_events.specs.declared.event.Event.TheVariants as events
 use Rattle.report_lines.specs.Fits.{FitsEvent}
 use Rattle.report_lines.specs.Texts.{IsLineOf, event_line}
-use Rattle.report_lines.proofs.Exchanges.{is_snap_drop}
-use Rattle.report_lines.proofs.usual_events.dropped.Goals as goal
+use Rattle.report_usual.proofs.Exchanges.{is_snap_drop}
+use Rattle.report_usual.proofs.usual_events.dropped.Goals as goal
 
 pub returns : goal.returns
 returns c =

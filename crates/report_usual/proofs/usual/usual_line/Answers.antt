@@ -1,5 +1,5 @@
-use Rattle.report_lines.proofs.Exchanges.{is_line}
-use Rattle.report_lines.proofs.usual.usual_line.Goals as goal
+use Rattle.report_usual.proofs.Exchanges.{is_line}
+use Rattle.report_usual.proofs.usual.usual_line.Goals as goal
 
 pub returns : goal.returns
 returns c =

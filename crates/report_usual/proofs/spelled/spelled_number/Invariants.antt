@@ -1,6 +1,6 @@
 use Rattle.std.proofs.Common.{◌≡◌, ◌++◌, ◌≤◌, length}
 use Rattle.std.specs.Fmt.{decimal}
-use Rattle.report_lines.proofs.spelled.spelled_number.Given as goal
+use Rattle.report_usual.proofs.spelled.spelled_number.Given as goal
 
 abbrev pub invariant-loop-digit : goal.invariant-loop-digit
 invariant-loop-digit l = record {

@@ -1,5 +1,5 @@
-use Rattle.report_lines.proofs.Exchanges.{is_wrote_one, is_wrote_two}
-use Rattle.report_lines.proofs.usual.wrote.Goals as goal
+use Rattle.report_usual.proofs.Exchanges.{is_wrote_one, is_wrote_two}
+use Rattle.report_usual.proofs.usual.wrote.Goals as goal
 
 pub returns-then-is_end : goal.returns-then-is_end
 returns-then-is_end c =

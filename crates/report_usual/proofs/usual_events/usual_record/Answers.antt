@@ -2,8 +2,8 @@ use Rattle.std.proofs.Common.{ℕ, List, ◌≡◌, subst, sym, arith}
 use Rattle.tx_events.specs.declared.record.Rec.TheVariants as records
 use Rattle.report_lines.specs.Fits.{FitsRecord}
 use Rattle.report_lines.specs.Texts.{IsLineOf, record_line}
-use Rattle.report_lines.proofs.Exchanges.{is_commit_record}
-use Rattle.report_lines.proofs.usual_events.usual_record.Goals as goal
+use Rattle.report_usual.proofs.Exchanges.{is_commit_record}
+use Rattle.report_usual.proofs.usual_events.usual_record.Goals as goal
 
 pub returns-then-is_end : goal.returns-then-is_end
 returns-then-is_end c =

@@ -72,6 +72,11 @@ pub record StandsUnder (start : Start) (lists : List (List Entry)) (by : By) (re
   pub stands : slice_get (records_of lists) place ≡ Some (by, rec)
   pub numbered : number ≡ start.from + place
 
+-- a record that was appended stands under the number that is told
+abbrev pub IsNumbered : Start → List (List Entry) → By → Rec → Appended → Type 0
+IsNumbered start lists by rec (came.At number) = StandsUnder start lists by rec number
+IsNumbered start lists by rec came.NoBase = Unit {0}
+
 -- the critical section: its entry is the record that was appended, or a look
 abbrev pub AppendSection : Start → By → Rec → Knowledge → Knowledge → Result Appended Refusal → Type 0
 AppendSection start by rec v w (Ok (came.At number)) =

@@ -1,5 +1,5 @@
 //! The abort record is appended.
-ghost use Rattle.std.specs.Prelude.{◌≡◌, ℕ, ◌+◌, ◌*◌, ◌++◌, ◌∷◌, [], false};
+ghost use Rattle.std.specs.Prelude.{◌≡◌, ℕ, ◌+◌, ◌*◌, ◌++◌, ◌∷◌, [], IfOk, false};
 ghost use Rattle.hall.specs.declared.view.Stage.TheVariants.{Inside};
 ghost use Rattle.hall.specs.Calls.{view, IsOf, start_of};
 ghost use Rattle.notes.specs.Lists.{at};
@@ -13,7 +13,7 @@ ghost use Rattle.engine_parts.specs.Parts.{IsLogOf};
 ghost use Rattle.engine_parts.specs.Sessions.{IsAt, IsReady, MayCall, by_at};
 ghost use Rattle.engine_parts.specs.Stages.{may_be_aborted, may_be_recorded};
 ghost use Rattle.engine_parts.specs.Steps.{WentOn};
-ghost use Rattle.log_sections.specs.LogSections.{AppendSection, IsAbortOf, TakesAbort};
+ghost use Rattle.log_sections.specs.LogSections.{AppendSection, IsAbortOf, IsNumbered, TakesAbort};
 
 use crate::appending::Appended;
 use crate::refusals::refusal_of;
@@ -81,6 +81,8 @@ pub fn append_abort<R: Passing, L: LogDisk, P: PageDisk>(
     ensures section { AppendSection (start_of hall.now)
         (by_at caller.old.number caller.old.session.levels.commands) rec.now (view caller.old.pass)
         (view caller.new.pass) result }
+    ensures numbered { IfOk result (IsNumbered (start_of hall.now) (view caller.new.pass).seen
+        (by_at caller.old.number caller.old.session.levels.commands) rec.now) }
     ensures own { IsOf hall.now caller.new.pass }
     ensures may { MayCall (start_of hall.now) (view caller.new.pass) caller.new.number caller.new.session }
     ensures went { WentOn caller.old.number [] (view caller.old.pass).seen (view caller.new.pass).seen }

@@ -1,5 +1,5 @@
 //! The record of a multixact is appended.
-ghost use Rattle.std.specs.Prelude.{◌≡◌, ℕ, ◌+◌, ◌*◌, ◌++◌, ◌∷◌, [], IfErr};
+ghost use Rattle.std.specs.Prelude.{◌≡◌, ℕ, ◌+◌, ◌*◌, ◌++◌, ◌∷◌, [], IfErr, IfOk};
 ghost use Rattle.hall.specs.declared.view.Stage.TheVariants.{Inside};
 ghost use Rattle.hall.specs.Calls.{view, IsOf, start_of};
 ghost use Rattle.notes.specs.Lists.{at};
@@ -11,7 +11,7 @@ ghost use Rattle.engine_parts.specs.Holds.{Leaves};
 ghost use Rattle.engine_parts.specs.Parts.{IsLogOf};
 ghost use Rattle.engine_parts.specs.Sessions.{IsAt, IsReady, MayCall, by_at};
 ghost use Rattle.engine_parts.specs.Steps.{WentOn};
-ghost use Rattle.log_sections.specs.LogSections.{AppendSection};
+ghost use Rattle.log_sections.specs.LogSections.{AppendSection, IsNumbered};
 ghost use Rattle.log_sections.specs.MultiRecords.{IsMakingRecord, TakesMulti, making_logged, session_logged};
 ghost use Rattle.log_sections.specs.Rooms.{MetFull};
 
@@ -87,6 +87,8 @@ pub fn append_multi<R: Passing, L: LogDisk, P: PageDisk>(
     ensures section { AppendSection (start_of hall.now)
         (by_at caller.old.number caller.old.session.levels.commands) rec.now (view caller.old.pass)
         (view caller.new.pass) result }
+    ensures numbered { IfOk result (IsNumbered (start_of hall.now) (view caller.new.pass).seen
+        (by_at caller.old.number caller.old.session.levels.commands) rec.now) }
     ensures own { IsOf hall.now caller.new.pass }
     ensures may { MayCall (start_of hall.now) (view caller.new.pass) caller.new.number caller.new.session }
     ensures went { WentOn caller.old.number [] (view caller.old.pass).seen (view caller.new.pass).seen }

@@ -23,7 +23,8 @@ use Rattle.engine_parts.proofs.Logging.{appends, begins_untouched, failed_more, 
 use Rattle.engine_parts.proofs.Sectioning.{same_command, section_of}
 use Rattle.engine_parts.proofs.Stepping.{went_quiet}
 use Rattle.log_sections.proofs.Aborted.{call_pending}
-use Rattle.log_sections.proofs.Sections.{append_refused, base_of_log, down_left, log_refused, may_follow, not_down, same_err, up_left}
+use Rattle.log_sections.specs.LogSections.{StandsUnder}
+use Rattle.log_sections.proofs.Sections.{append_refused, base_of_log, down_left, log_refused, may_follow, not_down, same_err, stands_under, up_left}
 use Rattle.tx_core.specs.FaultsRise.{count_in, faults_at, faults_told}
 use Rattle.tx_core.proofs.LastNumbers.{number_same}
 use Rattle.engine_parts.specs.Stages.{may_be_aborted, may_be_recorded}
@@ -182,3 +183,17 @@ leave_with_abort-requires-clause-unrecorded g c = ap (λ (z : Session). may_be_r
 
 pub leave_with_abort-requires-clause-unaborted : goal.leave_with_abort-requires-clause-unaborted
 leave_with_abort-requires-clause-unaborted g c = ap (λ (z : Session). may_be_aborted z.stage) c.enter_log-held.ensures.same.0 ∙ c.requires.unaborted
+
+pub returns-in-Ok-clause-numbered : goal.returns-in-Ok-clause-numbered
+returns-in-Ok-clause-numbered g c =
+    let start = start_of c.args.hall.now in
+    let e = c.enter_log-held.ensures in
+    let u = c.enter_log-held.new.caller in
+    let w = c.leave_with_abort.new.caller in
+    let s = c.args.caller.now.session in
+    let n = c.args.caller.now.number in
+    let wide = c.requires.may.ready.at.wide in
+    let long = e.entered.learns.long in
+    let next = subst (λ l. IsLogOf start l (at (view u.pass).seen log_lock)) (sym c.deref_mut-log.ensures.value) e.stands in
+    subst (λ (b : By). StandsUnder start (view w.pass).seen b c.args.rec.now c.in-Ok.number) (same_command n u.number s u.session e.same.1 e.same.0)
+    (stands_under start (view u.pass) (view w.pass) c.in-Ok.number (by_at u.number u.session.levels.commands) c.args.rec.now (omega arith) (c.in-Ok.ensures.number ∙ next.next_is) c.leave_with_abort.ensures.left)

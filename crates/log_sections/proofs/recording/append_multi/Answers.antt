@@ -22,7 +22,8 @@ use Rattle.engine_parts.proofs.Logging.{appends, begins_untouched, failed_more, 
 use Rattle.engine_parts.proofs.Sectioning.{same_command, section_of}
 use Rattle.engine_parts.proofs.Stepping.{went_quiet}
 use Rattle.log_sections.proofs.Rooms.{full_answer}
-use Rattle.log_sections.proofs.Sections.{append_refused, base_of_log, down_left, log_refused, may_follow, not_down, same_err, up_left}
+use Rattle.log_sections.specs.LogSections.{StandsUnder}
+use Rattle.log_sections.proofs.Sections.{append_refused, base_of_log, down_left, log_refused, may_follow, not_down, same_err, stands_under, up_left}
 use Rattle.tx_core.specs.FaultsRise.{count_in, faults_at, faults_told}
 use Rattle.tx_core.proofs.LastNumbers.{number_same}
 use Rattle.log_sections.specs.MultiRecords.{IsMakingRecord, session_logged}
@@ -191,3 +192,17 @@ returns-in-Err-clause-full g c =
     let x = c.in-Err.ensures in
     full_answer g.L.LogDisk (start_of c.args.hall.now) (view old.pass) (view u.pass) (view c.leave_looked-in-Err.new.caller.pass) old.number u.number old.session u.session c.deref_mut-log.result.now _ c.args.rec.now c.in-Err.refusal c.refusal_of.result c.requires.may.ready.at e.entered e.same
     c.deref_mut-log.ensures.value e.stands (c.may_append.ensures.0 c.if-not-may_append.false) (λ down is. same_err (x.is_down down is)) (λ is. x.full (ap Err is)) c.refusal_of.ensures c.leave_looked-in-Err.ensures.left
+
+pub returns-in-Ok-clause-numbered : goal.returns-in-Ok-clause-numbered
+returns-in-Ok-clause-numbered g c =
+    let start = start_of c.args.hall.now in
+    let e = c.enter_log-held.ensures in
+    let u = c.enter_log-held.new.caller in
+    let w = c.leave_recorded.new.caller in
+    let s = c.args.caller.now.session in
+    let n = c.args.caller.now.number in
+    let wide = c.requires.may.ready.at.wide in
+    let long = e.entered.learns.long in
+    let next = subst (λ l. IsLogOf start l (at (view u.pass).seen log_lock)) (sym c.deref_mut-log.ensures.value) e.stands in
+    subst (λ (b : By). StandsUnder start (view w.pass).seen b c.args.rec.now c.in-Ok.number) (same_command n u.number s u.session e.same.1 e.same.0)
+    (stands_under start (view u.pass) (view w.pass) c.in-Ok.number (by_at u.number u.session.levels.commands) c.args.rec.now (omega arith) (c.in-Ok.ensures.number ∙ next.next_is) c.leave_recorded.ensures.left)

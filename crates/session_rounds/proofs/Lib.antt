@@ -10,5 +10,5 @@ mod Going
 pub mod RoundCounts
 pub mod RoundSteps
 mod CheckpointFaults
-mod RoundsRun
+pub mod RoundsRun
 mod Alone

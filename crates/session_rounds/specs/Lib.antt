@@ -1,0 +1,5 @@
+pub mod Turns
+pub mod Rounds
+pub mod GoesOn
+pub mod Causes
+pub mod Parts

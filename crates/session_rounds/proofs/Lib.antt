@@ -10,5 +10,5 @@ mod Going
 pub mod RoundCounts
 pub mod RoundSteps
 mod CheckpointFaults
-pub mod RoundsRun
+mod RoundsRun
 mod Alone

@@ -8,4 +8,4 @@ mod member;
 mod round;
 mod rounds;
 
-pub use rounds::{run_next, run_rounds};
+pub use rounds::run_rounds;

@@ -70,7 +70,7 @@ fn run_numbered<K: LineKeeper + Send + Drop, L: LogDisk + Send + Sync, P: PageDi
 }
 
 /// Runs a round behind so many rounds, if it has commands, and answers how many have run then.
-pub fn run_next<K: LineKeeper + Send + Drop, L: LogDisk + Send + Sync, P: PageDisk + Send + Sync>(
+fn run_next<K: LineKeeper + Send + Drop, L: LogDisk + Send + Sync, P: PageDisk + Send + Sync>(
     rt: &(impl Threads + Wait + Sync),
     alloc: Global,
     hall: &Hall<EngineLaw<L, P>>,

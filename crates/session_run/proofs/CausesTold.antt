@@ -22,7 +22,7 @@ use Rattle.session_promise.specs.Causes.{HasRisenBy, faults_in}
 use Rattle.session_promise.specs.Closing.{IsOver}
 use Rattle.session_promise.specs.Told.{ToldRound, all_lines, lines_by}
 use Rattle.session_promise.proofs.FaultLines.{faults_are_told}
-use Rattle.session_rounds.specs.Causes.{AreOfBuilt, HasRisenAt, HaveCauses, checkpoint_faults, told_faults}
+use Rattle.session_run.specs.Causes.{AreOfBuilt, HasRisenAt, HaveCauses, checkpoint_faults, told_faults}
 use Rattle.session_run.specs.OneLife.{IsOpened}
 
 -- a count has risen by as many from below, and to beyond

@@ -27,7 +27,7 @@ use Rattle.engine_life.specs.declared.closed.ClosedLife.{ClosedLife}
 use Rattle.engine_life.specs.declared.life.OpenLife.{OpenLife}
 use Rattle.engine_life.specs.Lives.{volumes_left}
 use Rattle.session_run.specs.OneLife.{HasLeft, IsOpened, life_of}
-use Rattle.session_rounds.specs.Parts.{HasLived, IsTakenPart, report_of}
+use Rattle.session_run.specs.Parts.{HasLived, IsTakenPart, report_of}
 use Rattle.session_run.specs.Records.{BankHolds}
 use Rattle.session_run.specs.Leaves.{LeavesVolumes}
 use Rattle.session_run.specs.Runs.{IsTakenAlone}

@@ -1,3 +1,16 @@
+mod TurnLemmas
+mod Among
+mod Letting
+mod Returning
+mod Rounding
+mod Joining
+mod InTurn
+mod Telling
+mod Going
+mod RoundCounts
+pub mod RoundSteps
+mod CheckpointFaults
+mod RoundsRun
 mod LogHeld
 mod StatesHeld
 mod CausesTold
@@ -13,3 +26,4 @@ mod GoingOn
 mod LivesRun
 mod Counted
 mod Again
+mod Alone

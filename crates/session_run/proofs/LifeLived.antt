@@ -40,10 +40,10 @@ use Rattle.session_promise.proofs.FewMultis.{lines_bound_multis}
 use Rattle.session_promise.proofs.LawfulLives.{promises_make_life}
 use Rattle.session_promise.proofs.Between.{lines_of_rounds, step_lines}
 use Rattle.session_run.specs.OneLife.{life_of}
-use Rattle.session_rounds.specs.Parts.{HasLived, HasRun, IsTakenPart, report_of}
+use Rattle.session_run.specs.Parts.{HasLived, HasRun, IsTakenPart, report_of}
 use Rattle.session_run.specs.Records.{LogHolds}
 use Rattle.session_run.proofs.LogHeld.{log_holds}
-use Rattle.session_rounds.proofs.RoundCounts.{AreRoundsOf, few_levels, few_lines, few_multis, rounds_told}
+use Rattle.session_run.proofs.RoundCounts.{AreRoundsOf, few_levels, few_lines, few_multis, rounds_told}
 
 -- the lines of the steps are those of the rounds
 pub lines_run : (ss : List Step) (rounds : List ToldRound) → filter is_round ss ≡ steps_of 1 rounds → flat_map lines_in ss ≡ all_lines rounds

@@ -30,7 +30,7 @@ use Rattle.session_run.specs.declared.stop.Stopped.TheVariants as stops
 use Rattle.session_run.specs.Going.{IsCrashed, IsPartTold, IsRunning, PartStopped, part_of}
 use Rattle.session_run.specs.Leaves.{HasLeftLast, HaveLeft, LeavesVolumes}
 use Rattle.session_run.specs.Lives.{ComesTo, HasFallen}
-use Rattle.session_rounds.specs.Parts.{IsTakenPart}
+use Rattle.session_run.specs.Parts.{IsTakenPart}
 use Rattle.session_run.specs.Runs.{IsTaken, cluster_of}
 use Rattle.session_run.specs.Starts.{BeginsOver}
 use Rattle.session_run.specs.Stops.{IsStopped, IsTextOfRun, IsUndamaged, IsUnopenedFirst, KeepsLog, Stops, StopsBehind}

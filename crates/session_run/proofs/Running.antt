@@ -28,7 +28,7 @@ use Rattle.engine_life.specs.declared.closed.ClosedLife.{ClosedLife}
 use Rattle.engine_life.specs.declared.life.OpenLife.{OpenLife}
 use Rattle.engine_life.specs.Lives.{number_of, volumes_left}
 use Rattle.session_run.specs.OneLife.{life_of}
-use Rattle.session_rounds.specs.Parts.{report_of}
+use Rattle.session_run.specs.Parts.{report_of}
 use Rattle.session_run.specs.Records.{BankHolds}
 use Rattle.script_rounds.specs.declared.life_text.LifeText.{LifeText}
 use Rattle.session_run.specs.declared.run.Lived.{Lived}

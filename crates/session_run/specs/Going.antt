@@ -32,7 +32,7 @@ use Rattle.engine_life.specs.FirstLives.{IsFirstLife, with_banks}
 use Rattle.engine_life.specs.Lives.{FitsLog, number_of, volumes_left}
 use Rattle.engine_life.specs.Refusals.{IsUnopened}
 use Rattle.session_run.specs.OneLife.{HasLeft, IsOpened, life_of}
-use Rattle.session_rounds.specs.Parts.{HasLived, report_of}
+use Rattle.session_run.specs.Parts.{HasLived, report_of}
 use Rattle.tx_io.specs.Causes.{Rose}
 use Rattle.session_run.specs.declared.run.Lived.{Lived}
 use Rattle.session_run.specs.declared.stop.Stopped.{Stopped}

@@ -1,4 +1,9 @@
+pub mod Turns
+pub mod Rounds
+pub mod GoesOn
 pub mod Records
+pub mod Causes
+pub mod Parts
 pub mod Fits
 pub mod OneLife
 pub mod Starts

@@ -9,7 +9,7 @@ use Rattle.disk_core.specs.Media.{AllCrashed, HaveSameBanks, LogCrashed, PagesCr
 use Rattle.tx_model.specs.declared.report.How.{How}
 use Rattle.tx_model.specs.declared.report.How.TheVariants as hows
 use Rattle.tx_model.specs.declared.report.LifeReport.{LifeReport}
-use Rattle.session_rounds.specs.Causes.{HaveCauses}
+use Rattle.session_run.specs.Causes.{HaveCauses}
 use Rattle.session_run.specs.Fits.{FitLife}
 use Rattle.session_run.specs.Records.{BankHolds, LogHolds}
 use Rattle.session_run.specs.Starts.{OpensFor}

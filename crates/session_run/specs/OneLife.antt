@@ -18,11 +18,11 @@ use Rattle.engine_host.specs.Stores.{banks_of}
 use Rattle.engine_life.specs.declared.closed.ClosedLife.{ClosedLife}
 use Rattle.engine_life.specs.declared.life.OpenLife.{OpenLife}
 use Rattle.engine_life.specs.Lives.{IsBegun, life_told, number_of, volumes_left}
-use Rattle.session_rounds.specs.Causes.{HaveCauses}
+use Rattle.session_run.specs.Causes.{HaveCauses}
 use Rattle.session_run.specs.Fits.{FitLife}
-use Rattle.session_rounds.specs.Parts.{HasLived, with_steps}
+use Rattle.session_run.specs.Parts.{HasLived, with_steps}
 use Rattle.session_run.specs.Records.{BankHolds, LogHolds}
-use Rattle.session_rounds.specs.Turns.{AreToldBy}
+use Rattle.session_run.specs.Turns.{AreToldBy}
 
 module _ {L P : Type 0} {l : logs.Ghosts L} {p : disks.Ghosts P} where
   -- The life began so over these volumes, at counts of faults that aren't below theirs. Where the volumes tell what they

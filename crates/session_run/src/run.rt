@@ -18,7 +18,7 @@ ghost use Rattle.engine_life.specs.Lives.{FitsLog, volumes_left};
 ghost use Rattle.engine_life.specs.Refusals.{IsOfVolumes};
 ghost use Rattle.session_run.specs.Fits.{FitWhereTold};
 ghost use Rattle.session_run.specs.OneLife.{IsOpened, MayRunIn, life_over};
-ghost use Rattle.session_rounds.specs.Parts.{IsTakenPart};
+ghost use Rattle.session_run.specs.Parts.{IsTakenPart};
 ghost use Rattle.session_run.specs.Going.{HasGoneOn, HasRunPart, IsCrashed, IsLived, IsWritten, LastWent, NextWent, StopsPart};
 ghost use Rattle.session_run.specs.Lives.{HasFallen};
 ghost use Rattle.session_run.specs.Leaves.{LeavesVolumes};

@@ -6,11 +6,11 @@ use Rattle.run_law.specs.Turns.{MayRun}
 use Rattle.tx_core.specs.declared.entry.Start.{Start}
 use Rattle.recoverable.specs.Whole.{BeganRight}
 use Rattle.engine_life.specs.Lives.{volumes_left}
-use Rattle.session_rounds.specs.Turns.{AreToldBy}
+use Rattle.session_run.specs.Turns.{AreToldBy}
 use Rattle.session_run.proofs.CausesTold.{causes_told}
 use Rattle.session_run.proofs.LifeFits.{life_fits}
 use Rattle.session_run.proofs.LifeLived.{ids_few, life_lived, lines_run, multis_few, number_told}
-use Rattle.session_rounds.proofs.Returning.{grows_same}
+use Rattle.session_run.proofs.Returning.{grows_same}
 use Rattle.session_run.proofs.StatesHeld.{bank_holds}
 use Rattle.session_run.proofs.life.run_life.Goals as goal
 

@@ -18,11 +18,11 @@ use Rattle.engine_host.specs.declared.cluster.Cluster.{Cluster}
 use Rattle.engine_life.specs.FirstLives.{MayMount}
 use Rattle.session_run.specs.Leaves.{LeavesVolumes}
 use Rattle.session_run.specs.OneLife.{IsOpened, life_of}
-use Rattle.session_rounds.specs.Parts.{HasLived, IsTakenPart, report_of}
+use Rattle.session_run.specs.Parts.{HasLived, IsTakenPart, report_of}
 use Rattle.session_run.specs.Starts.{BeginsOver}
 use Rattle.session_run.proofs.Counted.{counts_told, left_alone, part_alone, verdicts_few}
 use Rattle.session_run.proofs.Opening.{is_first, may_over, start_so, unopened_first}
-use Rattle.session_rounds.proofs.RoundSteps.{kept_lines}
+use Rattle.session_run.proofs.RoundSteps.{kept_lines}
 use Rattle.session_run.proofs.run.count_script.Goals as goal
 
 -- With a ghost value the clauses of `requires` have no names: they stand in their order behind what is asked of lifetimes.

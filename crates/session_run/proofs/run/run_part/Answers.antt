@@ -4,7 +4,7 @@ use Rattle.script_rounds.specs.contracts.steps.StepsLineKeeper.TheImpl as steps_
 use Rattle.tx_events.specs.declared.sequence.Memory.{Memory}
 use Rattle.session_run.specs.Going.{HasRunPartOf}
 use Rattle.session_run.specs.OneLife.{HasRunLife, IsOpened, MayRunIn}
-use Rattle.session_rounds.proofs.RoundSteps.{kept_text}
+use Rattle.session_run.proofs.RoundSteps.{kept_text}
 use Rattle.session_run.proofs.run.run_part.Goals as goal
 use Rattle.session_run.proofs.run.run_part.Goals.{in-Err+in-None-1, in-Err+in-Some+in-Idle-1, in-Err+in-Some+in-Lists-1, in-Ok}
 

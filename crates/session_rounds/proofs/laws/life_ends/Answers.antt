@@ -1,5 +1,0 @@
-use Rattle.session_rounds.proofs.Going.{life_ends}
-use Rattle.session_rounds.proofs.laws.life_ends.Goals as goal
-
-pub returns : goal.returns
-returns g c = life_ends c.args.hall.now

@@ -10,5 +10,5 @@ returns-in_ok-add_record-in-Some-clause-taken c =
     let t = c.args.told.now in
     let s = c.in-Some in
     let x = items.logged (t.start.from + length t.recs) s.rec in
-    let f = c.in_ok-usual_next.ensures in
+    let f = c.in_ok-rec.ensures in
     plain_taken t x _ (drop 1 c.args.line.now) (ap (may_stand x) c.requires.stage) (rw s.is at f.rule) (sym (take_rest c.args.line.now 1) ∙ (rw s.is at f.text)) refl c.in_ok-add_record-in-Some.ensures.ok

@@ -14,7 +14,7 @@ pub returns-in_ok-push-in-Some-clause-taken : goal.returns-in_ok-push-in-Some-cl
 returns-in_ok-push-in-Some-clause-taken c =
     let t = c.args.told.now in
     let e = c.in-Some.event in
-    let f = (rw c.in-Some.is at c.in_ok-usual_multi_event.ensures) in
+    let f = (rw c.in-Some.is at c.in_ok-event.ensures) in
     let s = (multi_by e).session in
     let within = multi_within t.names e f.fit in
     plain_taken t (items.multi e) _ (drop 1 c.args.line.now) (ap (may_stand (items.multi e)) c.requires.stage)

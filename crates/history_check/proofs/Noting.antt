@@ -68,8 +68,8 @@ all_stay : (xs : List OpenId) → xs ≡ filter (λ (o : OpenId). not (has [] o.
 all_stay [] = refl
 all_stay (o ∷ xs) = ap (λ t. o ∷ t) (all_stay xs)
 
-pub record IsClosedSoFar (ids : List ℕ) (old new : Opened) : Type 0 where
-  pub opened : opens new.slots.items ≡ filter (λ (o : OpenId). not (has ids o.id)) (opens old.slots.items)
+pub record IsClosedSoFar (closed : List ℕ) (old new : Opened) : Type 0 where
+  pub opened : opens new.slots.items ≡ filter (λ (o : OpenId). not (has closed o.id)) (opens old.slots.items)
   pub kept : IsKept new
   pub ids : link_ids (links_of new.slots.items) ≡ link_ids (links_of old.slots.items)
 

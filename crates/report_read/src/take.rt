@@ -3,7 +3,7 @@ ghost use Rattle.std.specs.Prelude.{◌≡◌, ◌<◌, ◌≤◌, ◌||◌, ◌
 ghost use Rattle.report_words.specs.Words.{behind};
 ghost use Rattle.report_read.specs.Grammar.{Rule, begins_step, is_opening, is_round, life_told};
 ghost use Rattle.report_read.specs.Item as items;
-ghost use Rattle.report_lines.specs.Texts.{record_line};
+ghost use Rattle.report_words.specs.Texts.{record_line};
 ghost use Rattle.report_read.specs.Taking.{AreFew, IsRefused, IsTaken};
 ghost use Rattle.report_read.specs.declared.told.Stage.TheVariants as stages;
 

@@ -1,7 +1,7 @@
 use Rattle.std.proofs.Common.{◌≡◌, ℕ, ◌+◌, ◌<◌, ◌^◌, List, Option, Result, Ok, Err, Some, None, IfOk, IfSome, refl, ap, ◌∙◌, subst, length, arith}
 use Rattle.tx_events.specs.declared.record.Rec.{Rec}
-use Rattle.report_lines.specs.Fits.{FitsRecord}
-use Rattle.report_lines.specs.Texts.{IsLineOf, record_line}
+use Rattle.report_words.specs.Fits.{FitsRecord}
+use Rattle.report_words.specs.Texts.{IsLineOf, record_line}
 use Rattle.report_read.specs.declared.told.Told.{Told}
 use Rattle.report_read.specs.Grammar.{Rule}
 use Rattle.report_read.specs.Item as items

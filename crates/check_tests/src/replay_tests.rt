@@ -64,6 +64,44 @@ fn undone_savepoint_is_hidden(rt: HostRuntime) {
 }
 
 #[test]
+fn an_early_undo_leaves_later_ids_open(rt: HostRuntime) {
+    check(
+        &rt,
+        &[
+            (0, 1, Id(3), true),
+            (0, 2, Sub(3, 4), true),
+            (0, 3, Sub(4, 5), true),
+            (0, 4, Sub(3, 6), true),
+            (0, 5, Sub(5, 7), true),
+            (0, 6, Sub(3, 8), true),
+            (0, 7, Sub(6, 9), true),
+            (0, 8, Sub(4, 10), true),
+            (0, 9, Undo(4), true),
+            (0, 10, Undo(10), false),
+            (0, 11, Sub(7, 11), false),
+            (0, 12, Sub(9, 11), true),
+            (0, 13, Undo(6), true),
+            (0, 14, Undo(11), false),
+            (0, 15, Sub(3, 12), true),
+            (0, 16, Commit(3), true),
+        ],
+        &[
+            (13, 3, true),
+            (13, 4, false),
+            (13, 5, false),
+            (13, 6, false),
+            (13, 7, false),
+            (13, 8, true),
+            (13, 9, false),
+            (13, 10, false),
+            (13, 11, false),
+            (13, 12, true),
+            (12, 8, false),
+        ],
+    );
+}
+
+#[test]
 fn ids_come_one_after_another(rt: HostRuntime) {
     check(
         &rt,

@@ -9,3 +9,4 @@ mod Finding
 pub mod Sections
 pub mod Through
 pub mod MultisThrough
+pub mod LogFound

@@ -1,5 +1,7 @@
 pub mod Refusals
 pub mod Lives
+pub mod Left
+pub mod RunEnds
 pub mod Reopening
 pub mod NextLives
 pub mod FirstLives

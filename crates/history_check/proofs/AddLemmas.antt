@@ -1,19 +1,20 @@
 -- The steps of `add`.
-use Rattle.std.proofs.Common.{◌≡◌, ◌≢◌, ℕ, ◌<◌, ◌≤◌, ◌==◌, ◌↔◌, IsTrue, Bool, true, false, suc, zero, List, [], ◌∷◌, ◌++◌, length, get_or, set, ap, sym, subst, refl, ◌∙◌, arith, eqb-true, ⊎_elim}
-use Rattle.std.specs.Global.{Vec}
+use Rattle.std.proofs.Common.{◌≡◌, ◌≢◌, ℕ, ◌<◌, ◌≤◌, ◌==◌, ◌↔◌, IsTrue, Contains, Bool, true, false, suc, zero, List, [], ◌∷◌, ◌++◌, length, get_or, set, ap, sym, subst, refl, ◌∙◌, arith, eqb-true, ⊎_elim}
 use Rattle.std.specs.List.{slice_index}
 use Rattle.std.proofs.lemmas.Bool.{cases_Bool, false≢true}
 use Rattle.std.proofs.lemmas.List.{get_or-set_other, get_or-set_same, length-set}
 use Rattle.tx_events.specs.declared.event.By.{By}
 use Rattle.tx_events.specs.declared.event.Event.{Event}
 use Rattle.tx_events.specs.declared.record.Counters.{Counters}
-use Rattle.tx_events.specs.Events.{by_of}
+use Rattle.tx_events.specs.Events.{by_of, given}
 use Rattle.tx_events.proofs.ListSteps.{eqb-refl}
 use Rattle.proc_table.specs.Table.{InTurn, Table}
 use Rattle.history_check.specs.declared.given.GivenId.{GivenId}
-use Rattle.history_check.specs.declared.opened.OpenId.{OpenId}
+use Rattle.history_check.specs.declared.links.Slot.{Slot}
+use Rattle.history_check.specs.declared.opened.Opened.{Opened}
 use Rattle.history_check.specs.GivenIds.{AreKept}
-use Rattle.history_check.specs.Opened.{AreAllOpened, AreOpened}
+use Rattle.history_check.specs.Links.{AreLinked, link_ids, links_of, opens}
+use Rattle.history_check.specs.Opened.{AreAllOpened, AreOpened, IsKept, IsOpened}
 use Rattle.history_check.specs.Replays.{AreTurns, GoesOn, IsReplay, Replayed, Stays, with_event}
 use Rattle.history_check.proofs.TurnLemmas.{in_turn_iff}
 
@@ -33,34 +34,51 @@ same_default [] s d d' l = absurd (omega arith)
 same_default (x ∷ xs) zero d d' l = refl
 same_default (x ∷ xs) (suc s) d d' l = same_default xs s d d' (omega arith)
 
--- one of the lists has more room
-pub opened_roomier : (h : List Event) (n : ℕ) (lists : List (Vec OpenId)) (s : ℕ) (v w : Vec OpenId) → AreAllOpened h n lists → s < n → w ≡ get_or lists s w → v.items ≡ w.items → AreAllOpened h n (set lists s v)
-opened_roomier h n lists s v w a l is items = record {
-  size = length-set lists s v ∙ a.size;
+-- one of them has more room
+pub record IsRoomier (old new : Opened) : Type 0 where
+  pub items : new.slots.items ≡ old.slots.items
+  pub count : new.count ≡ old.count
+
+pub kept_roomier : (old new : Opened) → IsRoomier old new → IsKept old → IsKept new
+kept_roomier old new r k = record {
+  count = r.count ∙ k.count ∙ ap (λ (t : List Slot). length (opens t)) (sym r.items);
+  linked = subst (λ (t : List Slot). AreLinked (links_of t)) (sym r.items) k.linked;
+}
+
+roomier : (h : List Event) (s : ℕ) (old new : Opened) → IsRoomier old new → IsOpened h s old → IsOpened h s new
+roomier h s old new r o = record {
+  opened = subst (λ (t : List Slot). AreOpened h s (opens t)) (sym r.items) o.opened;
+  kept = kept_roomier old new r o.kept;
+  among = subst (λ (t : List Slot). (x : ℕ) → Contains (link_ids (links_of t)) x → Contains (given h) x) (sym r.items) o.among;
+}
+
+pub opened_roomier : (h : List Event) (n : ℕ) (all : List Opened) (s : ℕ) (new old : Opened) → AreAllOpened h n all → s < n → old ≡ get_or all s old → IsRoomier old new → AreAllOpened h n (set all s new)
+opened_roomier h n all s new old a l is r = record {
+  size = length-set all s new ∙ a.size;
   each = λ t m d. ⊎_elim
       (λ (own : (s == t) ≡ true).
       let same : s ≡ t = eqb-true s t own in
-      let now : get_or (set lists s v) t d ≡ v = ap (λ k. get_or (set lists s v) k d) (sym same) ∙ get_or-set_same lists s v d (subst (λ k. s < k) (sym a.size) l) in
-      let theirs : AreOpened h s w.items = subst (λ (u : Vec OpenId). AreOpened h s u.items) (sym is) (a.each s l w) in
-      subst (λ (u : Vec OpenId). AreOpened h t u.items) (sym now) (subst (λ k. AreOpened h k v.items) same (subst (AreOpened h s) (sym items) theirs)))
+      let now : get_or (set all s new) t d ≡ new = ap (λ k. get_or (set all s new) k d) (sym same) ∙ get_or-set_same all s new d (subst (λ k. s < k) (sym a.size) l) in
+      let theirs : IsOpened h s old = subst (IsOpened h s) (sym is) (a.each s l old) in
+      subst (IsOpened h t) (sym now) (subst (λ k. IsOpened h k new) same (roomier h s old new r theirs)))
       (λ (other : (s == t) ≡ false).
       let apart : t ≢ s = λ q. false≢true (sym other ∙ ap (λ y. s == y) q ∙ eqb-refl s) in
-      let now : get_or (set lists s v) t d ≡ get_or lists t d = get_or-set_other lists s t v d apart in
-      subst (λ (u : Vec OpenId). AreOpened h t u.items) (sym now) (a.each t m d))
+      let now : get_or (set all s new) t d ≡ get_or all t d = get_or-set_other all s t new d apart in
+      subst (IsOpened h t) (sym now) (a.each t m d))
       (cases_Bool (s == t));
 }
 
-pub replay_roomier : (t : Table) (last : List ℕ) (lists : List (Vec OpenId)) (items items' : List GivenId) (e : Event) (by : By) (v w : Vec OpenId) → IsReplay t last lists items → (by_of e).session < t.sessions → by ≡ by_of e → w ≡ get_or lists by.session w → v.items ≡ w.items → items' ≡ items → IsReplay t last (set lists by.session v) items'
-replay_roomier t last lists items items' e by v w r within own is v_is items_are = record {
+pub replay_roomier : (t : Table) (last : List ℕ) (all : List Opened) (items items' : List GivenId) (e : Event) (by : By) (new old : Opened) → IsReplay t last all items → (by_of e).session < t.sessions → by ≡ by_of e → old ≡ get_or all by.session old → IsRoomier old new → items' ≡ items → IsReplay t last (set all by.session new) items'
+replay_roomier t last all items items' e by new old r within own is room items_are = record {
   turns = r.turns;
-  opened = opened_roomier t.events t.sessions lists by.session v w r.opened (subst (λ (b : By). b.session < t.sessions) (sym own) within) is v_is;
+  opened = opened_roomier t.events t.sessions all by.session new old r.opened (subst (λ (b : By). b.session < t.sessions) (sym own) within) is room;
   given = subst (AreKept t.events) (sym items_are) r.given;
 }
 
-pub replay_stays : (old new : Table) (last : List ℕ) (lists : List (Vec OpenId)) (items : List GivenId) → Stays old new → IsReplay old last lists items → IsReplay new last lists items
-replay_stays old new last lists items stays r = record {
+pub replay_stays : (old new : Table) (last : List ℕ) (all : List Opened) (items : List GivenId) → Stays old new → IsReplay old last all items → IsReplay new last all items
+replay_stays old new last all items stays r = record {
   turns = subst (λ h. AreTurns new.sessions h last) (sym stays.events) (subst (λ n. AreTurns n old.events last) (sym stays.sessions) r.turns);
-  opened = subst (λ h. AreAllOpened h new.sessions lists) (sym stays.events) (subst (λ n. AreAllOpened old.events n lists) (sym stays.sessions) r.opened);
+  opened = subst (λ h. AreAllOpened h new.sessions all) (sym stays.events) (subst (λ n. AreAllOpened old.events n all) (sym stays.sessions) r.opened);
   given = subst (λ h. AreKept h items) (sym stays.events) r.given;
 }
 

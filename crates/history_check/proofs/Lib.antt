@@ -1,10 +1,14 @@
 pub mod Searching
+pub mod Slots
+pub mod Linking
+pub mod Children
 pub mod Commits
 pub mod Marks
 pub mod GivenSteps
 pub mod Parents
 pub mod OpenedSteps
-pub mod OpenedTails
+pub mod Insides
+pub mod Noting
 pub mod OpenedChanges
 pub mod TurnLemmas
 pub mod OldestBounds

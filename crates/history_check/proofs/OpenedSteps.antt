@@ -18,7 +18,7 @@ use Rattle.tx_events.proofs.GivenIds.{open_given}
 use Rattle.tx_events.proofs.IdListSteps.{ascending_filtered, has-filter, has_true}
 use Rattle.tx_events.proofs.Membership.{Has, all_at, contains_has, has_contains}
 use Rattle.proc_table.proofs.OpenAscend.{open_ascend}
-use Rattle.history_check.specs.declared.opened.OpenId.{OpenId}
+use Rattle.history_check.specs.declared.links.OpenId.{OpenId}
 use Rattle.history_check.specs.Opened.{AreOpened, is_closed_below, is_inside_by, opened_ids, parent_of}
 use Rattle.history_check.proofs.Parents.{HasNone, HasParent, inside_above, inside_none, is_no_top, is_top_of_none, parent_below, parent_open, parents}
 
@@ -104,72 +104,8 @@ found_iff h s opened x (Some o) a e = (λ t. has_contains (open_ids s h) x (foun
 
 -- ---- what an undo closes
 
-earlier : (xs : List OpenId) (i : ℕ) (d : OpenId) (p : ℕ) → Ascending (opened_ids xs) → i < length xs → p < (get_or xs i d).id → Has (opened_ids xs) p → Has (opened_ids (take i xs)) p
-earlier [] i d p a l low k = absurd k
-earlier (o ∷ xs) zero d p a l low k = ⊎_elim (λ (e : o.id ≡ p). absurd (omega arith)) (λ j. absurd (let f : o.id < p = all_at (λ y. o.id < y) (opened_ids xs) p a.0 j in omega arith)) k
-earlier (o ∷ xs) (suc i) d p a l low k = ⊎_elim (λ (e : o.id ≡ p). inl e) (λ j. inr (earlier xs i d p a.1 (omega arith) low j)) k
-
-parent_at : (h : List Event) (xs : List OpenId) (i : ℕ) (d : OpenId) → AllByRecursion (λ (o : OpenId). o.parent ≡ parent_of h o.id) xs → i < length xs → (get_or xs i d).parent ≡ parent_of h (get_or xs i d).id
-parent_at h [] i d a l = absurd (omega arith)
-parent_at h (o ∷ xs) zero d a l = a.0
-parent_at h (o ∷ xs) (suc i) d a l = parent_at h xs i d a.1 (omega arith)
-
-stands : (xs : List OpenId) (i : ℕ) (d : OpenId) → i < length xs → Has (opened_ids xs) (get_or xs i d).id
-stands [] i d l = absurd (omega arith)
-stands (o ∷ xs) zero d l = inl refl
-stands (o ∷ xs) (suc i) d l = inr (stands xs i d (omega arith))
-
--- an open id is inside of a savepoint by its parent, which stands before it
-by_parent : (base : Counters) (h : List Event) (s id : ℕ) (opened : List OpenId) (i : ℕ) (d : OpenId) → IsLegal base h → AreOpened h s opened → i < length opened → is_inside_by id (filter (is_inside h id) (opened_ids (take i opened))) (get_or opened i d).id (get_or opened i d).parent ≡ is_inside h id (get_or opened i d).id
-by_parent base h s id opened i d legal a l =
-    let x = (get_or opened i d).id in
-    let mine : Has (open_ids s h) (get_or opened i d).id = subst (λ t. Has t (get_or opened i d).id) a.ids (stands opened i d l) in
-    let given = open_given s h (get_or opened i d).id mine in
-    let told = parent_at h opened i d a.parents l in
-    ⊎_elim
-    (λ (p : HasParent h (get_or opened i d).id).
-    let up : Has (open_ids s h) p.parent = parent_open base h s (get_or opened i d).id p legal mine in
-    let low : p.parent < (get_or opened i d).id = parent_below base h (get_or opened i d).id p legal given in
-    let before : Has (opened_ids (take i opened)) p.parent = earlier opened i d p.parent (opened_ascend base h s opened legal a) l low (subst (λ t. Has t p.parent) (sym a.ids) up) in
-    let counted : has (filter (is_inside h id) (opened_ids (take i opened))) p.parent ≡ is_inside h id p.parent =
-    has-filter (is_inside h id) (opened_ids (take i opened)) p.parent ∙ ap (λ b. b && is_inside h id p.parent) (has_true (opened_ids (take i opened)) p.parent before) in
-    ap (is_inside_by id (filter (is_inside h id) (opened_ids (take i opened))) (get_or opened i d).id) (told ∙ p.is)
-    ∙ ap (λ b. (id == (get_or opened i d).id) || b) counted
-    ∙ sym (inside_above h id (get_or opened i d).id p))
-    (λ (n : HasNone h (get_or opened i d).id).
-    ap (is_inside_by id (filter (is_inside h id) (opened_ids (take i opened))) (get_or opened i d).id) (told ∙ n.is)
-    ∙ sym (inside_none h id (get_or opened i d).id n))
-    (parents base h legal (get_or opened i d).id given)
-
-pub ids_more : (xs : List OpenId) (i : ℕ) (o : OpenId) → i < length xs → o ≡ get_or xs i o → opened_ids (take (i + 1) xs) ≡ opened_ids (take i xs) ++ o.id ∷ []
-ids_more xs i o l e = ap opened_ids (take_more xs i o l ∙ ap (λ y. take i xs ++ y ∷ []) (sym e)) ∙ map_push (λ (o : OpenId). o.id) (take i xs) o
-
-pub inside_more : (base : Counters) (h : List Event) (s id : ℕ) (opened : List OpenId) (i : ℕ) (o : OpenId) (found found' : List ℕ) (b : Bool) → IsLegal base h → AreOpened h s opened → i < length opened → o ≡ get_or opened i o → found ≡ filter (is_inside h id) (opened_ids (take i opened)) → found' ≡ found ++ cond b (o.id ∷ []) [] → b ≡ is_closed_below id found o → found' ≡ filter (is_inside h id) (opened_ids (take (i + 1) opened))
-inside_more base h s id opened i o found found' b legal a l is f g t =
-    let inside : b ≡ is_inside h id o.id =
-    t ∙ ap (λ xs. is_inside_by id xs o.id o.parent) f
-    ∙ ap (λ (y : OpenId). is_inside_by id (filter (is_inside h id) (opened_ids (take i opened))) y.id y.parent) is
-    ∙ by_parent base h s id opened i o legal a l ∙ ap (λ (y : OpenId). is_inside h id y.id) (sym is) in
-    g ∙ ap (λ t. t ++ cond b (o.id ∷ []) []) f ∙ ap (λ c. filter (is_inside h id) (opened_ids (take i opened)) ++ cond c (o.id ∷ []) []) inside
-    ∙ sym (ap (filter (is_inside h id)) (ids_more opened i o l is) ∙ filter-append (is_inside h id) (opened_ids (take i opened)) (o.id ∷ []))
-
 pub closed_ascend : (base : Counters) (h : List Event) (s : ℕ) (q : ℕ → Bool) → IsLegal base h → Ascending (filter q (open_ids s h))
 closed_ascend base h s q legal = ascending_filtered q (open_ids s h) (open_ascend base h s legal)
-
-pub part_ascends : (base : Counters) (h : List Event) (s : ℕ) (q : ℕ → Bool) (opened : List OpenId) (i : ℕ) → IsLegal base h → AreOpened h s opened → Ascending (filter q (opened_ids (take i opened)))
-part_ascends base h s q opened i legal a = ascending_filtered q (opened_ids (take i opened)) (front opened i (opened_ascend base h s opened legal a))
-  where
-    all_front : (n : ℕ) (xs : List OpenId) (i : ℕ) → AllByRecursion (λ y. n < y) (opened_ids xs) → AllByRecursion (λ y. n < y) (opened_ids (take i xs))
-    all_front n [] zero a = tt
-    all_front n [] (suc i) a = tt
-    all_front n (o ∷ xs) zero a = tt
-    all_front n (o ∷ xs) (suc i) a = (a.0, all_front n xs i a.1)
-
-    front : (xs : List OpenId) (i : ℕ) → Ascending (opened_ids xs) → Ascending (opened_ids (take i xs))
-    front [] zero a = tt
-    front [] (suc i) a = tt
-    front (o ∷ xs) zero a = tt
-    front (o ∷ xs) (suc i) a = (all_front o.id xs i a.0, front xs i a.1)
 
 pub closed_are_ascending : (base : Counters) (h : List Event) (s : ℕ) (q : ℕ → Bool) (r : Result (Vec ℕ) Memory) → IsLegal base h → IfOk r (λ ids. ids.items ≡ filter q (open_ids s h)) → IfOk r (λ ids. Ascending ids.items)
 closed_are_ascending base h s q (Ok ids) legal f = subst Ascending (sym f) (closed_ascend base h s q legal)

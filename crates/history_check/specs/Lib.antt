@@ -1,3 +1,5 @@
+pub mod Inside
+pub mod Links
 pub mod GivenIds
 pub mod Opened
 pub mod Replays

@@ -1,14 +1,16 @@
--- The ids that a session has open, each with its parent.
-use Rattle.std.specs.Prelude.{◌≡◌, ℕ, ◌<◌, ◌==◌, ◌||◌, not, Bool, false, List, [], ◌∷◌, ◌++◌, Option, Some, None, length, map}
+-- The ids that a session has open, each with its parent, and what is kept of them.
+use Rattle.std.specs.Prelude.{◌≡◌, ℕ, ◌<◌, ◌==◌, ◌||◌, not, Bool, false, List, [], ◌∷◌, ◌++◌, Option, Some, None, Contains, length, map}
 use Rattle.std.specs.List.{AllByRecursion, HoldsAt, filter, slice_get}
-use Rattle.std.specs.Global.{Vec}
 use Rattle.tx_events.specs.declared.event.Event.{Event}
 use Rattle.tx_events.specs.declared.event.Event.TheVariants as events
 use Rattle.tx_events.specs.Families.{lineage}
+use Rattle.tx_events.specs.Events.{given}
 use Rattle.tx_events.specs.IdLists.{has}
 use Rattle.tx_events.specs.Running.{open_ids}
 use Rattle.tx_events.specs.Savepoints.{is_inside}
-use Rattle.history_check.specs.declared.opened.OpenId.{OpenId}
+use Rattle.history_check.specs.declared.links.OpenId.{OpenId}
+use Rattle.history_check.specs.declared.opened.Opened.{Opened}
+use Rattle.history_check.specs.Links.{AreLinked, link_ids, links_of, opens}
 
 -- the parent below which x was given; None of a top
 abbrev pub parent_of : List Event → ℕ → Option ℕ
@@ -22,27 +24,26 @@ pub record AreOpened (h : List Event) (session : ℕ) (opened : List OpenId) : T
   pub ids : opened_ids opened ≡ open_ids session h
   pub parents : AllByRecursion (λ (o : OpenId). o.parent ≡ parent_of h o.id) opened
 
--- x stands at place i
-abbrev pub IsPlaceOf : List OpenId → ℕ → ℕ → Type 0
-IsPlaceOf opened x i = (i < length opened) × HoldsAt (λ (o : OpenId). o.id ≡ x) opened i
+-- so many are open, and the links are right
+pub record IsKept (o : Opened) : Type 0 where
+  pub count : o.count ≡ length (opens o.slots.items)
+  pub linked : AreLinked (links_of o.slots.items)
 
--- x stands at no place
-abbrev pub IsMissing : List OpenId → ℕ → Type 0
-IsMissing opened x = (k : ℕ) → k < length opened → HoldsAt (λ (o : OpenId). o.id ≡ x → ⊥) opened k
+-- nothing is kept
+pub record IsFresh (o : Opened) : Type 0 where
+  pub items : o.slots.items ≡ []
+  pub count : o.count ≡ 0
 
--- these are those of all sessions
-pub record AreAllOpened (h : List Event) (sessions : ℕ) (lists : List (Vec OpenId)) : Type 0 where
-  pub size : length lists ≡ sessions
-  pub each : (s : ℕ) → s < sessions → HoldsAt (λ (l : Vec OpenId). AreOpened h s l.items) lists s
+-- what is kept of a session's ids: all of them were given, and those are open that are
+pub record IsOpened (h : List Event) (session : ℕ) (o : Opened) : Type 0 where
+  pub opened : AreOpened h session (opens o.slots.items)
+  pub kept : IsKept o
+  pub among : (x : ℕ) → Contains (link_ids (links_of o.slots.items)) x → Contains (given h) x
 
--- by its parent: it is that id or was given below one of these, and is no top
-abbrev pub is_inside_by : ℕ → List ℕ → ℕ → Option ℕ → Bool
-is_inside_by id found x None = false
-is_inside_by id found x (Some parent) = (id == x) || has found parent
-
--- whether an undo of id closes the id too, where it closes these of the ones before it
-abbrev pub is_closed_below : ℕ → List ℕ → OpenId → Bool
-is_closed_below id found o = is_inside_by id found o.id o.parent
+-- so it is of all sessions
+pub record AreAllOpened (h : List Event) (sessions : ℕ) (all : List Opened) : Type 0 where
+  pub size : length all ≡ sessions
+  pub each : (s : ℕ) → s < sessions → HoldsAt (IsOpened h s) all s
 
 -- the ids that an undo closes
 abbrev pub AreClosed : Event → List Event → List ℕ → Type 0
@@ -57,3 +58,35 @@ opened_after closed (events.Undo by id) opened = filter (λ (o : OpenId). not (h
 opened_after closed (events.Commit by top) opened = []
 opened_after closed (events.Abort by top) opened = []
 opened_after closed e opened = opened
+
+-- one id more is kept, which is open
+pub record IsOneMore (id : ℕ) (parent : Option ℕ) (old new : Opened) : Type 0 where
+  pub opened : opens new.slots.items ≡ opens old.slots.items ++ record { id = id; parent = parent } ∷ []
+  pub kept : IsKept new
+  pub ids : link_ids (links_of new.slots.items) ≡ link_ids (links_of old.slots.items) ++ id ∷ []
+
+-- the id is open no more
+pub record IsClosed (id : ℕ) (old new : Opened) : Type 0 where
+  pub opened : opens new.slots.items ≡ filter (λ (o : OpenId). not (o.id == id)) (opens old.slots.items)
+  pub kept : IsKept new
+  pub ids : link_ids (links_of new.slots.items) ≡ link_ids (links_of old.slots.items)
+
+-- the id that the event gives is above all these, and its parent is one of them
+abbrev pub MayAdd : Event → List ℕ → Type 0
+MayAdd (events.Id by id) ids = AllByRecursion (λ x. x < id) ids
+MayAdd (events.Sub by parent id) ids = AllByRecursion (λ x. x < id) ids × Contains ids parent
+MayAdd e ids = Unit {0}
+
+-- the ids that are kept of its session behind the event
+abbrev pub ids_after : Event → List ℕ → List ℕ
+ids_after (events.Id by id) ids = ids ++ id ∷ []
+ids_after (events.Sub by parent id) ids = ids ++ id ∷ []
+ids_after (events.Commit by top) ids = []
+ids_after (events.Abort by top) ids = []
+ids_after e ids = ids
+
+-- what the event leaves is kept, where an undo closes these
+pub record IsNoted (e : Event) (closed : List ℕ) (old new : Opened) : Type 0 where
+  pub opened : opens new.slots.items ≡ opened_after closed e (opens old.slots.items)
+  pub kept : IsKept new
+  pub ids : link_ids (links_of new.slots.items) ≡ ids_after e (link_ids (links_of old.slots.items))

@@ -1,6 +1,5 @@
 -- What a replay of a history holds, and the first event that may not come.
 use Rattle.std.specs.Prelude.{◌≡◌, ℕ, ◌+◌, ◌<◌, ◌≤◌, ◌↔◌, ◌==◌, ◌||◌, Bool, List, [], ◌∷◌, ◌++◌, length, take, slice_index}
-use Rattle.std.specs.Global.{Vec}
 use Rattle.tx_events.specs.declared.event.Event.{Event}
 use Rattle.tx_events.specs.declared.record.Counters.{Counters}
 use Rattle.tx_events.specs.Events.{by_of}
@@ -8,7 +7,7 @@ use Rattle.tx_events.specs.History.{IsLegal, MayCome}
 use Rattle.tx_events.specs.IdLists.{has}
 use Rattle.proc_table.specs.Table.{InTurn, Table}
 use Rattle.history_check.specs.declared.given.GivenId.{GivenId}
-use Rattle.history_check.specs.declared.opened.OpenId.{OpenId}
+use Rattle.history_check.specs.declared.opened.Opened.{Opened}
 use Rattle.history_check.specs.GivenIds.{AreKept}
 use Rattle.history_check.specs.Opened.{AreAllOpened}
 
@@ -41,9 +40,9 @@ pub record AreTurns (sessions : ℕ) (h : List Event) (last : List ℕ) : Type 0
   pub each : (session command : ℕ) → session < sessions → (slice_index last session ≤ command) ↔ InTurn (record { session = session; command = command }) h
 
 -- what is kept beside the table is so of its events
-pub record IsReplay (t : Table) (last : List ℕ) (lists : List (Vec OpenId)) (items : List GivenId) : Type 0 where
+pub record IsReplay (t : Table) (last : List ℕ) (all : List Opened) (items : List GivenId) : Type 0 where
   pub turns : AreTurns t.sessions t.events last
-  pub opened : AreAllOpened t.events t.sessions lists
+  pub opened : AreAllOpened t.events t.sessions all
   pub given : AreKept t.events items
 
 -- the event is added to the table

@@ -6,9 +6,11 @@ ghost use Rattle.tx_events.specs.declared.record.Counters.{Counters};
 ghost use Rattle.tx_events.specs.History.{IsLegal};
 ghost use Rattle.tx_events.specs.IdLists.{Ascending};
 ghost use Rattle.history_check.specs.GivenIds.{AreKept, IsMissing, IsPlaceOf, given_after, given_ids, is_committed, was_before, with_place};
+ghost use Rattle.history_check.specs.Links.{opens};
 ghost use Rattle.history_check.specs.Opened.{opened_ids};
 
-use crate::opened::OpenId;
+use crate::links::Slot;
+use crate::opened::Opened;
 use tx_events::{Event, FullXid};
 
 /// What is kept of an id that was given.
@@ -75,22 +77,34 @@ fn mark(items: &mut [GivenId], near: usize, place: u64, x: FullXid) -> usize
     }
 }
 
-/// These ids were committed at this place. Mostly they were given last, one behind the other.
-fn mark_all(items: &mut [GivenId], place: u64, opened: &[OpenId])
+/// The id was committed at this place, if it is open. It is looked for at `near` first; answers where the next one is to
+/// be looked for.
+fn mark_open(items: &mut [GivenId], near: usize, place: u64, slot: &Slot) -> usize
     requires { Ascending (given_ids items.old) }
-    ensures { items.new ≡ map (with_place (opened_ids opened.now) place) items.old }
+    ensures { items.new ≡ map (with_place (opened_ids (opens (slot.now ∷ []))) place) items.old }
 {
-    let mut near = items.len().saturating_sub(opened.len());
-    for o in opened {
-        near = mark(items, near, place, o.id).saturating_add(1);
+    if slot.is_open {
+        return mark(items, near, place, slot.linked.id).saturating_add(1);
+    }
+    near.saturating_add(1)
+}
+
+/// The open ones were committed at this place. Mostly they were given last, one behind the other.
+fn mark_all(items: &mut [GivenId], place: u64, slots: &[Slot])
+    requires { Ascending (given_ids items.old) }
+    ensures { items.new ≡ map (with_place (opened_ids (opens slots.now)) place) items.old }
+{
+    let mut near = items.len().saturating_sub(slots.len());
+    for slot in slots {
+        near = mark_open(items, near, place, slot);
     }
 }
 
 /// Keeps what the event at this place says of ids, whose session has these open. For one more there is room.
-pub fn note_given(items: &mut Vec<GivenId>, opened: &[OpenId], place: u64, event: &Event)
+pub fn note_given(items: &mut Vec<GivenId>, opened: &Opened, place: u64, event: &Event)
     requires order { Ascending (given_ids items.old.items) }
     requires room { vec_len items.old < vec_capacity items.old }
-    ensures { items.new.items ≡ given_after (opened_ids opened.now) place event.now items.old.items }
+    ensures { items.new.items ≡ given_after (opened_ids (opens opened.now.slots.items)) place event.now items.old.items }
 {
     match event {
         Event::Id { id, .. } => items.push_reserved(GivenId {
@@ -101,7 +115,7 @@ pub fn note_given(items: &mut Vec<GivenId>, opened: &[OpenId], place: u64, event
             id: *id,
             committed: None,
         }),
-        Event::Commit { .. } => mark_all(items, place, opened),
+        Event::Commit { .. } => mark_all(items, place, &opened.slots),
         _ => (),
     }
 }

@@ -4,7 +4,9 @@
 #![tactic(auto)]
 
 mod given;
+mod inside;
 mod legal;
+mod links;
 mod may;
 mod multi_legal;
 mod multi_may;
@@ -14,5 +16,4 @@ mod turns;
 
 pub use legal::first_illegal;
 pub use multi_legal::{add_multi, first_illegal_multi};
-pub use opened::OpenId;
 pub use replay::HistoryReplay;

@@ -4,9 +4,10 @@ ghost use Rattle.tx_events.specs.Events.{by_of};
 ghost use Rattle.tx_events.specs.Families.{is_top};
 ghost use Rattle.tx_events.specs.History.{IsNextGiven, MayCome};
 ghost use Rattle.tx_events.specs.Running.{open_ids};
-ghost use Rattle.history_check.specs.Opened.{AreOpened};
+ghost use Rattle.history_check.specs.Opened.{IsOpened};
 
-use crate::opened::{OpenId, find_open};
+use crate::links::find_open;
+use crate::opened::Opened;
 use proc_table::ProcTable;
 use tx_events::{Event, FullXid, Limits};
 
@@ -18,46 +19,46 @@ fn may_give(table: &ProcTable, id: FullXid) -> bool
     id == table.next() && id < Limits::of(table.oldest()).stop
 }
 
-fn has_none_open(table: &ProcTable, session: u32, opened: &[OpenId]) -> bool
-    requires { AreOpened table.now.events session opened.now }
+fn has_none_open(table: &ProcTable, session: u32, opened: &Opened) -> bool
+    requires { IsOpened table.now.events session opened.now }
     ensures { IsTrue result ↔ (open_ids session table.now.events ≡ []) }
 {
-    opened.is_empty()
+    opened.count == 0
 }
 
-fn has_open(table: &ProcTable, session: u32, opened: &[OpenId], id: FullXid) -> bool
-    requires { AreOpened table.now.events session opened.now }
+fn has_open(table: &ProcTable, session: u32, opened: &Opened, id: FullXid) -> bool
+    requires { IsOpened table.now.events session opened.now }
     ensures { IsTrue result ↔ Contains (open_ids session table.now.events) id }
 {
     let _legal = table.events();
-    find_open(opened, id).is_some()
+    find_open(&opened.slots, id).is_some()
 }
 
-fn is_open_top(table: &ProcTable, session: u32, opened: &[OpenId], id: FullXid) -> bool
-    requires { AreOpened table.now.events session opened.now }
+fn is_open_top(table: &ProcTable, session: u32, opened: &Opened, id: FullXid) -> bool
+    requires { IsOpened table.now.events session opened.now }
     ensures { IsTrue result ↔ (Contains (open_ids session table.now.events) id × (is_top table.now.events id ≡ true)) }
 {
     let _legal = table.events();
-    match find_open(opened, id) {
+    match find_open(&opened.slots, id) {
         Some(found) => found.parent.is_none(),
         None => false,
     }
 }
 
-fn is_open_sub(table: &ProcTable, session: u32, opened: &[OpenId], id: FullXid) -> bool
-    requires { AreOpened table.now.events session opened.now }
+fn is_open_sub(table: &ProcTable, session: u32, opened: &Opened, id: FullXid) -> bool
+    requires { IsOpened table.now.events session opened.now }
     ensures { IsTrue result ↔ (Contains (open_ids session table.now.events) id × (is_top table.now.events id ≡ false)) }
 {
     let _legal = table.events();
-    match find_open(opened, id) {
+    match find_open(&opened.slots, id) {
         Some(found) => found.parent.is_some(),
         None => false,
     }
 }
 
 /// Whether the event may come next in the table's history. These are the ids that its session has open.
-pub fn may_come(table: &ProcTable, opened: &[OpenId], event: &Event) -> bool
-    requires { AreOpened table.now.events (by_of event.now).session opened.now }
+pub fn may_come(table: &ProcTable, opened: &Opened, event: &Event) -> bool
+    requires { IsOpened table.now.events (by_of event.now).session opened.now }
     ensures { IsTrue result ↔ MayCome table.now.base table.now.events event.now }
 {
     match event {

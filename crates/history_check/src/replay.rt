@@ -12,12 +12,12 @@ ghost use Rattle.tx_events.specs.IdLists.{Ascending};
 ghost use Rattle.tx_events.specs.Visible.{is_visible};
 ghost use Rattle.proc_table.specs.Table.{InTurn};
 ghost use Rattle.history_check.specs.GivenIds.{AreKept};
-ghost use Rattle.history_check.specs.Opened.{AreAllOpened, AreClosed, AreOpened};
+ghost use Rattle.history_check.specs.Opened.{AreAllOpened, AreClosed};
 ghost use Rattle.history_check.specs.Replays.{GoesOn, IsLawfulNext, Stays, is_known, with_event};
 
 use crate::given::{GivenId, note_given, was_committed};
 use crate::may::may_come;
-use crate::opened::{OpenId, closed_by, note_opened};
+use crate::opened::{Opened, closed_by, make_room, none_kept, note_opened, push_ids};
 use crate::turns::{is_in_turn, no_turns, note};
 use proc_table::{Given, ProcTable};
 use std::alloc::Global;
@@ -26,14 +26,14 @@ use tx_events::{Counters, Event, FullXid, Memory, SharedSnap, XactEnd, is_listed
 
 /// A history that is legal, and what its events say of ids. A contract sees the life's base, the number of sessions and
 /// the events. An event takes the logarithm of the history's length, and the end of a transaction besides as many steps as
-/// it has ids open; an undo takes the number of its session's open ids times that of those that it closes.
+/// it was given ids; an undo takes that logarithm for each id that it closes, and what the table takes.
 #[derive(Drop)]
 pub struct HistoryReplay {
     table: ProcTable,
     /// The number of each session's last event.
     last: Vec<u64>,
-    /// The open ids of each session, ascending.
-    opened: Vec<Vec<OpenId>>,
+    /// The ids of each session's transaction.
+    opened: Vec<Opened>,
     /// All ids that were given, ascending.
     given: Vec<GivenId>,
 }
@@ -105,12 +105,12 @@ fn go_on(table: &mut ProcTable, event: &Event, closed: &[FullXid]) -> Result<(),
 
 /// No session has an id open.
 #[tactic(auto, using(crate::proofs::ReplaySteps::opened_none))]
-fn none_opened(alloc: Global, sessions: u32) -> Result<Vec<Vec<OpenId>>, Memory>
+fn none_opened(alloc: Global, sessions: u32) -> Result<Vec<Opened>, Memory>
     ensures { IfOk result (λ opened. AreAllOpened [] sessions opened.items) }
 {
     let mut opened = Vec::with_capacity(alloc, sessions as usize)?;
     for _n in 0..sessions {
-        opened.push(Vec::new(alloc))?;
+        opened.push(none_kept(alloc))?;
     }
     Ok(opened)
 }
@@ -161,20 +161,15 @@ impl HistoryReplay {
         if !is_in_turn(self.last.as_slice(), by) {
             return Ok(false);
         }
-        if !may_come(&self.table, self.opened[session].as_slice(), event) {
+        if !may_come(&self.table, &self.opened[session], event) {
             return Ok(false);
         }
         let alloc = *self.given.allocator();
-        let closed = closed_by(alloc, &self.table, self.opened[session].as_slice(), event)?;
+        let closed = closed_by(alloc, &self.table, &self.opened[session], event)?;
         make_one_room(&mut self.given)?;
-        make_one_room(&mut self.opened[session])?;
+        make_room(&mut self.opened[session])?;
         go_on(&mut self.table, event, closed.as_slice())?;
-        note_given(
-            &mut self.given,
-            self.opened[session].as_slice(),
-            place,
-            event,
-        );
+        note_given(&mut self.given, &self.opened[session], place, event);
         note_opened(&mut self.opened[session], closed.as_slice(), event);
         note(&mut self.last, by);
         Ok(true)
@@ -230,12 +225,20 @@ impl HistoryReplay {
         self.table.open_top(session)
     }
 
-    /// The ids that the session has open, ascending, each with its parent.
-    pub fn open_ids(&self, session: u32) -> &[OpenId]
+    /// How many ids the session has open.
+    pub fn count_open(&self, session: u32) -> usize
         requires { session < self.now.sessions }
-        ensures { AreOpened self.now.events session result.now }
+        ensures { result ≡ length (open_ids session self.now.events) }
     {
-        self.opened[session as usize].as_slice()
+        self.opened[session as usize].count
+    }
+
+    /// Puts the ids that the session has open behind these, ascending.
+    pub fn push_open(&self, session: u32, ids: &mut Vec<FullXid>) -> Result<(), Memory>
+        requires { session < self.now.sessions }
+        ensures { OnOk result (ids.new.items ≡ ids.old.items ++ open_ids session self.now.events) }
+    {
+        push_ids(&self.opened[session as usize], ids)
     }
 
     /// The history so far, which is legal.

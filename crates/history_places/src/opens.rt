@@ -28,5 +28,5 @@ pub fn open_now(replay: &HistoryReplay, event: &Event) -> u64
     requires { (by_of event.now).session < replay.now.sessions }
     ensures { result ≡ length (open_ids (by_of event.now).session replay.now.events) }
 {
-    replay.open_ids(session_of(event)).len() as u64
+    replay.count_open(session_of(event)) as u64
 }

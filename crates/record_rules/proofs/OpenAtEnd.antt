@@ -1,5 +1,5 @@
 -- What sessions have open at the end of a history.
-use Rattle.std.proofs.Common.{◌≡◌, ◌≢◌, ◌↔◌, ℕ, zero, suc, ◌+◌, ◌<◌, ◌≤◌, List, [], ◌∷◌, ◌++◌, Option, Some, None, Bool, true, false, ◌==◌, length, get_or, is_none, refl, ap, sym, subst, ◌∙◌, ⊎_elim, inl, eqb-true, arith, IsTrue, IfSome, Contains}
+use Rattle.std.proofs.Common.{◌≡◌, ◌≢◌, ◌↔◌, ℕ, zero, suc, ◌+◌, ◌<◌, ◌≤◌, List, [], ◌∷◌, ◌++◌, Option, Some, None, Bool, true, false, ◌==◌, length, get_or, is_none, refl, ap, sym, subst, ◌∙◌, ⊎_elim, inl, eqb-true, arith, IsTrue, IfSome, IfNone, Contains}
 use Rattle.std.proofs.lemmas.Bool.{cases_lt, false≢true}
 use Rattle.std.specs.List.{AllByRecursion, HoldsAt, filter, find, slice_get}
 use Rattle.tx_events.specs.declared.event.Event.{Event}
@@ -7,45 +7,29 @@ use Rattle.tx_events.specs.declared.record.Counters.{Counters}
 use Rattle.tx_events.specs.declared.refusal.Refusal.TheVariants as refusals
 use Rattle.tx_events.specs.declared.xact_end.XactEnd.TheVariants as ends
 use Rattle.tx_events.specs.Events.{by_of, given, is_of}
-use Rattle.tx_events.specs.Families.{is_top}
+use Rattle.tx_events.specs.Families.{is_top, top}
 use Rattle.tx_events.specs.History.{IsLegal}
 use Rattle.tx_events.specs.Running.{is_open, open_ids}
+use Rattle.tx_events.proofs.Closing.{one_top}
 use Rattle.tx_events.proofs.ListSteps.{eqb-refl, filter_none}
-use Rattle.tx_events.proofs.Membership.{has_contains}
+use Rattle.tx_events.proofs.Membership.{Has, contains_has}
 use Rattle.tx_model.specs.declared.reply.Reply.{Reply}
 use Rattle.tx_model.specs.declared.reply.Reply.TheVariants as replies
 use Rattle.tx_model.specs.declared.report.Line.{Line}
-use Rattle.history_check.specs.declared.opened.OpenId.{OpenId}
-use Rattle.history_check.specs.Opened.{AreOpened, opened_ids}
-use Rattle.history_check.proofs.OpenedSteps.{found_top}
 use Rattle.report_law.specs.Records.{IsDiskFault, IsOpenOf, is_abort, is_commit, last_answer}
 use Rattle.record_rules.specs.declared.transactions.OpenXact.{OpenXact}
 use Rattle.record_rules.specs.Answered.{is_disk_fault, is_not_done, may_have, was_told}
-use Rattle.record_rules.specs.Ends.{IsOpenXact}
+use Rattle.record_rules.specs.Ends.{IsOpenXact, is_same}
 
 -- ---- the first open id
 
-first_open : (h : List Event) (s : ℕ) (o : OpenId) (rest : List OpenId) → AreOpened h s (o ∷ rest) → Contains (open_ids s h) o.id
-first_open h s o rest a = subst (λ (t : List ℕ). Contains t o.id) a.ids (has_contains (o.id ∷ opened_ids rest) o.id (inl refl))
-
-pub first_is_top : (base : Counters) (h : List Event) (s : ℕ) (o : OpenId) (rest : List OpenId) (t : ℕ) (subs : List ℕ) → IsLegal base h → AreOpened h s (o ∷ rest) → open_ids s h ≡ t ∷ subs → is_none o.parent ≡ is_top h t
-first_is_top base h s o rest t subs legal a is =
-    let both : o.id ∷ opened_ids rest ≡ t ∷ subs = a.ids ∙ is in
-    let same : o.id ≡ t = cc in
-    let found : find (λ (x : OpenId). x.id == o.id) (o ∷ rest) ≡ Some o = rw (eqb-refl o.id) refl in
-    let iff = found_top base h s (o ∷ rest) o.id o legal a found in
-    by_cases (is_none o.parent) refl (is_top h o.id) refl iff.0 (λ yes. iff.1 (first_open h s o rest a, yes)) ∙ ap (is_top h) same
-  where
-    by_cases : (b : Bool) → is_none o.parent ≡ b → (c : Bool) → is_top h o.id ≡ c → (IsTrue (is_none o.parent) → Contains (open_ids s h) o.id × (is_top h o.id ≡ true)) → (is_top h o.id ≡ true → IsTrue (is_none o.parent)) → is_none o.parent ≡ is_top h o.id
-    by_cases true e c f to from = e ∙ sym (to e).1
-    by_cases false e true f to from = absurd (false≢true (sym e ∙ from f))
-    by_cases false e false f to from = e ∙ sym f
-
-pub begins_top : (base : Counters) (h : List Event) (s : ℕ) (opened : List OpenId) (o : OpenId) (t : ℕ) (subs : List ℕ) → IsLegal base h → AreOpened h s opened → slice_get opened 0 ≡ Some o → open_ids s h ≡ t ∷ subs → is_none o.parent ≡ is_top h t
-begins_top base h s [] o t subs legal a first is = absurd cc
-begins_top base h s (x ∷ rest) o t subs legal a first is =
-    let same : x ≡ o = cc in
-    ap (λ (y : OpenId). is_none y.parent) (sym same) ∙ first_is_top base h s x rest t subs legal a is
+-- all that a session has open have one top
+pub first_is_top : (base : Counters) (h : List Event) (s : ℕ) (o : Option ℕ) (x : ℕ) (rest : List ℕ) → IsLegal base h → IfSome o (λ t. Contains (open_ids s h) t × (is_top h t ≡ true)) → IfNone o (open_ids s h ≡ []) → open_ids s h ≡ x ∷ rest → is_same o x ≡ is_top h x
+first_is_top base h s None x rest legal some none is = let f : [] ≡ x ∷ rest = sym none ∙ is in absurd cc
+first_is_top base h s (Some t) x rest legal some none is =
+    let own : Has (open_ids s h) x = subst (λ l. Has l x) (sym is) (inl refl) in
+    let same : top h x ≡ t = one_top base h legal s x t own (contains_has (open_ids s h) t some.0) ∙ eqb-true (top h t) t some.1 in
+    ap (λ y. y == x) (sym same)
 
 -- ---- what one session more has open
 

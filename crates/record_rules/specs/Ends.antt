@@ -1,5 +1,5 @@
 -- How the transactions of a history ended, and with which ids.
-use Rattle.std.specs.Prelude.{◌≡◌, ℕ, ◌<◌, ◌≤◌, Bool, true, false, List, ◌∷◌, Some, is_some, length, take, slice_get}
+use Rattle.std.specs.Prelude.{◌≡◌, ℕ, ◌<◌, ◌≤◌, ◌==◌, Bool, true, false, List, ◌∷◌, Option, None, Some, is_some, length, take, slice_get}
 use Rattle.std.specs.List.{HoldsAt, between}
 use Rattle.tx_events.specs.declared.event.By.{By}
 use Rattle.tx_events.specs.declared.event.Event.{Event}
@@ -34,6 +34,10 @@ pub record IsEndAt (h : List Event) (ids : List ℕ) (top : ℕ) (e : Ended) : T
 pub record AreEnds (h : List Event) (ends : Ends) : Type 0 where
   pub each : (top : ℕ) (e : Ended) → value_of ends.by_top top ≡ Some e → IsEndAt h ends.ids.items top e
   pub all : (place top : ℕ) (how : XactEnd) (by : By) → slice_get h place ≡ Some (end_event how by top) → is_some (value_of ends.by_top top) ≡ true
+
+abbrev pub is_same : Option ℕ → ℕ → Bool
+is_same None x = false
+is_same (Some t) x = t == x
 
 -- what a session has open at the end, and what its last commit and abort were answered
 pub record IsOpenXact (h : List Event) (lines : List Line) (session : ℕ) (x : OpenXact) : Type 0 where

@@ -4,10 +4,9 @@ ghost use Rattle.std.specs.List.{between};
 ghost use Rattle.tx_events.specs.declared.event.Event.{Event};
 ghost use Rattle.tx_events.specs.Events.{by_of};
 ghost use Rattle.tx_events.specs.XactEnds.{end_event};
-ghost use Rattle.history_check.specs.Opened.{AreOpened, opened_ids};
 ghost use Rattle.record_rules.specs.Ends.{AreEnds, is_end};
 
-use history_check::{HistoryReplay, OpenId};
+use history_check::HistoryReplay;
 use near_map::NearMap;
 use std::alloc::Global;
 use tx_events::{By, Event, FullXid, Memory, XactEnd};
@@ -28,28 +27,6 @@ pub struct Ends {
     pub ids: Vec<FullXid>,
 }
 
-#[tactic(auto, using(history_check::proofs::OpenedSteps::ids_more))]
-pub fn ids_of(alloc: Global, opened: &[OpenId]) -> Result<Vec<FullXid>, Memory>
-    ensures { IfOk result (λ ids. ids.items ≡ opened_ids opened.now) }
-{
-    let mut ids = Vec::with_capacity(alloc, opened.len())?;
-    for o in opened {
-        ids.push(o.id)?;
-    }
-    Ok(ids)
-}
-
-/// Puts the open ids behind these.
-#[tactic(auto, using(history_check::proofs::OpenedSteps::ids_more))]
-fn add_ids(ids: &mut Vec<FullXid>, opened: &[OpenId]) -> Result<(), Memory>
-    ensures { OnOk result (ids.new.items ≡ ids.old.items ++ opened_ids opened.now) }
-{
-    for o in opened {
-        ids.push(o.id)?;
-    }
-    Ok(())
-}
-
 /// None has ended. Most tops are next to the first id.
 #[tactic(auto, using(crate::proofs::Ending::no_ends))]
 pub fn none_ended(alloc: Global, first: FullXid, count: usize) -> Result<Ends, Memory>
@@ -62,18 +39,19 @@ pub fn none_ended(alloc: Global, first: FullXid, count: usize) -> Result<Ends, M
     })
 }
 
-/// Keeps that the transaction of this top ended so, whose session has these ids open.
+/// Keeps that the transaction of this top ends so, with the ids that its session has open.
 fn keep_end(
     ends: &mut Ends,
+    replay: &HistoryReplay,
     how: XactEnd,
     by: By,
     top: FullXid,
-    opened: &[OpenId],
 ) -> Result<(), Memory>
-    ensures { OnOk result ((h : List Event) → AreOpened h by.session opened.now → AreEnds h ends.old → AreEnds (h ++ end_event how by top ∷ []) ends.new) }
+    requires { by.session < replay.now.sessions }
+    ensures { OnOk result (AreEnds replay.now.events ends.old → AreEnds (replay.now.events ++ end_event how by top ∷ []) ends.new) }
 {
     let from = ends.ids.len();
-    add_ids(&mut ends.ids, opened)?;
+    replay.push_open(by.session, &mut ends.ids)?;
     let end = ends.ids.len();
     ends.by_top.put(top.number(), Ended { how, from, end })?;
     Ok(())
@@ -98,14 +76,8 @@ pub fn note_end(ends: &mut Ends, replay: &HistoryReplay, event: &Event) -> Resul
         return Ok(());
     }
     match event {
-        Event::Commit { by, top } => {
-            let opened = replay.open_ids(by.get().session);
-            keep_end(ends, XactEnd::Commit, by.get(), *top, opened)
-        }
-        Event::Abort { by, top } => {
-            let opened = replay.open_ids(by.get().session);
-            keep_end(ends, XactEnd::Abort, by.get(), *top, opened)
-        }
+        Event::Commit { by, top } => keep_end(ends, replay, XactEnd::Commit, by.get(), *top),
+        Event::Abort { by, top } => keep_end(ends, replay, XactEnd::Abort, by.get(), *top),
         _ => Ok(()),
     }
 }

@@ -11,15 +11,14 @@ ghost use Rattle.tx_events.specs.History.{IsLegal};
 ghost use Rattle.tx_events.specs.Running.{open_ids};
 ghost use Rattle.tx_model.specs.declared.report.Line.{Line};
 ghost use Rattle.tx_model.specs.Rounds.{lines_in};
-ghost use Rattle.history_check.specs.Opened.{AreOpened};
 ghost use Rattle.report_law.specs.Records.{IsEndedAs, IsOpenOf, IsTrueRecord};
 ghost use Rattle.report_law.specs.Steps.{Judged, lines_of};
 ghost use Rattle.record_rules.specs.Answered.{AreAnswers, IsAnswered, may_have};
-ghost use Rattle.record_rules.specs.Ends.{AreEnds, AreOpenXacts, AreTransactions, IsOpenXact};
+ghost use Rattle.record_rules.specs.Ends.{AreEnds, AreOpenXacts, AreTransactions, IsOpenXact, is_same};
 
 use crate::answers::{Answers, answers_of};
-use crate::ends::{Ends, ids_of, none_ended, note_end, part_of};
-use history_check::{HistoryReplay, OpenId};
+use crate::ends::{Ends, none_ended, note_end, part_of};
+use history_check::HistoryReplay;
 use std::alloc::Global;
 use tx_events::{Counters, Event, FullXid, Memory, XactEnd};
 use tx_model::Step;
@@ -92,12 +91,15 @@ fn is_ended_as(ends: &Ends, how: XactEnd, top: FullXid, subs: &[FullXid]) -> boo
     }
 }
 
-/// Whether the first of these open ids is a top-level one.
-fn begins_with_top(opened: &[OpenId]) -> bool
-    ensures { (base : Counters) (h : List Event) (s : ℕ) → IsLegal base h → AreOpened h s opened.now → (top : ℕ) (subs : List ℕ) → open_ids s h ≡ top ∷ subs → result ≡ is_top h top }
+/// Whether the first of these ids is this one.
+fn begins_with(ids: &[FullXid], top: Option<FullXid>) -> bool
+    ensures { (x : ℕ) (rest : List ℕ) → ids.now ≡ x ∷ rest → result ≡ is_same top x }
 {
-    match opened.first() {
-        Some(o) => o.parent.is_none(),
+    match ids.first() {
+        Some(first) => match top {
+            Some(top) => top == *first,
+            None => false,
+        },
         None => false,
     }
 }
@@ -112,9 +114,9 @@ fn open_xact(
     ensures { IfOk result (λ x. (lines : List Line) → IsAnswered lines session answers → IsOpenXact replay.now.events lines session x) }
 {
     let _legal = replay.events();
-    let opened = replay.open_ids(session);
-    let root = begins_with_top(opened);
-    let ids = ids_of(alloc, opened)?;
+    let mut ids = Vec::new(alloc);
+    replay.push_open(session, &mut ids)?;
+    let root = begins_with(&ids, replay.open_top(session));
     Ok(OpenXact { ids, root, answers })
 }
 

@@ -5,7 +5,6 @@ use Rattle.tx_events.specs.Names.{IsName}
 use Rattle.tx_events.specs.declared.event.By.{By}
 use Rattle.tx_events.specs.declared.event.Event.{Event}
 use Rattle.tx_events.specs.declared.event.Event.TheVariants as events
-use Rattle.tx_events.specs.declared.record.Rec.TheVariants as records
 use Rattle.tx_model.specs.declared.command.Command.{Command}
 use Rattle.tx_model.specs.declared.command.Command.TheVariants as commands
 use Rattle.tx_model.specs.declared.reply.Reply.{Reply}
@@ -19,8 +18,8 @@ use Rattle.report_text.specs.ReportText.{command_line}
 use Rattle.report_words.specs.Fits.{FitsBy, FitsId}
 use Rattle.report_words.specs.Replies.{kind_of}
 use Rattle.report_words.specs.declared.reply.Kind.TheVariants as kinds
-use Rattle.report_lines.specs.Fits.{FitsCommand, FitsEvent, FitsLine, FitsRecord}
-use Rattle.report_lines.specs.Texts.{IsLineOf, event_line, record_line}
+use Rattle.report_lines.specs.Fits.{FitsCommand, FitsEvent, FitsLine}
+use Rattle.report_lines.specs.Texts.{IsLineOf, event_line}
 use Rattle.report_usual.specs.Usual.{IsExchange, by_front, seen_end}
 
 abbrev Names : Type 0
@@ -35,7 +34,7 @@ pub last_word : (w : List ℕ) → 32 ∷ (w ++ 10 ∷ []) ≡ more (w ∷ []) +
 unfolding more
 last_word w = word_before w [] (10 ∷ []) refl
 
-line_of : (w : List ℕ) (ws : List (List ℕ)) → w ++ (more ws ++ 10 ∷ []) ≡ line_text (w ∷ ws)
+pub line_of : (w : List ℕ) (ws : List (List ℕ)) → w ++ (more ws ++ 10 ∷ []) ≡ line_text (w ∷ ws)
 unfolding line_text
 line_of w ws = sym (append_assoc w (more ws) (10 ∷ []))
 
@@ -97,7 +96,7 @@ is_line names line rest by c r e f x = record {
 
 -- ---- events
 
-event_text : (names : Names) (w rest last : List ℕ) (by : By) (ws : List (List ℕ)) → rest ≡ by_front names by last → last ≡ more ws ++ 10 ∷ [] → w ++ 32 ∷ rest ≡ line_text (w ∷ name_at names by.session ∷ decimal by.command ∷ ws)
+pub event_text : (names : Names) (w rest last : List ℕ) (by : By) (ws : List (List ℕ)) → rest ≡ by_front names by last → last ≡ more ws ++ 10 ∷ [] → w ++ 32 ∷ rest ≡ line_text (w ∷ name_at names by.session ∷ decimal by.command ∷ ws)
 event_text names w rest last by ws e f =
     ap (λ t. w ++ 32 ∷ t) e
     ∙ ap (λ t. w ++ t) (word_before (name_at names by.session) (decimal by.command ∷ ws) _ (word_before (decimal by.command) ws last f))
@@ -130,15 +129,3 @@ is_given_below names rest behind far end by n parent m id e f s g h i j k l = re
 
 pub event_behind : (names : Names) (r : Option Event) (line piece tail : List ℕ) → line ≡ piece ++ tail → IfSome r (λ x. IsLineOf (FitsEvent names) (event_line names) (piece ++ tail) x) → IfSome r (λ x. IsLineOf (FitsEvent names) (event_line names) line x)
 event_behind names r line piece tail e h = subst (λ t. IfSome r (λ x. IsLineOf (FitsEvent names) (event_line names) t x)) (sym e) h
-
--- ---- records
-
-pub is_commit_record : (line rest tail end : List ℕ) (told number n id : ℕ) → line ≡ decimal told ++ rest → told ≡ number → rest ≡ codes " commit " ++ tail → tail ≡ decimal n ++ end → id ≡ n → FitsId id → end ≡ 10 ∷ [] → IsLineOf (FitsRecord number) (record_line number) line (records.Commit id [])
-unfolding more
-is_commit_record line rest tail end told number n id e s f g h i j = record {
-  fit = (i, tt);
-  text =
-      e ∙ ap (λ v. decimal v ++ rest) s
-      ∙ ap (λ t. decimal number ++ t) (f ∙ ap (λ t. codes " commit " ++ t) (g ∙ ap (λ v. decimal v ++ end) (sym h) ∙ ap (λ t. decimal id ++ t) j) ∙ ap (λ t. codes " commit" ++ t) (last_word (decimal id)))
-      ∙ line_of (decimal number) (codes "commit" ∷ decimal id ∷ []);
-}

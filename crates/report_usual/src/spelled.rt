@@ -2,9 +2,9 @@
 ghost use Rattle.std.specs.Prelude.{◌≡◌, ◌+◌, ◌≤◌, [], ◌∷◌, ◌++◌, IfSome, true};
 ghost use Rattle.std.specs.Fmt.{decimal};
 ghost use Rattle.tx_events.specs.Names.{IsName};
-ghost use Rattle.report_words.specs.Fits.{FitsId};
+ghost use Rattle.report_words.specs.Fits.{FitsId, FitsMulti};
 
-use tx_events::FullXid;
+use tx_events::{FullMulti, FullXid};
 use tx_model::{Name, is_name};
 
 /// What is behind this piece, where the bytes begin with it.
@@ -90,12 +90,40 @@ pub fn spelled_number(bytes: &[u8]) -> Option<(u64, &[u8])>
     Some((number, rest))
 }
 
+/// The number behind this piece, and what is behind it.
+#[inline(always)]
+pub fn named_number<'a>(bytes: &'a [u8], piece: &[u8]) -> Option<(u64, &'a [u8])>
+    ensures { IfSome result (λ x. bytes.now ≡ piece.now ++ (decimal x.0 ++ x.1.now)) }
+{
+    let rest = behind_piece(bytes, piece)?;
+    let (number, rest) = spelled_number(rest)?;
+    Some((number, rest))
+}
+
+/// The number behind a space, and what is behind it.
+#[inline(always)]
+pub fn next_number(bytes: &[u8]) -> Option<(u64, &[u8])>
+    ensures { IfSome result (λ x. bytes.now ≡ 32 ∷ (decimal x.0 ++ x.1.now)) }
+{
+    let rest = behind_byte(bytes, b' ')?;
+    let (number, rest) = spelled_number(rest)?;
+    Some((number, rest))
+}
+
 /// The id of this number.
 #[inline(always)]
 pub fn id_of(number: u64) -> Option<FullXid>
     ensures { IfSome result (λ id. (id ≡ number) × FitsId id) }
 {
     FullXid::new(number)
+}
+
+/// The multixact of this number.
+#[inline(always)]
+pub fn multi_of(number: u64) -> Option<FullMulti>
+    ensures { IfSome result (λ multi. (multi ≡ number) × FitsMulti multi) }
+{
+    FullMulti::new(number)
 }
 
 /// The name at the front, and what is behind the byte that ends it.

@@ -1,5 +1,5 @@
 //! The commonest lines of commands. They are compared as they are read, so that what is found needn't be printed again.
-ghost use Rattle.std.specs.Prelude.{◌≡◌, ◌<◌, ◌^◌, [], ◌∷◌, ◌++◌, IfSome, codes};
+ghost use Rattle.std.specs.Prelude.{◌≡◌, ◌<◌, ◌^◌, [], ◌∷◌, ◌++◌, IfOk, IfSome, codes};
 ghost use Rattle.report_text.specs.Words.{more};
 ghost use Rattle.report_text.specs.CommandText.{command_words};
 ghost use Rattle.report_text.specs.ReportText.{command_line};
@@ -11,11 +11,13 @@ ghost use Rattle.report_lines.specs.Fits.{FitsCommand, FitsLine};
 ghost use Rattle.report_lines.specs.Texts.{IsLineOf};
 ghost use Rattle.report_usual.specs.Usual.{IsExchange, by_front, seen_end};
 
+use crate::lists_told::listed_exchange;
 use crate::spelled::{
     behind_byte, behind_piece, id_of, is_end, is_piece, spelled_name, spelled_number,
 };
+use std::alloc::Global;
 use tx_events::Xid;
-use tx_model::{By, Command, GivenIds, Line, NameList, Reply};
+use tx_model::{By, Command, GivenIds, Line, Memory, NameList, Reply};
 
 /// A command of this session, whose name stands at the front, and what is behind the command's number.
 #[inline(always)]
@@ -129,10 +131,10 @@ fn dropped(rest: &[u8]) -> Option<(Command, Reply)>
     None
 }
 
-/// A command with its reply, behind the command's number.
+/// A command with its reply that have no list, behind the command's number.
 #[tactic(auto, using(crate::proofs::Exchanges::exchange_behind))]
 #[inline(always)]
-fn exchange(rest: &[u8]) -> Option<(Command, Reply)>
+fn brief_exchange(rest: &[u8]) -> Option<(Command, Reply)>
     ensures { IfSome result (λ x. IsExchange rest.now x.0 x.1) }
 {
     if let Some(command) = plain_done(rest) {
@@ -150,12 +152,31 @@ fn exchange(rest: &[u8]) -> Option<(Command, Reply)>
     None
 }
 
-/// The command with its reply that the line of this session tells, where it is one of the commonest.
-pub fn usual_line(names: &NameList, session: usize, line: &[u8]) -> Option<Line>
-    requires { session < 2 ^ 32 }
-    ensures { IfSome result (λ x. IsLineOf (FitsLine names.now) (command_line names.now) line.now x) }
+/// A command with its reply, behind the command's number.
+fn exchange(alloc: Global, rest: &[u8]) -> Result<Option<(Command, Reply)>, Memory>
+    ensures { IfOk result (λ found. IfSome found (λ x. IsExchange rest.now x.0 x.1)) }
 {
-    let (by, rest) = behind_by(names, session, line)?;
-    let (command, reply) = exchange(rest)?;
-    Some(Line { by, command, reply })
+    match brief_exchange(rest) {
+        Some(found) => Ok(Some(found)),
+        None => listed_exchange(alloc, rest),
+    }
+}
+
+/// The command with its reply that the line of this session tells, where it is one of the commonest.
+pub fn usual_line(
+    alloc: Global,
+    names: &NameList,
+    session: usize,
+    line: &[u8],
+) -> Result<Option<Line>, Memory>
+    requires { session < 2 ^ 32 }
+    ensures { IfOk result (λ found. IfSome found (λ x. IsLineOf (FitsLine names.now) (command_line names.now) line.now x)) }
+{
+    let Some((by, rest)) = behind_by(names, session, line) else {
+        return Ok(None);
+    };
+    let Some((command, reply)) = exchange(alloc, rest)? else {
+        return Ok(None);
+    };
+    Ok(Some(Line { by, command, reply }))
 }

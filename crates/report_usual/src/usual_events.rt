@@ -1,21 +1,20 @@
-//! The commonest lines of events, and those of commits' records.
+//! The commonest lines of events.
 ghost use Rattle.std.specs.Prelude.{◌≡◌, ◌<◌, ◌^◌, [], ◌∷◌, ◌++◌, IfSome, codes};
 ghost use Rattle.std.specs.Fmt.{decimal};
 ghost use Rattle.report_words.specs.Fits.{FitsBy, FitsId};
-ghost use Rattle.report_lines.specs.Fits.{FitsEvent, FitsRecord};
-ghost use Rattle.report_lines.specs.Texts.{IsLineOf, event_line, record_line};
+ghost use Rattle.report_lines.specs.Fits.{FitsEvent};
+ghost use Rattle.report_lines.specs.Texts.{IsLineOf, event_line};
 ghost use Rattle.report_usual.specs.Usual.{by_front};
 ghost use Rattle.tx_events.specs.Names.{IsName};
 
 use crate::spelled::{behind_byte, behind_piece, id_of, is_end, spelled_name, spelled_number};
 use crate::usual::behind_by;
-use std::alloc::Global;
 use tx_events::{ByWords, FullXid, Name};
-use tx_model::{By, Event, IdList, NameList, Rec};
+use tx_model::{By, Event, NameList};
 
 /// A command of this session and a number, and what is behind them.
 #[inline(always)]
-fn by_and_number<'a>(
+pub fn by_and_number<'a>(
     names: &NameList,
     session: usize,
     bytes: &'a [u8],
@@ -151,26 +150,6 @@ pub fn usual_event(names: &NameList, session: usize, line: &[u8]) -> Option<Even
     }
     if let Some(rest) = behind_piece(line, b"drop ") {
         return dropped(names, session, rest);
-    }
-    None
-}
-
-/// The record of a commit without subtransactions that the line tells, where this is the record's number.
-pub fn usual_record(alloc: Global, number: u64, line: &[u8]) -> Option<Rec>
-    ensures { IfSome result (λ x. IsLineOf (FitsRecord number) (record_line number) line.now x) }
-{
-    let (told, rest) = spelled_number(line)?;
-    if told != number {
-        return None;
-    }
-    let rest = behind_piece(rest, b" commit ")?;
-    let (id, rest) = spelled_number(rest)?;
-    let top = id_of(id)?;
-    if is_end(rest) {
-        return Some(Rec::Commit {
-            top,
-            subs: IdList::new(alloc),
-        });
     }
     None
 }

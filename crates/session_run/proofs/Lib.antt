@@ -25,5 +25,6 @@ mod Running
 mod GoingOn
 mod LivesRun
 mod Counted
+mod DrawnSteps
 mod Again
 mod Alone

@@ -4,7 +4,6 @@ pub mod GoesOn
 pub mod Records
 pub mod Causes
 pub mod Parts
-pub mod Fits
 pub mod OneLife
 pub mod Starts
 pub mod Lives

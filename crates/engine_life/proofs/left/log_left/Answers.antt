@@ -1,0 +1,10 @@
+use Rattle.engine_life.specs.Left.{FitsLife}
+use Rattle.engine_life.specs.Lives.{life_over, volumes_left}
+use Rattle.engine_life.proofs.LogFound.{found_where}
+use Rattle.engine_life.proofs.left.log_left.Goals as goal
+
+pub found-requires : goal.found-requires
+found-requires g c =
+    let ended = c.args.ended.now in
+    let found = found_where g.P.PageDisk.tells g.L.LogDisk.tells (FitsLife g.L.LogDisk g.P.PageDisk (life_over ended.start.value ended.closed) (volumes_left ended.closed)) c.requires.fit in
+    (record { marker = record {}; kept = found.0 }, found.1)

@@ -1,0 +1,11 @@
+use Rattle.std.proofs.Common.{refl, ◌%◌}
+use Rattle.script_gen.proofs.Steps.{commands_written, on_ok_then}
+use Rattle.script_gen.proofs.writer.Writer.put_commands.Goals as goal
+
+pub returns : goal.returns
+returns c =
+    let d = c.draw_savepoints-count in
+    on_ok_then c.put_end.result
+    (commands_written c.args.number (c.args.number % 4) d.result c.args.self.now c.put_plain.new.self c.put_plain-2.new.self d.new.self c.put_savepoints.new.self c.put_look.new.self c.put_end.new.self refl
+    c.in_ok-put_plain.ensures c.in_ok-put_plain-2.ensures d.ensures.count d.ensures.state d.ensures.items c.in_ok-put_savepoints.ensures c.in_ok-put_look.ensures)
+    c.put_end.ensures

@@ -71,7 +71,7 @@ invariant_of-self-2 c =
     c.in_ok-go_on.ensures.ok c.in_ok-closed.ensures.closed
     (written_back c.self.inside.last.len c.note.new.last c.self.inside.last.items (ap length c.note.ensures ∙ length-set c.deref_mut.result.now c.by-by.result.session c.by-by.result.command ∙ ap length c.deref_mut.ensures.value) (omega arith) ∙ c.note.ensures ∙ ap (λ l. set l c.by-by.result.session c.by-by.result.command) c.deref_mut.ensures.value)
     refl c.index_mut-2.result.now c.index_mut-2.ensures.value
-    (subst (λ (l : List ℕ). IsNoted c.args.event.now l c.index_mut-2.result.now c.note_opened.new.opened) c.as_slice-5.ensures.value c.note_opened.ensures)
+    (subst (λ (l : List ℕ). IsNoted c.args.event.now l c.index_mut-2.result.now c.note_opened.new.opened) c.as_slice-3.ensures.value c.note_opened.ensures)
     (ap (λ (o : Opened). opened_ids (opens o.slots.items)) (c.index-3.ensures ∙ same_default (set c.self.inside.opened.items c.by-by.result.session c.make_room.new.opened) c.by-by.result.session c.index-3.result.now c.index_mut-2.result.now (subst (λ n. c.by-by.result.session < n) (sym r.opened.size) (subst (λ (b : By). b.session < c.self.inside.table.sessions) (sym c.by-by.ensures) within)) ∙ sym c.index_mut-2.ensures.value))
     (c.note_given.ensures ∙ ap (λ n. given_after (opened_ids (opens c.index-3.result.now.slots.items)) n c.args.event.now c.make_one_room.new.items.items) (ap length c.events.ensures.value))
 

@@ -155,8 +155,9 @@ module _ (base : Counters) (h : List Event) (s id : ℕ) (slots : List Slot) (le
     within = omega arith;
   }
 
-  pub search_goes_on : (found new : List ℕ) (next place : ℕ) → IsSearched h id slots next found → next < length found → place ≡ get_or found next place → AreChildrenAdded slots (id_at slots place) found new → IsSearched h id slots (next + 1) new
-  search_goes_on found new next place w l is c =
+  pub search_goes_on : (found new : List ℕ) (next place d : ℕ) → IsSearched h id slots next found → next < length found → place ≡ get_or found next d → AreChildrenAdded slots (id_at slots place) found new → IsSearched h id slots (next + 1) new
+  search_goes_on found new next place d w l there c =
+      let is : place ≡ get_or found next place = there ∙ get_or_default found next d place l in
       let here : Has found place = at found next place l (sym is) in
       let inside : IsInsideAt h id slots place = all_at (IsInsideAt h id slots) found place w.only here in
       let more : take (next + 1) new ≡ take next found ++ place ∷ [] =

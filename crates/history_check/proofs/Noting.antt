@@ -68,8 +68,8 @@ all_stay : (xs : List OpenId) → xs ≡ filter (λ (o : OpenId). not (has [] o.
 all_stay [] = refl
 all_stay (o ∷ xs) = ap (λ t. o ∷ t) (all_stay xs)
 
-pub record IsClosedSoFar (ids : List ℕ) (old new : Opened) : Type 0 where
-  pub opened : opens new.slots.items ≡ filter (λ (o : OpenId). not (has ids o.id)) (opens old.slots.items)
+pub record IsClosedSoFar (closed : List ℕ) (old new : Opened) : Type 0 where
+  pub opened : opens new.slots.items ≡ filter (λ (o : OpenId). not (has closed o.id)) (opens old.slots.items)
   pub kept : IsKept new
   pub ids : link_ids (links_of new.slots.items) ≡ link_ids (links_of old.slots.items)
 
@@ -118,3 +118,6 @@ slot_marks s items ids p = one s.is_open
     one : (b : Bool) → map (with_place (opened_ids (cond b (open_of s.linked ∷ []) [])) p) (map (with_place ids p) items) ≡ map (with_place (ids ++ opened_ids (cond b (open_of s.linked ∷ []) [])) p) items
     one true = mark_more items ids p s.linked.id
     one false = sym (mark_none (map (with_place ids p) items) p) ∙ ap (λ t. map (with_place t p) items) (sym (append-nil ids))
+
+pub unmarked : (s : Slot) (items : List GivenId) (p : ℕ) → s.is_open ≡ false → items ≡ map (with_place (opened_ids (opens (s ∷ []))) p) items
+unmarked s items p e = mark_none items p ∙ ap (λ b. map (with_place (opened_ids (cond b (open_of s.linked ∷ []) [])) p) items) (sym e)

@@ -1,5 +1,5 @@
 -- What an event changes of the open ids of its session, and of no other.
-use Rattle.std.proofs.Common.{◌≡◌, ◌≢◌, ℕ, ◌<◌, List, [], ◌∷◌, ◌++◌, Option, Some, None, refl, ap, sym, subst, ◌∙◌, inl, inr, ⊎_elim, Bool, true, false, cond, not, ◌==◌, ◌&&◌, get_or, set, Contains, eqb-true, eq-eqb}
+use Rattle.std.proofs.Common.{◌≡◌, ◌≢◌, ℕ, ◌<◌, List, [], ◌∷◌, ◌++◌, Option, Some, None, refl, ap, sym, subst, ◌∙◌, inl, inr, ⊎_elim, Bool, true, false, cond, not, ◌==◌, ◌&&◌, get_or, set, Contains, arith, eqb-true, eq-eqb}
 use Rattle.std.specs.List.{AllByRecursion, filter}
 use Rattle.std.proofs.lemmas.List.{get_or-set_other, get_or-set_same, length-set, map_push}
 use Rattle.std.proofs.lemmas.Bool.{cases_Bool, false≢true}
@@ -32,16 +32,16 @@ use Rattle.history_check.proofs.GivenSteps.{giving_below, giving_next}
 use Rattle.history_check.proofs.Parents.{parent_push, sub_parent, top_parent}
 
 -- an open one is kept
-kept_id : (slots : List Slot) (x : ℕ) → Has (opened_ids (opens slots)) x → Contains (link_ids (links_of slots)) x
-kept_id slots x k = has_contains (link_ids (links_of slots)) x (there slots k)
+open_kept : (slots : List Slot) (x : ℕ) → Has (opened_ids (opens slots)) x → Has (link_ids (links_of slots)) x
+open_kept [] x k = k
+open_kept (s ∷ slots) x k = one s.is_open (λ j. open_kept slots x j) k
   where
-    there : (slots : List Slot) → Has (opened_ids (opens slots)) x → Has (link_ids (links_of slots)) x
-    there [] k = k
-    there (s ∷ slots) k = one s.is_open k
-      where
-        one : (b : Bool) → Has (opened_ids (cond b (open_of s.linked ∷ opens slots) (opens slots))) x → Has (link_ids (links_of (s ∷ slots))) x
-        one true k = ⊎_elim (λ (e : s.linked.id ≡ x). inl e) (λ j. inr (there slots j)) k
-        one false k = inr (there slots k)
+    one : (b : Bool) → (Has (opened_ids (opens slots)) x → Has (link_ids (links_of slots)) x) → Has (opened_ids (cond b (open_of s.linked ∷ opens slots) (opens slots))) x → Has (link_ids (links_of (s ∷ slots))) x
+    one true f k = ⊎_elim (λ (e : s.linked.id ≡ x). inl e) (λ j. inr (f j)) k
+    one false f k = inr (f k)
+
+kept_id : (slots : List Slot) (x : ℕ) → Has (opened_ids (opens slots)) x → Contains (link_ids (links_of slots)) x
+kept_id slots x k = has_contains (link_ids (links_of slots)) x (open_kept slots x k)
 
 -- the id that comes next is above all
 below : (base : Counters) (h : List Event) (e : Event) (id : ℕ) (kept : Opened) → IsLegal base h → MayCome base h e → given_by e ≡ Some id → IsOpened h (by_of e).session kept → AllByRecursion (λ x. x < id) (link_ids (links_of kept.slots.items))

@@ -19,7 +19,7 @@ use Rattle.tx_events.proofs.IdListSteps.{ascending_filtered, has-filter, has_tru
 use Rattle.tx_events.proofs.Membership.{Has, all_at, contains_has, has_contains}
 use Rattle.proc_table.proofs.OpenAscend.{open_ascend}
 use Rattle.history_check.specs.declared.links.OpenId.{OpenId}
-use Rattle.history_check.specs.Opened.{AreOpened, is_closed_below, is_inside_by, opened_ids, parent_of}
+use Rattle.history_check.specs.Opened.{AreOpened, opened_ids, parent_of}
 use Rattle.history_check.proofs.Parents.{HasNone, HasParent, inside_above, inside_none, is_no_top, is_top_of_none, parent_below, parent_open, parents}
 
 -- ---- the list of a session ascends

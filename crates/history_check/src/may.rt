@@ -30,7 +30,6 @@ fn has_open(table: &ProcTable, session: u32, opened: &Opened, id: FullXid) -> bo
     requires { IsOpened table.now.events session opened.now }
     ensures { IsTrue result ↔ Contains (open_ids session table.now.events) id }
 {
-    let _legal = table.events();
     find_open(&opened.slots, id).is_some()
 }
 

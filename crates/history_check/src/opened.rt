@@ -145,10 +145,10 @@ fn push_id(slot: &Slot, ids: &mut Vec<FullXid>) -> Result<(), Memory>
 }
 
 /// Puts the open ids behind these.
-pub fn push_ids(opened: &Opened, ids: &mut Vec<FullXid>) -> Result<(), Memory>
-    ensures { OnOk result (ids.new.items ≡ ids.old.items ++ opened_ids (opens opened.now.slots.items)) }
+pub fn push_ids(slots: &[Slot], ids: &mut Vec<FullXid>) -> Result<(), Memory>
+    ensures { OnOk result (ids.new.items ≡ ids.old.items ++ opened_ids (opens slots.now)) }
 {
-    for slot in &opened.slots {
+    for slot in slots {
         push_id(slot, ids)?;
     }
     Ok(())

@@ -238,7 +238,7 @@ impl HistoryReplay {
         requires { session < self.now.sessions }
         ensures { OnOk result (ids.new.items ≡ ids.old.items ++ open_ids session self.now.events) }
     {
-        push_ids(&self.opened[session as usize], ids)
+        push_ids(&self.opened[session as usize].slots, ids)
     }
 
     /// The history so far, which is legal.

@@ -14,12 +14,11 @@ use Rattle.report_text.specs.MemberText.{member_words}
 use Rattle.tx_events.specs.Multis.{multi_by}
 use Rattle.report_text.specs.EventText.{event_word, event_words, event_rest, by_words, multi_event_word, multi_event_words, multi_event_rest}
 use Rattle.report_words.specs.Words.{behind, AreWords}
-use Rattle.report_words.specs.Fits.{FitsMember, AreNames}
+use Rattle.report_words.specs.Fits.{FitsMember, AreNames, FitsEvent, FitsMultiEvent}
 use Rattle.report_words.proofs.Again.{number_at_again, number_word, id_again, by_again, by_are_words, line_gives, name_word}
 use Rattle.report_words.proofs.Snaps.{multi_again}
 use Rattle.report_words.proofs.AgainMembers.{members_again, members_are_words}
 use Rattle.report_lines.specs.Events.{id_event, event_rest_at, event_at, gen_at, multi_rest_at, multi_event_at}
-use Rattle.report_lines.specs.Fits.{FitsEvent, FitsMultiEvent}
 
 pub event_again : (names : List (List ℕ)) (e : Event) → AreNames names → FitsEvent names e → event_at names (event_words names e) ≡ Some e
 unfolding event_at event_rest_at id_event event_word

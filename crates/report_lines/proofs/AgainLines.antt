@@ -14,7 +14,7 @@ use Rattle.report_text.specs.ReplyText.{reply_words}
 use Rattle.report_text.specs.RecordText.{counters_words, record_words}
 use Rattle.report_text.specs.ReportText.{command_line, life_line}
 use Rattle.report_words.specs.Words.{behind, AreWords}
-use Rattle.report_words.specs.Fits.{FitsCounters, FitsId, AreNames}
+use Rattle.report_words.specs.Fits.{FitsCounters, FitsId, AreNames, FitsCommand, FitsLine, FitsRecord}
 use Rattle.report_words.proofs.Again.{number_at_again, number_word, id_again, by_again, line_gives, name_is_word, name_word}
 use Rattle.report_words.proofs.Snaps.{multi_again, named_again, counters_again, all_ids}
 use Rattle.report_lines.specs.declared.life.Start.{Start}
@@ -23,7 +23,7 @@ use Rattle.report_words.specs.Replies.{kind_of}
 use Rattle.report_lines.specs.Commands.{plain_command, named_command, number_command, long_command, command_at, line_at}
 use Rattle.report_lines.specs.Records.{ended_at, multi_record_at, truncate_at, record_at, record_line_at, start_at, log_at}
 use Rattle.report_lines.specs.Texts.{log_line, start_line}
-use Rattle.report_lines.specs.Fits.{FitsCommand, FitsLine, FitsRecord, FitsStart, FitsLog}
+use Rattle.report_lines.specs.Fits.{FitsStart, FitsLog}
 use Rattle.report_words.proofs.AgainMembers.{small_again, pairs_again, members_again, words_append, pairs_are_words, members_are_words}
 use Rattle.report_words.proofs.AgainReplies.{reply_again, reply_are_words, ids_are_words}
 

@@ -20,13 +20,14 @@ use Rattle.report_text.specs.RecordText.{record_words, counters_words}
 use Rattle.report_text.specs.ReplyText.{reply_words}
 use Rattle.report_text.specs.ReportText.{command_line, crash_text, dump_words, life_line, round_line, step_text, title_text}
 use Rattle.report_words.specs.Words.{IsWord, AreWords, is_shown}
-use Rattle.report_words.specs.Fits.{AreNames}
+use Rattle.report_words.specs.Fits.{AreNames, FitsEvent, FitsLine, FitsMultiEvent, FitsRecord}
 use Rattle.report_words.proofs.Again.{number_word}
 use Rattle.report_lines.specs.declared.life.Start.{Start}
 use Rattle.report_lines.specs.declared.life.LogHead.{LogHead}
-use Rattle.report_lines.specs.Fits.{FitsEvent, FitsLine, FitsLog, FitsMultiEvent, FitsRecord, FitsStart, FitsStep}
+use Rattle.report_lines.specs.Fits.{FitsLog, FitsStart, FitsStep}
 use Rattle.report_lines.specs.Front.{IsLine}
-use Rattle.report_lines.specs.Texts.{event_line, log_line, multi_line, record_line, start_line}
+use Rattle.report_words.specs.Texts.{event_line, multi_line, record_line}
+use Rattle.report_lines.specs.Texts.{log_line, start_line}
 use Rattle.report_lines.proofs.AgainEvents.{event_are_words, multi_event_are_words}
 use Rattle.report_lines.proofs.AgainLines.{log_are_words, record_are_words, said_are_words, start_are_words}
 use Rattle.report_lines.proofs.AgainSteps.{checkpoint_words, dumped_are_words}

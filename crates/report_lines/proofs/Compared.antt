@@ -4,7 +4,7 @@ use Rattle.std.proofs.lemmas.Bool.{false≢true}
 use Rattle.report_words.specs.Reading.{Gives, IsOnly}
 use Rattle.report_words.specs.declared.unread.Unread.{Unread}
 use Rattle.report_words.proofs.Again.{gives_only}
-use Rattle.report_lines.specs.Texts.{IsLineOf}
+use Rattle.report_words.specs.Texts.{IsLineOf}
 
 pub only_err : {X : Type 0} (read : Option X) (s : Unread) (x : X) → Gives {X = X} (λ y. y) (Err s) read → read ≡ Some x → IsOnly {X = X} (Err s) x
 only_err {X} read s x g e = gives_only {X = X} (Err s) read x g e

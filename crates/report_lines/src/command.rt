@@ -4,10 +4,9 @@ ghost use Rattle.report_text.specs.ReportText.{command_line};
 ghost use Rattle.tx_model.specs.declared.report.Line.{Line};
 ghost use Rattle.report_words.specs.Words.{behind};
 ghost use Rattle.report_words.specs.Reading.{Gives, IsOnly};
-ghost use Rattle.report_words.specs.Fits.{AreNames};
+ghost use Rattle.report_words.specs.Fits.{AreNames, FitsCommand, FitsLine};
 ghost use Rattle.report_lines.specs.Commands.{plain_command, named_command, number_command, is_named, long_command, command_at, line_at};
-ghost use Rattle.report_lines.specs.Fits.{FitsCommand, FitsLine};
-ghost use Rattle.report_lines.specs.Texts.{IsLineOf};
+ghost use Rattle.report_words.specs.Texts.{IsLineOf};
 
 use report_text::{Text, put_command_line};
 use report_words::{

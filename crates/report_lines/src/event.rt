@@ -3,11 +3,10 @@ ghost use Rattle.std.specs.Prelude.{◌≡◌, ◌↔◌, ◌<◌, ◌≤◌, �
 ghost use Rattle.tx_events.specs.declared.event.Event.{Event};
 ghost use Rattle.report_words.specs.Words.{behind};
 ghost use Rattle.report_words.specs.Reading.{Gives, IsOnly};
-ghost use Rattle.report_words.specs.Fits.{AreNames};
+ghost use Rattle.report_words.specs.Fits.{AreNames, FitsEvent};
 ghost use Rattle.report_lines.specs.Events.{id_event, event_rest_at, event_at};
-ghost use Rattle.report_lines.specs.Fits.{FitsEvent};
 ghost use Rattle.report_lines.specs.Plain.{plain_event};
-ghost use Rattle.report_lines.specs.Texts.{IsLineOf, event_line};
+ghost use Rattle.report_words.specs.Texts.{IsLineOf, event_line};
 
 use report_text::{Text, put_event};
 use report_words::{

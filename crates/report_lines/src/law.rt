@@ -1,10 +1,11 @@
 //! No line is that of two.
 ghost use Rattle.std.specs.Prelude.{◌≡◌, ◌<◌, ◌^◌, ℕ, List};
 ghost use Rattle.report_text.specs.ReportText.{command_line, step_text};
-ghost use Rattle.report_words.specs.Fits.{AreNames};
-ghost use Rattle.report_lines.specs.Fits.{FitsEvent, FitsLine, FitsMultiEvent, FitsRecord, FitsStart, FitsLog, FitsStep};
+ghost use Rattle.report_words.specs.Fits.{AreNames, FitsEvent, FitsLine, FitsMultiEvent, FitsRecord};
+ghost use Rattle.report_lines.specs.Fits.{FitsStart, FitsLog, FitsStep};
 ghost use Rattle.report_lines.specs.Laws.{TellsApart};
-ghost use Rattle.report_lines.specs.Texts.{event_line, log_line, multi_line, record_line, start_line};
+ghost use Rattle.report_words.specs.Texts.{event_line, multi_line, record_line};
+ghost use Rattle.report_lines.specs.Texts.{log_line, start_line};
 
 /// No line is that of two commands with their replies, of two events, and so on.
 pub fn no_line_of_two()

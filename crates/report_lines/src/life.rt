@@ -6,7 +6,8 @@ ghost use Rattle.report_lines.specs.declared.life.Start.{Start};
 ghost use Rattle.report_lines.specs.declared.life.LogHead.{LogHead};
 ghost use Rattle.report_lines.specs.Records.{start_at, log_at};
 ghost use Rattle.report_lines.specs.Fits.{FitsStart, FitsLog};
-ghost use Rattle.report_lines.specs.Texts.{IsLineOf, start_line, log_line};
+ghost use Rattle.report_words.specs.Texts.{IsLineOf};
+ghost use Rattle.report_lines.specs.Texts.{start_line, log_line};
 
 use report_text::{Text, put_life_line, put_log_line};
 use report_words::{Unread, counters_at, counters_fit, named_at, word_at};

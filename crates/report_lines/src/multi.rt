@@ -3,10 +3,9 @@ ghost use Rattle.std.specs.Prelude.{◌≡◌, ◌↔◌, ◌<◌, ◌≤◌, �
 ghost use Rattle.tx_events.specs.declared.multi.MultiEvent.{MultiEvent};
 ghost use Rattle.report_words.specs.Words.{behind};
 ghost use Rattle.report_words.specs.Reading.{Gives, IsOnly};
-ghost use Rattle.report_words.specs.Fits.{AreNames};
+ghost use Rattle.report_words.specs.Fits.{AreNames, FitsMultiEvent};
 ghost use Rattle.report_lines.specs.Events.{gen_at, multi_rest_at, multi_event_at};
-ghost use Rattle.report_lines.specs.Fits.{FitsMultiEvent};
-ghost use Rattle.report_lines.specs.Texts.{IsLineOf, multi_line};
+ghost use Rattle.report_words.specs.Texts.{IsLineOf, multi_line};
 
 use report_text::{Text, put_multi_event};
 use report_words::{

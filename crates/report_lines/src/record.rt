@@ -4,8 +4,8 @@ ghost use Rattle.tx_events.specs.declared.record.Rec.{Rec};
 ghost use Rattle.report_words.specs.Words.{behind};
 ghost use Rattle.report_words.specs.Reading.{Gives, IsOnly};
 ghost use Rattle.report_lines.specs.Records.{ended_at, multi_record_at, truncate_at, record_at, record_line_at};
-ghost use Rattle.report_lines.specs.Fits.{FitsRecord};
-ghost use Rattle.report_lines.specs.Texts.{IsLineOf, record_line};
+ghost use Rattle.report_words.specs.Fits.{FitsRecord};
+ghost use Rattle.report_words.specs.Texts.{IsLineOf, record_line};
 
 use report_text::{Text, put_record_line};
 use report_words::{

@@ -8,7 +8,7 @@ ghost use Rattle.report_words.specs.Reading.{Gives, IsOnly};
 ghost use Rattle.report_words.specs.Fits.{AreNames};
 ghost use Rattle.report_lines.specs.Steps.{page_of, dumped_at, dump_at, checkpoint_at, step_at};
 ghost use Rattle.report_lines.specs.Fits.{FitsDump, FitsStep};
-ghost use Rattle.report_lines.specs.Texts.{IsLineOf};
+ghost use Rattle.report_words.specs.Texts.{IsLineOf};
 
 use report_text::{Text, put_round_line, put_step};
 use report_words::{

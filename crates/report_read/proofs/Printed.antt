@@ -26,7 +26,8 @@ use Rattle.report_words.specs.Reading.{name_place}
 use Rattle.report_words.specs.Replies.{kind_of}
 use Rattle.report_words.specs.declared.reply.Kind.{Kind}
 use Rattle.report_lines.specs.Fits.{FitsStep}
-use Rattle.report_lines.specs.Texts.{event_line, log_line, multi_line, record_line, start_line}
+use Rattle.report_words.specs.Texts.{event_line, multi_line, record_line}
+use Rattle.report_lines.specs.Texts.{log_line, start_line}
 use Rattle.report_read.specs.Item.{Item}
 use Rattle.report_read.specs.Item as items
 use Rattle.report_read.specs.Grammar.{AreNamed, IsNamed, Rule, after, begins_step, history_line, is_round, item_line, life_told, may_stand, multis_line, noted, session_of, steps_told}

@@ -24,18 +24,19 @@ use Rattle.tx_events.specs.Multis.{multi_by}
 use Rattle.report_text.specs.EventText.{multi_event_word}
 use Rattle.report_text.specs.ReplyText.{refusal_word, reply_words}
 use Rattle.report_text.specs.ReportText.{command_line, crash_text, dump_words, step_text}
-use Rattle.report_words.specs.Fits.{AreNames, FitsCheckpointReply, FitsCheckpointRefusal, IsPending}
+use Rattle.report_words.specs.Fits.{AreNames, FitsCheckpointReply, FitsCheckpointRefusal, IsPending, FitsEvent, FitsLine, FitsMultiEvent, FitsRecord}
 use Rattle.report_words.specs.Reading.{◌>>=◌, word_at, number_of, number_at}
 use Rattle.report_words.proofs.Again.{number_again, number_at_again}
 use Rattle.report_lines.specs.declared.life.Start.{Start}
 use Rattle.report_lines.specs.declared.life.LogHead.{LogHead}
 use Rattle.report_lines.specs.Commands.{line_at}
 use Rattle.report_lines.specs.Events.{event_at, multi_event_at}
-use Rattle.report_lines.specs.Fits.{FitsEvent, FitsLine, FitsLog, FitsMultiEvent, FitsRecord, FitsStart, FitsStep}
+use Rattle.report_lines.specs.Fits.{FitsLog, FitsStart, FitsStep}
 use Rattle.report_lines.specs.Fixed.{crash_in}
 use Rattle.report_lines.specs.Records.{record_line_at, start_at, log_at}
 use Rattle.report_lines.specs.Steps.{step_at}
-use Rattle.report_lines.specs.Texts.{event_line, log_line, multi_line, record_line, start_line}
+use Rattle.report_words.specs.Texts.{event_line, multi_line, record_line}
+use Rattle.report_lines.specs.Texts.{log_line, start_line}
 use Rattle.report_lines.proofs.AgainEvents.{event_line_again, multi_line_again}
 use Rattle.report_lines.proofs.AgainLines.{command_line_again, log_line_again, record_line_again, start_line_again}
 use Rattle.report_lines.proofs.AgainSteps.{step_line_again}

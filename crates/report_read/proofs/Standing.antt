@@ -17,8 +17,10 @@ use Rattle.report_text.specs.ReportText.{crash_text, end_text, title_text}
 use Rattle.report_words.specs.Words.{behind}
 use Rattle.report_lines.specs.declared.life.Start.{Start}
 use Rattle.report_lines.specs.declared.life.LogHead.{LogHead}
-use Rattle.report_lines.specs.Fits.{FitsEvent, FitsLog, FitsMultiEvent, FitsRecord, FitsStart}
-use Rattle.report_lines.specs.Texts.{IsLineOf, event_line, log_line, multi_line, record_line, start_line}
+use Rattle.report_words.specs.Fits.{FitsEvent, FitsMultiEvent, FitsRecord}
+use Rattle.report_lines.specs.Fits.{FitsLog, FitsStart}
+use Rattle.report_words.specs.Texts.{IsLineOf, event_line, multi_line, record_line}
+use Rattle.report_lines.specs.Texts.{log_line, start_line}
 use Rattle.report_lines.proofs.AgainEvents.{event_are_words, multi_event_are_words}
 use Rattle.report_lines.proofs.Apart.{some_same}
 use Rattle.std.specs.Result.{IsErrAnd, IfErr}

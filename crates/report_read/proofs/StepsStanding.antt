@@ -11,9 +11,9 @@ use Rattle.report_text.specs.Words.{name_at}
 use Rattle.report_text.specs.CommandText.{command_word, command_rest}
 use Rattle.report_text.specs.ReplyText.{reply_words}
 use Rattle.report_text.specs.ReportText.{command_line, round_line, step_text}
-use Rattle.report_words.specs.Fits.{FitsCheckpointReply}
-use Rattle.report_lines.specs.Fits.{FitsLine, FitsStep}
-use Rattle.report_lines.specs.Texts.{IsLineOf}
+use Rattle.report_words.specs.Fits.{FitsCheckpointReply, FitsLine}
+use Rattle.report_lines.specs.Fits.{FitsStep}
+use Rattle.report_words.specs.Texts.{IsLineOf}
 use Rattle.report_lines.proofs.AgainLines.{said_are_words}
 use Rattle.report_lines.proofs.Apart.{some_same}
 use Rattle.report_words.specs.declared.unread.Unread.{Unread}

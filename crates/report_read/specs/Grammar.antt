@@ -11,9 +11,10 @@ use Rattle.report_text.specs.Words.{line_text, name_at}
 use Rattle.tx_events.specs.Multis.{multi_by}
 use Rattle.report_text.specs.ReportText.{command_line, crash_text, end_text, round_line, step_text, title_text}
 use Rattle.report_words.specs.Reading.{name_place}
-use Rattle.report_words.specs.Fits.{AreNames}
-use Rattle.report_lines.specs.Texts.{event_line, log_line, multi_line, record_line, start_line}
-use Rattle.report_lines.specs.Fits.{FitsEvent, FitsLine, FitsLog, FitsMultiEvent, FitsRecord, FitsStart, FitsStep}
+use Rattle.report_words.specs.Fits.{AreNames, FitsEvent, FitsLine, FitsMultiEvent, FitsRecord}
+use Rattle.report_words.specs.Texts.{event_line, multi_line, record_line}
+use Rattle.report_lines.specs.Texts.{log_line, start_line}
+use Rattle.report_lines.specs.Fits.{FitsLog, FitsStart, FitsStep}
 use Rattle.report_read.specs.Item.{Item}
 use Rattle.report_read.specs.Item as items
 use Rattle.report_read.specs.declared.told.Stage.{Stage}

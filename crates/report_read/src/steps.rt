@@ -85,23 +85,25 @@ fn add_line(alloc: Global, told: &mut Told, said: Line) -> Result<(), Memory>
 
 /// The command with its reply that the line tells, where it is one of the commonest, of the session that spoke last, and
 /// may stand.
-fn usual_said(told: &Told, line: &[u8]) -> Option<Line>
+fn usual_said(alloc: Global, told: &Told, line: &[u8]) -> Result<Option<Line>, Memory>
     requires { AreFew told.now.names }
-    ensures stands { IfSome result (λ l. is_round told.now.stage ≡ true) }
-    ensures rule { IfSome result (λ l. Rule told.now (items.command l) told.now.names) }
-    ensures text { IfSome result (λ l. line.now ≡ command_line told.now.names l) }
+    ensures stands { IfOk result (λ found. IfSome found (λ l. is_round told.now.stage ≡ true)) }
+    ensures rule { IfOk result (λ found. IfSome found (λ l. Rule told.now (items.command l) told.now.names)) }
+    ensures text { IfOk result (λ found. IfSome found (λ l. line.now ≡ command_line told.now.names l)) }
 {
     if !in_round(told.stage) {
-        return None;
+        return Ok(None);
     }
-    let said = usual_line(&told.names, near_speaker(told.speaker), line)?;
+    let Some(said) = usual_line(alloc, &told.names, near_speaker(told.speaker), line)? else {
+        return Ok(None);
+    };
     let session = said.by.session;
     if is_next(said.by.command, told.counts[session as usize])
         && may_speak(told.speaker, &told.spoken, session)
     {
-        return Some(said);
+        return Ok(Some(said));
     }
-    None
+    Ok(None)
 }
 
 /// A command with its reply, of the session of this name.
@@ -236,7 +238,7 @@ pub fn take_step_line(
     ensures taken { OnOk result (IsTaken told.old told.new (drop 1 line.now)) }
     ensures refused { IfErr result (λ u. IsRefused u told.old (drop 1 line.now)) }
 {
-    match usual_said(told, &line[1..]) {
+    match usual_said(alloc, told, &line[1..])? {
         Some(said) => {
             add_line(alloc, told, said)?;
             Ok(())

@@ -1,9 +1,9 @@
 //! Lines are taken one by one.
-ghost use Rattle.std.specs.Prelude.{◌≡◌, ◌<◌, ◌≤◌, ◌||◌, ◌++◌, ◌∷◌, [], true, false, length, drop, IfErr, IfNone, IfSome, OnOk, Some, Option, ◌+◌, ◌^◌};
+ghost use Rattle.std.specs.Prelude.{◌≡◌, ◌<◌, ◌≤◌, ◌||◌, ◌++◌, ◌∷◌, [], true, false, length, drop, IfErr, IfNone, IfOk, IfSome, OnOk, Some, Option, ◌+◌, ◌^◌};
 ghost use Rattle.report_words.specs.Words.{behind};
 ghost use Rattle.report_read.specs.Grammar.{Rule, begins_step, is_opening, is_round, life_told};
 ghost use Rattle.report_read.specs.Item as items;
-ghost use Rattle.report_lines.specs.Texts.{record_line};
+ghost use Rattle.report_words.specs.Texts.{record_line};
 ghost use Rattle.report_read.specs.Taking.{AreFew, IsRefused, IsTaken};
 ghost use Rattle.report_read.specs.declared.told.Stage.TheVariants as stages;
 
@@ -18,7 +18,7 @@ use report_lines::{
     read_start,
 };
 use report_text::Text;
-use report_usual::{usual_event, usual_record};
+use report_usual::{usual_event, usual_multi_event, usual_record};
 use report_words::Unread;
 use std::alloc::Global;
 use tx_model::{Event, How, IdList, Life, LifeReport, Memory, MultiEvent, Rec, RecList};
@@ -124,6 +124,29 @@ fn take_multi(alloc: Global, out: &mut Text, told: &mut Told, line: &[u8]) -> Re
     Ok(())
 }
 
+/// The same, where the commonest multixact events are tried first.
+fn take_multi_line(
+    alloc: Global,
+    out: &mut Text,
+    told: &mut Told,
+    line: &[u8],
+) -> Result<(), Unread>
+    requires stage { told.old.stage ≡ stages.Multis }
+    requires few { AreFew told.old.names }
+    requires some { 1 ≤ length line.now }
+    ensures taken { OnOk result (IsTaken told.old told.new (drop 1 line.now)) }
+    ensures refused { IfErr result (λ u. IsRefused u told.old (drop 1 line.now)) }
+{
+    let near = near_multi(told.multis.items());
+    match usual_multi_event(alloc, &told.names, near, &line[1..])? {
+        Some(event) => {
+            told.multis.push(event)?;
+            Ok(())
+        }
+        None => take_multi(alloc, out, told, line),
+    }
+}
+
 /// Ends the present life.
 fn end_life(alloc: Global, told: &mut Told, crash: Option<How>) -> Result<(), Memory>
     ensures { OnOk result (told.new ≡ record told.old {
@@ -191,12 +214,14 @@ fn take_record(alloc: Global, out: &mut Text, told: &mut Told, line: &[u8]) -> R
 }
 
 /// The next record, where the line tells it and it is one of the commonest.
-fn usual_next(alloc: Global, told: &Told, line: &[u8]) -> Option<Rec>
-    ensures rule { IfSome result (λ r. Rule told.now (items.logged (told.now.start.from + length told.now.recs) r) told.now.names) }
-    ensures text { IfSome result (λ r. line.now ≡ record_line (told.now.start.from + length told.now.recs) r) }
+fn usual_next(alloc: Global, told: &Told, line: &[u8]) -> Result<Option<Rec>, Memory>
+    ensures rule { IfOk result (λ found. IfSome found (λ r. Rule told.now (items.logged (told.now.start.from + length told.now.recs) r) told.now.names)) }
+    ensures text { IfOk result (λ found. IfSome found (λ r. line.now ≡ record_line (told.now.start.from + length told.now.recs) r)) }
 {
-    let number = next_number(told)?;
-    usual_record(alloc, number, line)
+    match next_number(told) {
+        Some(number) => usual_record(alloc, number, line),
+        None => Ok(None),
+    }
 }
 
 /// A line of the log, where the commonest records are tried first.
@@ -206,9 +231,9 @@ fn take_log_line(alloc: Global, out: &mut Text, told: &mut Told, line: &[u8]) ->
     ensures taken { OnOk result (IsTaken told.old told.new (drop 1 line.now)) }
     ensures refused { IfErr result (λ u. IsRefused u told.old (drop 1 line.now)) }
 {
-    match usual_next(alloc, told, &line[1..]) {
+    match usual_next(alloc, told, &line[1..])? {
         Some(rec) => {
-            told.recs.push(rec)?;
+            add_record(told, rec)?;
             Ok(())
         }
         None => take_record(alloc, out, told, line),
@@ -231,7 +256,7 @@ pub fn take(alloc: Global, out: &mut Text, told: &mut Told, line: &[u8]) -> Resu
         Stage::Silent => take_step_line(alloc, out, told, line),
         Stage::Spoken => take_step_line(alloc, out, told, line),
         Stage::History => take_event_line(alloc, out, told, line),
-        Stage::Multis => take_multi(alloc, out, told, line),
+        Stage::Multis => take_multi_line(alloc, out, told, line),
         Stage::Log => take_log_line(alloc, out, told, line),
         Stage::Closed => Err(Unread::Form),
     }

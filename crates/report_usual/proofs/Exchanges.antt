@@ -15,11 +15,10 @@ use Rattle.report_text.specs.CommandText.{command_word, command_words}
 use Rattle.report_text.specs.EventText.{event_word}
 use Rattle.report_text.specs.ReplyText.{reply_words}
 use Rattle.report_text.specs.ReportText.{command_line}
-use Rattle.report_words.specs.Fits.{FitsBy, FitsId}
+use Rattle.report_words.specs.Fits.{FitsBy, FitsId, FitsCommand, FitsEvent, FitsLine}
 use Rattle.report_words.specs.Replies.{kind_of}
 use Rattle.report_words.specs.declared.reply.Kind.TheVariants as kinds
-use Rattle.report_lines.specs.Fits.{FitsCommand, FitsEvent, FitsLine}
-use Rattle.report_lines.specs.Texts.{IsLineOf, event_line}
+use Rattle.report_words.specs.Texts.{IsLineOf, event_line}
 use Rattle.report_usual.specs.Usual.{IsExchange, by_front, seen_end}
 
 abbrev Names : Type 0

@@ -8,9 +8,8 @@ use Rattle.tx_events.specs.declared.multi.MultiEvent.TheVariants as multis
 use Rattle.report_text.specs.Words.{more}
 use Rattle.report_text.specs.EventText.{multi_event_word}
 use Rattle.report_text.specs.MemberText.{member_word, member_words}
-use Rattle.report_words.specs.Fits.{FitsBy, FitsMember, FitsMulti}
-use Rattle.report_lines.specs.Fits.{FitsMultiEvent}
-use Rattle.report_lines.specs.Texts.{IsLineOf, multi_line}
+use Rattle.report_words.specs.Fits.{FitsBy, FitsMember, FitsMulti, FitsMultiEvent}
+use Rattle.report_words.specs.Texts.{IsLineOf, multi_line}
 use Rattle.report_usual.specs.Usual.{AreInFront, by_front}
 use Rattle.report_usual.proofs.Exchanges.{event_text, last_word, word_before}
 

@@ -6,9 +6,8 @@ use Rattle.tx_events.specs.declared.record.Rec.{Rec}
 use Rattle.tx_events.specs.declared.record.Rec.TheVariants as records
 use Rattle.report_text.specs.Words.{more, numbers}
 use Rattle.report_text.specs.MemberText.{member_word, member_words}
-use Rattle.report_words.specs.Fits.{FitsId, FitsMember, FitsMulti}
-use Rattle.report_lines.specs.Fits.{FitsRecord}
-use Rattle.report_lines.specs.Texts.{IsLineOf, record_line}
+use Rattle.report_words.specs.Fits.{FitsId, FitsMember, FitsMulti, FitsRecord}
+use Rattle.report_words.specs.Texts.{IsLineOf, record_line}
 use Rattle.report_usual.specs.Usual.{AreInFront}
 use Rattle.report_usual.proofs.Exchanges.{line_of, word_before}
 

@@ -8,9 +8,8 @@ use Rattle.report_text.specs.CommandText.{command_words}
 use Rattle.report_text.specs.ReplyText.{reply_words}
 use Rattle.tx_model.specs.declared.command.Command.{Command}
 use Rattle.tx_model.specs.declared.reply.Reply.{Reply}
-use Rattle.report_words.specs.Fits.{FitsId, FitsReply}
+use Rattle.report_words.specs.Fits.{FitsId, FitsReply, FitsCommand}
 use Rattle.report_words.specs.Replies.{kind_of}
-use Rattle.report_lines.specs.Fits.{FitsCommand}
 
 -- a session's name and the number of its command, and what is behind them
 abbrev pub by_front : List (List ℕ) → By → List ℕ → List ℕ

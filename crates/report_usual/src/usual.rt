@@ -4,11 +4,10 @@ ghost use Rattle.report_text.specs.Words.{more};
 ghost use Rattle.report_text.specs.CommandText.{command_words};
 ghost use Rattle.report_text.specs.ReportText.{command_line};
 ghost use Rattle.tx_model.specs.declared.reply.Reply.TheVariants as replies;
-ghost use Rattle.report_words.specs.Fits.{FitsBy};
+ghost use Rattle.report_words.specs.Fits.{FitsBy, FitsCommand, FitsLine};
 ghost use Rattle.report_words.specs.Replies.{kind_of};
 ghost use Rattle.report_words.specs.declared.reply.Kind.TheVariants as kinds;
-ghost use Rattle.report_lines.specs.Fits.{FitsCommand, FitsLine};
-ghost use Rattle.report_lines.specs.Texts.{IsLineOf};
+ghost use Rattle.report_words.specs.Texts.{IsLineOf};
 ghost use Rattle.report_usual.specs.Usual.{IsExchange, by_front, seen_end};
 
 use crate::lists_told::listed_exchange;

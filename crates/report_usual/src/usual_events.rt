@@ -1,9 +1,8 @@
 //! The commonest lines of events.
 ghost use Rattle.std.specs.Prelude.{◌≡◌, ◌<◌, ◌^◌, [], ◌∷◌, ◌++◌, IfSome, codes};
 ghost use Rattle.std.specs.Fmt.{decimal};
-ghost use Rattle.report_words.specs.Fits.{FitsBy, FitsId};
-ghost use Rattle.report_lines.specs.Fits.{FitsEvent};
-ghost use Rattle.report_lines.specs.Texts.{IsLineOf, event_line};
+ghost use Rattle.report_words.specs.Fits.{FitsBy, FitsId, FitsEvent};
+ghost use Rattle.report_words.specs.Texts.{IsLineOf, event_line};
 ghost use Rattle.report_usual.specs.Usual.{by_front};
 ghost use Rattle.tx_events.specs.Names.{IsName};
 

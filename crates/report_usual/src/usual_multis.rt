@@ -1,9 +1,8 @@
 //! The commonest lines of multixact events.
 ghost use Rattle.std.specs.Prelude.{◌≡◌, ◌<◌, ◌^◌, [], ◌∷◌, ◌++◌, IfOk, IfSome, codes};
 ghost use Rattle.std.specs.Fmt.{decimal};
-ghost use Rattle.report_words.specs.Fits.{FitsBy, FitsMulti};
-ghost use Rattle.report_lines.specs.Fits.{FitsMultiEvent};
-ghost use Rattle.report_lines.specs.Texts.{IsLineOf, multi_line};
+ghost use Rattle.report_words.specs.Fits.{FitsBy, FitsMulti, FitsMultiEvent};
+ghost use Rattle.report_words.specs.Texts.{IsLineOf, multi_line};
 ghost use Rattle.report_usual.specs.Usual.{by_front};
 
 use crate::lists::members_behind;

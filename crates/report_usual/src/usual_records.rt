@@ -1,8 +1,8 @@
 //! The commonest lines of the log: the records of commits and of multixacts.
 ghost use Rattle.std.specs.Prelude.{◌≡◌, ◌++◌, IfOk, IfSome, codes};
 ghost use Rattle.std.specs.Fmt.{decimal};
-ghost use Rattle.report_lines.specs.Fits.{FitsRecord};
-ghost use Rattle.report_lines.specs.Texts.{IsLineOf, record_line};
+ghost use Rattle.report_words.specs.Fits.{FitsRecord};
+ghost use Rattle.report_words.specs.Texts.{IsLineOf, record_line};
 
 use crate::lists::{ids_behind, members_behind};
 use crate::spelled::{behind_piece, id_of, is_end, multi_of, next_number, spelled_number};

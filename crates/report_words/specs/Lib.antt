@@ -4,3 +4,4 @@ pub mod Members
 pub mod Refusals
 pub mod Replies
 pub mod Fits
+pub mod Texts

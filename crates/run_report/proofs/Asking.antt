@@ -16,7 +16,8 @@ use Rattle.session_lang.specs.Plain.{IsDump, IsInRange, IsItem}
 use Rattle.session_lang.specs.Rounds.{asked_from, asked_of, asked_round, round_of, rounds_from, sessions_in}
 use Rattle.session_lang.proofs.Asking.{rounds_asked}
 use Rattle.session_lang.proofs.SeenLemmas.{is_in}
-use Rattle.report_lines.specs.Fits.{FitsCommand, FitsDump}
+use Rattle.report_words.specs.Fits.{FitsCommand}
+use Rattle.report_lines.specs.Fits.{FitsDump}
 use Rattle.run_report.proofs.Turns.{sessions_of}
 use Rattle.run_report.proofs.Sizes.{AskedFits, TurnFits, sessions_asked}
 

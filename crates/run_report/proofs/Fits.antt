@@ -40,9 +40,8 @@ use Rattle.tx_model.specs.Stance.{Stance, lacking, top_level}
 use Rattle.tx_events.specs.Names.{IsName}
 use Rattle.life_law.specs.Facts.{Facts}
 use Rattle.life_law.specs.Replies.{IsBank, IsLawfulReply}
-use Rattle.report_words.specs.Fits.{FitsBy, FitsId, FitsLock, FitsMulti, FitsPair, FitsReply, FitsSnap}
+use Rattle.report_words.specs.Fits.{FitsBy, FitsId, FitsLock, FitsMulti, FitsPair, FitsReply, FitsSnap, FitsCommand, FitsEvent, FitsMultiEvent}
 use Rattle.report_words.specs.Replies.{kind_of}
-use Rattle.report_lines.specs.Fits.{FitsCommand, FitsEvent, FitsMultiEvent}
 use Rattle.run_report.proofs.Ids.{AnnouncesFit, IdsFit, all_ids_fit, announced_fits, next_fits, oldest_fits, oldest_xmin_fits, snap_fits, stop_fits}
 
 -- ---- replies

@@ -38,8 +38,8 @@ use Rattle.life_law.specs.MultiStanding as standing
 use Rattle.life_law.specs.MultiStanding.{unfinished, unfinished_from}
 use Rattle.life_law.specs.Pending.{pending, pending_from}
 use Rattle.session_lang.proofs.SeenLemmas.{is_in, is_in_seen, seen-append}
-use Rattle.report_words.specs.Fits.{AreNames, FitsCheckpointRefusal, FitsCheckpointReply, FitsDumpReply, IsPending}
-use Rattle.report_lines.specs.Fits.{FitsCommand, FitsDump}
+use Rattle.report_words.specs.Fits.{AreNames, FitsCheckpointRefusal, FitsCheckpointReply, FitsDumpReply, IsPending, FitsCommand}
+use Rattle.report_lines.specs.Fits.{FitsDump}
 use Rattle.report_read.specs.declared.told.Told.{Told}
 use Rattle.run_report.proofs.Fits.{CanTell, LineFits, bank_fits, own_named, reply_fits}
 use Rattle.run_report.proofs.MultiFits.{GoodMultis, own_multis_named}

@@ -28,8 +28,7 @@ use Rattle.tx_model.specs.declared.reply.Reply.TheVariants as replies
 use Rattle.tx_events.specs.declared.refusal.Refusal.TheVariants as refusals
 use Rattle.tx_model.specs.Replies.{RoundSpan}
 use Rattle.life_law.specs.MultiLines.{AreGiven, ArePinned, ArePinnedNear, AreRaised, HasMultiEvents, IsMemberOf, may_have_given}
-use Rattle.report_words.specs.Fits.{FitsCounters, FitsMember, FitsMulti, FitsPair}
-use Rattle.report_lines.specs.Fits.{FitsCommand}
+use Rattle.report_words.specs.Fits.{FitsCounters, FitsMember, FitsMulti, FitsPair, FitsCommand}
 use Rattle.run_report.proofs.Ids.{full_fits, least_has, next_small}
 
 -- ---- numbers

@@ -25,11 +25,11 @@ use Rattle.tx_events.specs.Names.{IsName}
 use Rattle.tx_events.specs.Multis.{multi_by}
 use Rattle.report_text.specs.Words.{name_at}
 use Rattle.tx_model.specs.declared.reply.Reply.TheVariants as replies
-use Rattle.report_words.specs.Fits.{AreNames, FitsCheckpointReply, FitsDumpReply, FitsReply}
+use Rattle.report_words.specs.Fits.{AreNames, FitsCheckpointReply, FitsDumpReply, FitsReply, FitsCommand, FitsEvent, FitsLine, FitsMultiEvent}
 use Rattle.report_words.specs.Reading.{name_place}
 use Rattle.report_words.specs.Replies.{kind_of}
 use Rattle.report_words.proofs.Places.{place_again}
-use Rattle.report_lines.specs.Fits.{FitsCommand, FitsDump, FitsEvent, FitsLine, FitsMultiEvent}
+use Rattle.report_lines.specs.Fits.{FitsDump}
 use Rattle.report_read.specs.Item.{Item}
 use Rattle.report_read.specs.Item as items
 use Rattle.report_read.specs.Grammar.{AreNamed, Follows, IsNamed, after, begins_step, is_round, may_speak, note, noted, session_of, steps_told}

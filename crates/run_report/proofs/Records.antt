@@ -17,8 +17,7 @@ use Rattle.tx_events.proofs.Membership.{all_at, contains_has, has_contains, plac
 use Rattle.tx_events.specs.declared.multi.MultiEvent.{MultiEvent}
 use Rattle.tx_events.specs.declared.multi.MultiEvent.TheVariants as multis
 use Rattle.life_law.specs.LifeLog.{IsAnnounced, IsAnnouncedMulti, IsLogOf, IsRecordOf, IsTransaction, counters_behind}
-use Rattle.report_words.specs.Fits.{FitsCounters, FitsId, FitsMulti}
-use Rattle.report_lines.specs.Fits.{FitsRecord}
+use Rattle.report_words.specs.Fits.{FitsCounters, FitsId, FitsMulti, FitsRecord}
 use Rattle.run_report.proofs.Fits.{oldest_after}
 use Rattle.run_report.proofs.MultiFits.{GoodMultis, MadeFits, MultiNamed, free_fits, made_fit, next_made_fits, oldest_multi_fits, oldest_offset_fits}
 use Rattle.run_report.proofs.Ids.{AnnouncesFit, next_fits, oldest_fits, open_fits}

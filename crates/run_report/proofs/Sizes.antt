@@ -9,7 +9,8 @@ use Rattle.tx_model.specs.Asked as asked
 use Rattle.tx_model.specs.Asked.{Asked, rounds_in}
 use Rattle.tx_model.specs.Rounds.{AreSteps, lines_in}
 use Rattle.tx_model.specs.Lines.{turn_of}
-use Rattle.report_lines.specs.Fits.{FitsCommand, FitsDump}
+use Rattle.report_words.specs.Fits.{FitsCommand}
+use Rattle.report_lines.specs.Fits.{FitsDump}
 use Rattle.run_report.proofs.Turns.{grouped_short, sessions_of}
 
 -- what a script says of a command

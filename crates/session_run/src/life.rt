@@ -43,8 +43,8 @@ fn close_run<K: LineKeeper, L: LogDisk + Drop, P: PageDisk + Drop>(
 ) -> ClosedLife<L, P>
     requires host { IsHost life.hall life.host }
     requires all { HoldsAllBut life.host [] }
-    ensures ran { (begun : OpenLife L P) (c : Clustered) (b : Beginning) (faults : List ℕ) (mounted : Volumes L P)
-        (sessions : List Called) (names : List (List ℕ)) (its : List Item) (first : K)
+    ensures ran { (begun : OpenLife L P L.LogDisk P.PageDisk) (c : Clustered) (b : Beginning) (faults : List ℕ)
+        (mounted : Volumes L P) (sessions : List Called) (names : List (List ℕ)) (its : List Item) (first : K)
         → begun.hall ≡ life.hall → IsOpened c b faults mounted begun → IsTakenPart (length names) its
         → HasRun K.LineKeeper life.hall life.host sessions names (asked_of its) first _kept.now
         → HasRunLife L.LogDisk P.PageDisk K.LineKeeper c b mounted names its first _kept.now result }

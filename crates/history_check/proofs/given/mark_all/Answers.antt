@@ -14,13 +14,13 @@ use Rattle.history_check.proofs.given.mark_all.Goals as goal
 pub loop-slot-init : goal.loop-slot-init
 loop-slot-init c = mark_none c.args.items.now c.args.place
 
-pub mark_open-requires : goal.mark_open-requires
-mark_open-requires c = subst Ascending (sym (ap given_ids c.loop-slot.invariant ∙ ids_placed _ _ _)) c.requires
+pub mark_open-near-requires : goal.mark_open-near-requires
+mark_open-near-requires c = subst Ascending (sym (ap given_ids c.loop-slot.invariant ∙ ids_placed _ _ _)) c.requires
 
 pub loop-slot-preserved : goal.loop-slot-preserved
 loop-slot-preserved c =
     let low : c.loop-slot.slot-index < length c.args.slots.now = omega arith in
-    c.mark_open.ensures
+    c.mark_open-near.ensures
     ∙ ap (map (with_place (opened_ids (opens (c.slot-item.result ∷ []))) c.args.place)) c.loop-slot.invariant
     ∙ slot_marks c.slot-item.result c.args.items.now (opened_ids (opens (take c.loop-slot.slot-index c.args.slots.now))) c.args.place
     ∙ ap (λ l. map (with_place l c.args.place) c.args.items.now)

@@ -10,4 +10,5 @@ returns-then-next-len c =
     search_ends c.args.table.now.base c.args.table.now.events c.args.session c.args.id c.args.slots.now c.events-legal.ensures.legal c.requires.opened c.loop-next.found.items c.loop-next.next c.loop-next.invariant (omega arith)
 
 pub loop-next-preserved : goal.loop-next-preserved
-loop-next-preserved c = ?
+loop-next-preserved c =
+    search_goes_on c.args.table.now.base c.args.table.now.events c.args.session c.args.id c.args.slots.now c.events-legal.ensures.legal c.requires.opened c.loop-next.found.items c.push_children.new.found.items c.loop-next.next c.index.result.now _ c.loop-next.invariant (omega arith) c.index.ensures c.in_ok-push_children.ensures

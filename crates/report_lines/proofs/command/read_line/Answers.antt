@@ -3,7 +3,7 @@ use Rattle.std.proofs.lemmas.List.{take_rest}
 use Rattle.tx_model.specs.declared.report.Line.{Line}
 use Rattle.report_text.specs.ReportText.{command_line}
 use Rattle.report_lines.specs.Commands.{line_at}
-use Rattle.report_lines.specs.Fits.{FitsLine}
+use Rattle.report_words.specs.Fits.{FitsLine}
 use Rattle.report_lines.proofs.AgainLines.{command_line_again}
 use Rattle.report_words.specs.Words.{behind}
 use Rattle.report_lines.proofs.Compared.{only_err, only_ok, only_no}

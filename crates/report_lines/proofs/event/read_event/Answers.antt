@@ -2,8 +2,8 @@ use Rattle.std.proofs.Common.{drop, take, length, ◌-◌}
 use Rattle.std.proofs.lemmas.List.{take_rest}
 use Rattle.tx_events.specs.declared.event.Event.{Event}
 use Rattle.report_lines.specs.Events.{event_at}
-use Rattle.report_lines.specs.Fits.{FitsEvent}
-use Rattle.report_lines.specs.Texts.{event_line}
+use Rattle.report_words.specs.Fits.{FitsEvent}
+use Rattle.report_words.specs.Texts.{event_line}
 use Rattle.report_lines.proofs.AgainEvents.{event_line_again}
 use Rattle.report_words.specs.Words.{behind}
 use Rattle.report_lines.proofs.Compared.{only_err, only_ok, only_no}

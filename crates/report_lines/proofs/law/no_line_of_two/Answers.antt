@@ -3,8 +3,10 @@ use Rattle.report_lines.specs.Commands.{line_at}
 use Rattle.report_lines.specs.Events.{event_at, multi_event_at}
 use Rattle.report_lines.specs.Records.{record_line_at, start_at, log_at}
 use Rattle.report_lines.specs.Steps.{step_at}
-use Rattle.report_lines.specs.Texts.{event_line, log_line, multi_line, record_line, start_line}
-use Rattle.report_lines.specs.Fits.{FitsEvent, FitsLine, FitsMultiEvent, FitsRecord, FitsStart, FitsLog, FitsStep}
+use Rattle.report_words.specs.Texts.{event_line, multi_line, record_line}
+use Rattle.report_lines.specs.Texts.{log_line, start_line}
+use Rattle.report_words.specs.Fits.{FitsEvent, FitsLine, FitsMultiEvent, FitsRecord}
+use Rattle.report_lines.specs.Fits.{FitsStart, FitsLog, FitsStep}
 use Rattle.report_lines.proofs.AgainLines.{command_line_again, record_line_again, start_line_again, log_line_again}
 use Rattle.report_lines.proofs.AgainEvents.{event_line_again, multi_line_again}
 use Rattle.report_lines.proofs.AgainSteps.{step_line_again}

@@ -2,8 +2,8 @@ use Rattle.std.proofs.Common.{drop, take, length, ◌-◌}
 use Rattle.std.proofs.lemmas.List.{take_rest}
 use Rattle.tx_events.specs.declared.multi.MultiEvent.{MultiEvent}
 use Rattle.report_lines.specs.Events.{multi_event_at}
-use Rattle.report_lines.specs.Fits.{FitsMultiEvent}
-use Rattle.report_lines.specs.Texts.{multi_line}
+use Rattle.report_words.specs.Fits.{FitsMultiEvent}
+use Rattle.report_words.specs.Texts.{multi_line}
 use Rattle.report_lines.proofs.AgainEvents.{multi_line_again}
 use Rattle.report_words.specs.Words.{behind}
 use Rattle.report_lines.proofs.Compared.{only_err, only_ok, only_no}

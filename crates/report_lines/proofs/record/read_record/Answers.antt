@@ -2,8 +2,8 @@ use Rattle.std.proofs.Common.{drop, take, length, ◌-◌, arith}
 use Rattle.std.proofs.lemmas.List.{take_rest}
 use Rattle.tx_events.specs.declared.record.Rec.{Rec}
 use Rattle.report_lines.specs.Records.{record_line_at}
-use Rattle.report_lines.specs.Fits.{FitsRecord}
-use Rattle.report_lines.specs.Texts.{record_line}
+use Rattle.report_words.specs.Fits.{FitsRecord}
+use Rattle.report_words.specs.Texts.{record_line}
 use Rattle.report_lines.proofs.AgainLines.{record_line_again}
 use Rattle.report_words.specs.Words.{behind}
 use Rattle.report_lines.proofs.Compared.{only_err, only_ok, only_no}

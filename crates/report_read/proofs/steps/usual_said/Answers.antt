@@ -7,8 +7,9 @@ use Rattle.report_read.proofs.steps.usual_said.Goals as goal
 pub returns-then-may_speak-clause-rule : goal.returns-then-may_speak-clause-rule
 returns-then-may_speak-clause-rule c =
     let ns = c.args.told.now.names in
-    let f = c.in_ok-said.ensures.fit in
-    let s = c.in_ok-said.said.by.session in (
+    let told = (rw c.in-Some.is at c.in_ok-said.ensures) in
+    let f = told.fit in
+    let s = c.in-Some.said.by.session in (
       record {
         within = f.by.session;
         noted = place_noted ns (name_at ns s) s (place_again ns s c.requires.are.distinct f.by.session);
@@ -19,3 +20,6 @@ returns-then-may_speak-clause-rule c =
       c.is_next.ensures.0 c.if-is_next.true,
       sym c.may_speak.ensures ∙ c.if-may_speak.true,
     )
+
+pub returns-then-may_speak-clause-text : goal.returns-then-may_speak-clause-text
+returns-then-may_speak-clause-text c = let told = (rw c.in-Some.is at c.in_ok-said.ensures) in told.text

@@ -1,13 +1,13 @@
 use Rattle.std.proofs.Common.{refl, sym, ap, ◌∙◌, subst, drop, arith}
 use Rattle.std.proofs.lemmas.List.{take_rest}
 use Rattle.report_text.specs.ReportText.{end_text}
-use Rattle.report_lines.specs.Texts.{IsLineOf, record_line}
+use Rattle.report_words.specs.Texts.{IsLineOf, record_line}
 use Rattle.report_read.specs.Item as items
 use Rattle.report_read.specs.Grammar.{may_stand}
 use Rattle.report_read.specs.declared.told.Told.{Told}
 use Rattle.tx_events.specs.declared.record.Rec.{Rec}
 use Rattle.tx_model.specs.declared.report.How.{How}
-use Rattle.report_lines.specs.Fits.{FitsRecord}
+use Rattle.report_words.specs.Fits.{FitsRecord}
 use Rattle.report_read.specs.declared.told.Stage.TheVariants as stages
 use Rattle.report_read.proofs.Standing.{if_err, is_text, none_log, none_some, not_text, plain_taken, refuse, unread_none}
 use Rattle.report_read.proofs.take.take_record.Goals as goal

@@ -1,8 +1,8 @@
 use Rattle.std.proofs.Common.{◌++◌, codes, subst, sym}
 use Rattle.tx_events.specs.declared.event.By.{By}
 use Rattle.tx_events.specs.declared.event.Event.TheVariants as events
-use Rattle.report_lines.specs.Fits.{FitsEvent}
-use Rattle.report_lines.specs.Texts.{IsLineOf, event_line}
+use Rattle.report_words.specs.Fits.{FitsEvent}
+use Rattle.report_words.specs.Texts.{IsLineOf, event_line}
 use Rattle.report_usual.proofs.Exchanges.{is_taken}
 use Rattle.report_usual.proofs.usual_events.taken.Goals as goal
 

@@ -9,4 +9,3 @@ mod Finding
 pub mod Sections
 pub mod Through
 pub mod MultisThrough
-pub mod LogFound

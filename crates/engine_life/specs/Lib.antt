@@ -1,7 +1,5 @@
 pub mod Refusals
 pub mod Lives
-pub mod Left
-pub mod RunEnds
 pub mod Reopening
 pub mod NextLives
 pub mod FirstLives

@@ -133,7 +133,3 @@ life_told from base committed recorded events multis log = record {
   flushed = log_flushed log;
   end = log_end log;
 }
-
--- the life that started so and left this
-abbrev pub life_over : {L P : Type 0} → {l : logs.Ghosts L} → Start → ClosedLife L P l → Life
-life_over start closed = life_told (start.from - 1) start.base start.committed start.recorded closed.events closed.multis.value.events closed.log

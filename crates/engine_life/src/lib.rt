@@ -9,21 +9,17 @@ mod ending;
 /// contracts are the laws.
 pub mod fits;
 pub mod laws;
-mod left;
 mod life;
 mod old_life;
 mod old_parts;
 mod opened;
 mod refusal;
-mod run_ends;
 mod sessions;
 
 pub use closed::{ClosedLife, close_life};
 pub use ending::{EndText, end_life};
-pub use left::{Ended, FittedLog, crash_of, log_left};
 pub use life::{Aside, OpenLife};
 pub use old_parts::open_old;
 pub use opened::open_life;
 pub use refusal::NoLife;
-pub use run_ends::{Ending, Stopped, ended_by, unopened};
 pub use sessions::new_sessions;

@@ -4,7 +4,6 @@ pub mod Ranges
 pub mod Sessions
 pub mod RoundSizes
 pub mod Steps
-pub mod RoundParts
 pub mod Levels
 pub mod Whole
 pub mod GenWords

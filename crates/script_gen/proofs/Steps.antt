@@ -8,7 +8,6 @@ use Rattle.session_lang.specs.declared.script.Item.TheVariants as items
 use Rattle.script_gen.specs.Choices.{aborted_of, behind_count, behind_savepoints, behind_transaction, choices, drawn_from, savepoints, seen_of, undone_of}
 use Rattle.script_gen.specs.Draws.{next_state, state_behind}
 use Rattle.script_gen.specs.Generated.{end_command, is_round_first, items_from, look_commands, run_by, savepoint_commands, session_of, transaction, transaction_items}
-use Rattle.script_gen.specs.Rounds.{commands_of}
 use Rattle.script_gen.specs.Writing.{Adds}
 use Rattle.script_gen.specs.declared.writer.Writer.{Writer}
 
@@ -64,27 +63,30 @@ transactions_end i n now all e f = sym (append-nil now.items) ∙ ap (λ n. now.
 
 -- ---- one transaction, part by part
 
-flat : (b s l e : List Item) (x y : Item) → ((((b ++ x ∷ []) ++ y ∷ []) ++ s) ++ l) ++ e ≡ b ++ (x ∷ y ∷ (s ++ (l ++ e)))
-flat b s l e x y = simp append_assoc
+flat : (b r s l e : List Item) (x y : Item) → (((((b ++ r) ++ x ∷ []) ++ y ∷ []) ++ s) ++ l) ++ e ≡ b ++ (r ++ (x ∷ y ∷ (s ++ (l ++ e))))
+flat b r s l e x y = simp append_assoc
 
-pub commands_written : (i k count : ℕ) (begun w2 w3 w4 w5 w6 w7 : Writer) → k ≡ session_of i
-    → Adds begun w2 begun.draws.state (run_by k (commands.Begin ∷ []))
+pub transaction_written : (i k count : ℕ) (begun w1 w2 w3 w4 w5 w6 w7 : Writer) → k ≡ session_of i
+    → Adds begun w1 begun.draws.state (cond (is_round_first i) (items.Round ∷ []) [])
+    → Adds w1 w2 w1.draws.state (run_by k (commands.Begin ∷ []))
     → Adds w2 w3 w2.draws.state (run_by k (commands.Write ∷ []))
     → count ≡ savepoints i w3.draws.state → w4.draws.state ≡ behind_count i w3.draws.state → w4.items ≡ w3.items
     → Adds w4 w5 (state_behind count w4.draws.state) (run_by k (flat_map savepoint_commands (undone_of count w4.draws.state)))
     → Adds w5 w6 (next_state w5.draws.state) (run_by k (look_commands (seen_of i w5.draws.state)))
     → Adds w6 w7 (next_state w6.draws.state) (run_by k (end_command (aborted_of w6.draws.state) ∷ []))
-    → Adds begun w7 (behind_transaction i begun.draws.state) (commands_of i begun.draws.state)
-commands_written i k count begun w2 w3 w4 w5 w6 w7 own p2 p3 n d4 same p5 p6 p7 =
+    → Adds begun w7 (behind_transaction i begun.draws.state) (transaction_items i (choices i begun.draws.state))
+transaction_written i k count begun w1 w2 w3 w4 w5 w6 w7 own p1 p2 p3 n d4 same p5 p6 p7 =
     let s = begun.draws.state in
     let c = choices i s in
-    let a3 : w3.draws.state ≡ s = p3.state_is ∙ p2.state_is in
+    let a2 : w2.draws.state ≡ s = p2.state_is ∙ p1.state_is in
+    let a3 : w3.draws.state ≡ s = p3.state_is ∙ a2 in
     let a4 : w4.draws.state ≡ behind_count i s = d4 ∙ ap (behind_count i) a3 in
     let m : count ≡ savepoints i s = n ∙ ap (savepoints i) a3 in
     let a5 : w5.draws.state ≡ behind_savepoints i s =
     p5.state_is ∙ ap (λ n. state_behind n w4.draws.state) m ∙ ap (state_behind (savepoints i s)) a4 in
     let a6 : w6.draws.state ≡ next_state (behind_savepoints i s) = p6.state_is ∙ ap next_state a5 in
     let a7 : w7.draws.state ≡ behind_transaction i s = p7.state_is ∙ ap next_state a6 in
+    let first = cond (is_round_first i) (items.Round ∷ []) [] in
     let saved = run_by k (flat_map savepoint_commands c.undone) in
     let looked = run_by k (look_commands c.seen) in
     let ended = run_by k (end_command c.aborted ∷ []) in
@@ -99,24 +101,10 @@ commands_written i k count begun w2 w3 w4 w5 w6 w7 own p2 p3 n d4 same p5 p6 p7 
       state_is = a7;
       items_are =
           i7 ∙ ap (λ t. t ++ ended) (i6 ∙ ap (λ t. t ++ looked) (i5 ∙ ap (λ t. t ++ saved) (same ∙ p3.items_are
-          ∙ ap (λ t. t ++ items.Run k commands.Write ∷ []) p2.items_are)))
-          ∙ flat begun.items saved looked ended (items.Run k commands.Begin) (items.Run k commands.Write)
-          ∙ ap (λ t. begun.items ++ t) (sym joined)
-          ∙ ap (λ k. begun.items ++ run_by k (transaction c)) own;
-    }
-
--- behind the end of a round, where one ends
-pub transaction_written : (i : ℕ) (begun w1 w2 : Writer)
-    → Adds begun w1 begun.draws.state (cond (is_round_first i) (items.Round ∷ []) [])
-    → Adds w1 w2 (behind_transaction i w1.draws.state) (commands_of i w1.draws.state)
-    → Adds begun w2 (behind_transaction i begun.draws.state) (transaction_items i (choices i begun.draws.state))
-transaction_written i begun w1 w2 p1 p2 =
-    let s = begun.draws.state in
-    record {
-      state_is = p2.state_is ∙ ap (behind_transaction i) p1.state_is;
-      items_are =
-          p2.items_are ∙ ap (λ t. w1.items ++ commands_of i t) p1.state_is ∙ ap (λ t. t ++ commands_of i s) p1.items_are
-          ∙ append_assoc begun.items (cond (is_round_first i) (items.Round ∷ []) []) (commands_of i s);
+          ∙ ap (λ t. t ++ items.Run k commands.Write ∷ []) (p2.items_are ∙ ap (λ t. t ++ items.Run k commands.Begin ∷ []) p1.items_are))))
+          ∙ flat begun.items first saved looked ended (items.Run k commands.Begin) (items.Run k commands.Write)
+          ∙ ap (λ t. begun.items ++ (first ++ t)) (sym joined)
+          ∙ ap (λ k. begun.items ++ (first ++ run_by k (transaction c))) own;
     }
 
 -- what follows from what a call ensures where it went well

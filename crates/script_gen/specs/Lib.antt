@@ -1,7 +1,6 @@
 pub mod Draws
 pub mod Choices
 pub mod Generated
-pub mod Rounds
 pub mod Writing
 pub mod Counts
 pub mod Laws

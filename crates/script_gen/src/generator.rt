@@ -12,7 +12,7 @@ use tx_model::{Memory, Name, NameList};
 const NAMES: [u8; 4] = *b"abcd";
 
 /// The names of as many of the sessions as have a transaction.
-pub fn session_names(alloc: Global, size: u32) -> Result<NameList, Memory>
+fn session_names(alloc: Global, size: u32) -> Result<NameList, Memory>
     ensures { IfOk result (λ names. names ≡ session_names size) }
 {
     let mut names = NameList::new(alloc);

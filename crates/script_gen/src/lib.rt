@@ -5,14 +5,12 @@
 mod draws;
 mod generator;
 pub mod laws;
-mod rounds;
 mod summary;
 mod task;
 mod words;
 mod writer;
 
 pub use generator::generate;
-pub use rounds::{DrawnRounds, DrawnScript, draw_script};
 pub use summary::Summary;
 pub use task::{Task, task_of};
 pub use words::{Asked, gen_words};

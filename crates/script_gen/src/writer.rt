@@ -7,7 +7,6 @@ ghost use Rattle.session_lang.specs.declared.script.Item.TheVariants as items;
 ghost use Rattle.script_gen.specs.Choices.{aborted_of, behind_count, behind_transaction, choices, savepoints, seen_of, undone_of};
 ghost use Rattle.script_gen.specs.Draws.{next_state, state_behind};
 ghost use Rattle.script_gen.specs.Generated.{end_command, is_round_first, look_commands, run_by, savepoint_commands, snapshot, transaction_items};
-ghost use Rattle.script_gen.specs.Rounds.{commands_of};
 ghost use Rattle.script_gen.specs.Writing.{Adds};
 
 use crate::draws::Draws;
@@ -20,7 +19,7 @@ use tx_model::Memory;
 const SESSIONS: u32 = 4;
 
 /// The transactions of a round.
-pub const ROUND: u32 = 64;
+const ROUND: u32 = 64;
 
 /// The savepoints of each sixteenth transaction.
 const DEEP: u32 = 120;
@@ -143,12 +142,13 @@ impl Writer {
         self.put_plain(session, end)
     }
 
-    /// Adds the commands of the transaction of this number.
-    pub fn put_commands(&mut self, number: u32) -> Result<(), Memory>
+    /// Adds the transaction of this number.
+    pub fn put_transaction(&mut self, number: u32) -> Result<(), Memory>
         requires { number + 1 < 2 ^ 32 }
         ensures { OnOk result (Adds self.old self.new (behind_transaction number self.old.draws.state)
-            (commands_of number self.old.draws.state)) }
+            (transaction_items number (choices number self.old.draws.state))) }
     {
+        self.put_round_end(number)?;
         let session = (number % SESSIONS) as u8;
         self.put_plain(session, PlainCommand::Begin)?;
         self.put_plain(session, PlainCommand::Write)?;
@@ -156,15 +156,5 @@ impl Writer {
         self.put_savepoints(session, count)?;
         self.put_look(session, number)?;
         self.put_end(session)
-    }
-
-    /// Adds the transaction of this number, behind the end of a round where that ends before it.
-    pub fn put_transaction(&mut self, number: u32) -> Result<(), Memory>
-        requires { number + 1 < 2 ^ 32 }
-        ensures { OnOk result (Adds self.old self.new (behind_transaction number self.old.draws.state)
-            (transaction_items number (choices number self.old.draws.state))) }
-    {
-        self.put_round_end(number)?;
-        self.put_commands(number)
     }
 }

@@ -15,12 +15,11 @@ use Rattle.session_lang.specs.Rounds.{asked_of}
 use Rattle.run_law.specs.Lives.{AreLivesOf, LifePart, parts_of}
 use Rattle.engine_life.specs.Lives.{FitsLog}
 use Rattle.session_run.specs.Again.{RunsGoOn}
-use Rattle.engine_life.specs.Left.{FitsLife}
+use Rattle.session_run.specs.Fits.{FitsLife}
 use Rattle.session_run.specs.Leaves.{LeavesVolumes}
 use Rattle.session_run.specs.Lives.{ComesTo, HasFallen}
 use Rattle.session_run.specs.Starts.{BeginsOver}
-use Rattle.engine_life.proofs.LogFound.{found_where}
-use Rattle.session_run.proofs.GoingOn.{from_last, same_banks}
+use Rattle.session_run.proofs.GoingOn.{found_where, from_last, same_banks}
 
 -- the last of the lives is lawful
 last_lawful : (tells : Bool) (banks : ℕ) (parts : List LifePart) (before : List LifeReport) (r : LifeReport) → AreLivesOf tells banks parts (before ++ r ∷ []) → (part : LifePart) × IsLawfulLife tells banks (asked_of part.items) r

@@ -21,17 +21,16 @@ use Rattle.script_source.specs.Sources.{HasScript, IsNoScriptOf}
 use Rattle.recoverable.specs.Fit.{KeptLog}
 use Rattle.engine_life.specs.declared.refusal.NoLife.{NoLife}
 use Rattle.engine_life.specs.declared.refusal.NoLife.TheVariants as no_lives
-use Rattle.engine_life.specs.declared.run_ends.Ending.{Ending}
-use Rattle.engine_life.specs.declared.run_ends.Ending.TheVariants as endings
+use Rattle.session_run.specs.declared.ending.Ending.{Ending}
+use Rattle.session_run.specs.declared.ending.Ending.TheVariants as endings
 use Rattle.script_gen.specs.declared.task.Task.{Task}
 use Rattle.script_gen.specs.declared.task.Task.TheVariants as tasks
 use Rattle.session_run.specs.Leaves.{LeavesVolumes}
 use Rattle.session_run.specs.Runs.{IsTakenAlone}
-use Rattle.engine_life.specs.RunEnds.{TellsRefusal, TellsStop}
-use Rattle.session_run.specs.Tool.{Ends, HasWritten, IsScriptOf, IsSized, IsTask, IsUnread, IsUnrun, WritesLast, unread_by}
+use Rattle.session_run.specs.Tool.{Ends, HasWritten, IsScriptOf, IsSized, IsTask, IsUnread, IsUnrun, TellsRefusal, TellsStop, WritesLast, unread_by}
 use Rattle.run_law.specs.Lives.{RunStart, new_start, text_so_far}
-use Rattle.engine_life.specs.declared.run_ends.Stopped.{Stopped}
-use Rattle.engine_life.specs.declared.run_ends.Stopped.TheVariants as stops
+use Rattle.session_run.specs.declared.stop.Stopped.{Stopped}
+use Rattle.session_run.specs.declared.stop.Stopped.TheVariants as stops
 use Rattle.session_run.specs.Starts.{BeginsOver}
 use Rattle.session_run.specs.Stops.{IsStopped, IsUnopenedFirst}
 use Rattle.session_run.proofs.LivesRun.{none_before, then_memory}

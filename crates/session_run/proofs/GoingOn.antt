@@ -31,22 +31,29 @@ use Rattle.engine_life.specs.declared.closed.ClosedLife.{ClosedLife}
 use Rattle.engine_life.specs.declared.life.OpenLife.{OpenLife}
 use Rattle.engine_life.specs.declared.refusal.NoLife.{NoLife}
 use Rattle.engine_life.specs.declared.refusal.NoLife.TheVariants as no_lives
-use Rattle.engine_life.specs.Lives.{FitsLog, life_over}
+use Rattle.engine_life.specs.Lives.{FitsLog}
 use Rattle.engine_life.specs.FirstLives.{MayBeginOver, MayMount, with_banks}
 use Rattle.engine_life.specs.NextLives.{CrashGoesOn, MayGoOn, StayFit, WhenRefused}
 use Rattle.engine_life.specs.Refusals.{HasRestedVolumes, IsUnopened}
 use Rattle.engine_life.specs.Reopening.{LeavesLog}
 use Rattle.engine_life.proofs.GoingOn.{may_begin}
-use Rattle.engine_life.specs.Left.{EndsWithLife, FitsLife}
+use Rattle.session_run.specs.Fits.{EndsWithLife, FitsLife}
 use Rattle.session_run.specs.Going.{HasGoneOn, IsCrashed, IsPartTold, IsRunning}
 use Rattle.session_run.specs.Lives.{HasFallen}
-use Rattle.session_run.specs.OneLife.{life_of}
+use Rattle.session_run.specs.OneLife.{life_of, life_over}
 use Rattle.session_run.specs.Runs.{cluster_of}
 use Rattle.session_run.specs.Stops.{IsUndamaged, StayFitBehind, StillFit}
+use Rattle.session_run.proofs.Handed.{no_log}
 use Rattle.session_run.proofs.Opening.{opened_so}
 use Rattle.session_run.proofs.Running.{comes_push, push_some}
 
 -- ---- the log that a life leaves
+
+-- a log is found where there is one, if the volumes tell of it
+pub found_where : (a b : Bool) (F : KeptLog → Type 0) → (IsTrue a → IsTrue b → (kept : KeptLog) × F kept) → (kept : KeptLog) × (IsTrue a → IsTrue b → F kept)
+found_where true true F f = let k = f refl refl in (k.0, λ x y. k.1)
+found_where true false F f = (no_log, λ x y. absurd (false≢true y))
+found_where false b F f = (no_log, λ x y. absurd (false≢true x))
 
 -- the life that started so is the one that began so
 pub life_over_is : {L P : Type 0} {l : logs.Ghosts L} (c : Cluster) (b : Beginning) (faults : List ℕ) (start : Start) (closed : ClosedLife L P l) → start ≡ life_from c b faults → life_over start closed ≡ life_of c b closed

@@ -25,6 +25,5 @@ mod Running
 mod GoingOn
 mod LivesRun
 mod Counted
-mod DrawnSteps
 mod Again
 mod Alone

@@ -16,7 +16,7 @@ use Rattle.engine_host.specs.Opening.{Beginning, life_from}
 use Rattle.engine_life.specs.declared.closed.ClosedLife.{ClosedLife}
 use Rattle.engine_life.specs.Lives.{EndFit}
 use Rattle.session_run.specs.OneLife.{life_of}
-use Rattle.engine_life.specs.Left.{FitLife}
+use Rattle.session_run.specs.Fits.{FitLife}
 
 -- A log that follows the life's list ends with the life: what stands before the list's records gave the life's begin.
 pub life_fits : {L P : Type 0} (l : logs.Ghosts L) (p : disks.Ghosts P) (start : Start) (lists : List (List Entry)) (c : Cluster) (b : Beginning) (faults : List ℕ) (closed : ClosedLife L P l) (volumes : Volumes L P)

@@ -25,8 +25,8 @@ use Rattle.recoverable.specs.Fit.{KeptLog}
 use Rattle.engine_life.specs.declared.life.OpenLife.{OpenLife}
 use Rattle.engine_life.specs.declared.refusal.NoLife.{NoLife}
 use Rattle.engine_life.specs.declared.refusal.NoLife.TheVariants as no_lives
-use Rattle.engine_life.specs.declared.run_ends.Stopped.{Stopped}
-use Rattle.engine_life.specs.declared.run_ends.Stopped.TheVariants as stops
+use Rattle.session_run.specs.declared.stop.Stopped.{Stopped}
+use Rattle.session_run.specs.declared.stop.Stopped.TheVariants as stops
 use Rattle.session_run.specs.Going.{IsCrashed, IsPartTold, IsRunning, PartStopped, part_of}
 use Rattle.session_run.specs.Leaves.{HasLeftLast, HaveLeft, LeavesVolumes}
 use Rattle.session_run.specs.Lives.{ComesTo, HasFallen}

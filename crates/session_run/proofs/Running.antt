@@ -32,8 +32,8 @@ use Rattle.session_run.specs.Parts.{report_of}
 use Rattle.session_run.specs.Records.{BankHolds}
 use Rattle.script_rounds.specs.declared.life_text.LifeText.{LifeText}
 use Rattle.session_run.specs.declared.run.Lived.{Lived}
-use Rattle.engine_life.specs.declared.run_ends.Stopped.{Stopped}
-use Rattle.engine_life.specs.declared.run_ends.Stopped.TheVariants as stops
+use Rattle.session_run.specs.declared.stop.Stopped.{Stopped}
+use Rattle.session_run.specs.declared.stop.Stopped.TheVariants as stops
 use Rattle.session_run.specs.Going.{HasRunPart, HasRunPartOf, IsPartTold, IsRunning, IsToldLife, IsWritten, StopsPart, TellsPart, part_of}
 use Rattle.session_run.specs.Leaves.{LeavesVolumes}
 use Rattle.session_run.specs.Lives.{ComesTo, HasEndedOn, HasFallen}

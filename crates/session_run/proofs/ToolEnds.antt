@@ -17,14 +17,13 @@ use Rattle.engine_life.specs.declared.refusal.NoLife.{NoLife}
 use Rattle.engine_life.specs.declared.refusal.NoLife.TheVariants as no_lives
 use Rattle.engine_life.specs.Refusals.{IsOfVolumes}
 use Rattle.tx_io.specs.Causes.{Rose}
-use Rattle.engine_life.specs.declared.run_ends.Ending.{Ending}
-use Rattle.engine_life.specs.declared.run_ends.Ending.TheVariants as endings
+use Rattle.session_run.specs.declared.ending.Ending.{Ending}
+use Rattle.session_run.specs.declared.ending.Ending.TheVariants as endings
 use Rattle.script_gen.specs.declared.task.Task.{Task}
 use Rattle.session_run.specs.Leaves.{LeavesVolumes}
-use Rattle.engine_life.specs.RunEnds.{TellsRefusal, TellsStop, damage_text, status_of, text_of}
-use Rattle.session_run.specs.Tool.{Ends, HasMounted, HasWritten, IsMemoryLast, IsTask, IsUnread, IsUnrun, IsUnrunBy, IsWholeSummary, unread_by}
-use Rattle.engine_life.specs.declared.run_ends.Stopped.{Stopped}
-use Rattle.engine_life.specs.declared.run_ends.Stopped.TheVariants as stops
+use Rattle.session_run.specs.Tool.{Ends, HasMounted, HasWritten, IsMemoryLast, IsTask, IsUnread, IsUnrun, IsUnrunBy, IsWholeSummary, TellsRefusal, TellsStop, damage_text, status_of, text_of, unread_by}
+use Rattle.session_run.specs.declared.stop.Stopped.{Stopped}
+use Rattle.session_run.specs.declared.stop.Stopped.TheVariants as stops
 use Rattle.session_run.specs.Starts.{BeginsOver}
 use Rattle.session_run.specs.Stops.{MountsFirst}
 use Rattle.session_run.proofs.Endings.{gen_by, run_asked, run_not_gen}

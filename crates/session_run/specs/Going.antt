@@ -35,8 +35,8 @@ use Rattle.session_run.specs.OneLife.{HasLeft, IsOpened, life_of}
 use Rattle.session_run.specs.Parts.{HasLived, report_of}
 use Rattle.tx_io.specs.Causes.{Rose}
 use Rattle.session_run.specs.declared.run.Lived.{Lived}
-use Rattle.engine_life.specs.declared.run_ends.Stopped.{Stopped}
-use Rattle.engine_life.specs.declared.run_ends.Stopped.TheVariants as stops
+use Rattle.session_run.specs.declared.stop.Stopped.{Stopped}
+use Rattle.session_run.specs.declared.stop.Stopped.TheVariants as stops
 use Rattle.script_rounds.specs.declared.life_text.LifeText.{LifeText}
 use Rattle.session_run.specs.Leaves.{HasLeftLast}
 use Rattle.session_run.specs.Lives.{ComesTo, HasFallen}

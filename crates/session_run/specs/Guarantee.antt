@@ -19,10 +19,9 @@ use Rattle.recoverable.specs.Fit.{KeptLog}
 use Rattle.engine_life.specs.FirstLives.{MayBeginOver, MayMount}
 use Rattle.engine_life.specs.declared.refusal.NoLife.{NoLife}
 use Rattle.engine_life.specs.declared.refusal.NoLife.TheVariants as no_lives
-use Rattle.engine_life.specs.RunEnds.{damage_text}
 use Rattle.session_run.specs.Leaves.{LeavesVolumes}
 use Rattle.session_run.specs.Starts.{BeginsOver}
-use Rattle.session_run.specs.Tool.{HoldsFront, IsAccepted, IsMemoryLast, IsUnrunBy, IsWholeSummary}
+use Rattle.session_run.specs.Tool.{HoldsFront, IsAccepted, IsMemoryLast, IsUnrunBy, IsWholeSummary, damage_text}
 
 module _ {M L P : Type 0} (m : medias.Ghosts M L P) (l : logs.Ghosts L) (p : disks.Ghosts P) (kept : KeptLog) where
   -- A run may begin over all volumes that the media may mount first: where pages tell what they hold and the log has records,

@@ -4,6 +4,7 @@ pub mod GoesOn
 pub mod Records
 pub mod Causes
 pub mod Parts
+pub mod Fits
 pub mod OneLife
 pub mod Starts
 pub mod Lives

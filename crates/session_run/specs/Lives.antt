@@ -3,14 +3,22 @@ use Rattle.std.specs.Prelude.{◌≡◌, ◌<◌, ℕ, IsSomeAnd, IsTrue, List, 
 use Rattle.disk_core.specs.declared.log_disk.LogDisk as logs
 use Rattle.disk_core.specs.declared.page_disk.PageDisk as disks
 use Rattle.disk_core.specs.declared.media.Crash.{Crash}
+use Rattle.disk_core.specs.declared.media.Crash.TheVariants as crashes
 use Rattle.disk_core.specs.declared.media.Volumes.{Volumes}
 use Rattle.disk_core.specs.Media.{AllCrashed, HaveSameBanks, LogCrashed, PagesCrashed}
 use Rattle.tx_model.specs.declared.report.How.{How}
+use Rattle.tx_model.specs.declared.report.How.TheVariants as hows
 use Rattle.tx_model.specs.declared.report.LifeReport.{LifeReport}
 use Rattle.session_run.specs.Causes.{HaveCauses}
-use Rattle.engine_life.specs.Left.{FitLife, crash_of}
+use Rattle.session_run.specs.Fits.{FitLife}
 use Rattle.session_run.specs.Records.{BankHolds, LogHolds}
 use Rattle.session_run.specs.Starts.{OpensFor}
+
+-- the crash of a media that a script asks for
+abbrev pub crash_of : How → Crash
+crash_of hows.Lost = crashes.Lost
+crash_of hows.Kept = crashes.Kept
+crash_of hows.Torn = crashes.Torn
 
 module _ {L P : Type 0} (l : logs.Ghosts L) (p : disks.Ghosts P) where
   -- What a life left of the volumes that it mounted: as many of each kind, and none counted fewer faults in it than any one

@@ -1,5 +1,5 @@
 -- How a life is opened that runs a part of a script, and what it leaves.
-use Rattle.std.specs.Prelude.{◌≡◌, ℕ, ◌<◌, IsTrue, List}
+use Rattle.std.specs.Prelude.{◌≡◌, ℕ, ◌-◌, ◌<◌, IsTrue, List}
 use Rattle.disk_core.specs.declared.log_disk.LogDisk as logs
 use Rattle.disk_core.specs.declared.page_disk.PageDisk as disks
 use Rattle.disk_core.specs.declared.media.Volumes.{Volumes}
@@ -9,6 +9,7 @@ use Rattle.tx_model.specs.declared.report.Step.{Step}
 use Rattle.session_lang.specs.declared.script.Item.{Item}
 use Rattle.script_rounds.specs.declared.keeper.LineKeeper as keepers
 use Rattle.wal_core.specs.LogViews.{log_disk}
+use Rattle.tx_core.specs.declared.entry.Start.{Start}
 use Rattle.recoverable.specs.Whole.{BeganRight}
 use Rattle.engine_host.specs.declared.cluster.Cluster.{Cluster}
 use Rattle.engine_host.specs.Counted.{AreCounted}
@@ -18,7 +19,7 @@ use Rattle.engine_life.specs.declared.closed.ClosedLife.{ClosedLife}
 use Rattle.engine_life.specs.declared.life.OpenLife.{OpenLife}
 use Rattle.engine_life.specs.Lives.{IsBegun, life_told, number_of, volumes_left}
 use Rattle.session_run.specs.Causes.{HaveCauses}
-use Rattle.engine_life.specs.Left.{FitLife}
+use Rattle.session_run.specs.Fits.{FitLife}
 use Rattle.session_run.specs.Parts.{HasLived, with_steps}
 use Rattle.session_run.specs.Records.{BankHolds, LogHolds}
 use Rattle.session_run.specs.Turns.{AreToldBy}
@@ -41,6 +42,10 @@ module _ {L P : Type 0} {l : logs.Ghosts L} {p : disks.Ghosts P} where
     pub mounted : Volumes L P
     pub sessions_are : cluster.sessions ≡ sessions
     pub opened : IsOpened cluster begins faults mounted life
+
+-- the life that started so and left this
+abbrev pub life_over : {L P : Type 0} → {l : logs.Ghosts L} → Start → ClosedLife L P l → Life
+life_over start closed = life_told (start.from - 1) start.base start.committed start.recorded closed.events closed.multis.value.events closed.log
 
 -- the life that began so and left this
 abbrev pub life_of : {L P : Type 0} → {l : logs.Ghosts L} → Cluster → Beginning → ClosedLife L P l → Life

@@ -21,9 +21,9 @@ use Rattle.engine_life.specs.NextLives.{StayFit}
 use Rattle.engine_life.specs.Refusals.{IsOfVolumes, IsUnopened}
 use Rattle.engine_life.specs.Reopening.{LeavesLog}
 use Rattle.tx_io.specs.Causes.{Rose}
-use Rattle.engine_life.specs.declared.run_ends.Stopped.{Stopped}
-use Rattle.engine_life.specs.declared.run_ends.Stopped.TheVariants as stops
-use Rattle.engine_life.specs.Left.{FitsLife}
+use Rattle.session_run.specs.declared.stop.Stopped.{Stopped}
+use Rattle.session_run.specs.declared.stop.Stopped.TheVariants as stops
+use Rattle.session_run.specs.Fits.{FitsLife}
 use Rattle.session_run.specs.Leaves.{HaveLeft, LeavesVolumes}
 use Rattle.session_run.specs.Lives.{ComesTo}
 use Rattle.session_run.specs.Runs.{cluster_of}

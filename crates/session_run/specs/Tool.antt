@@ -1,11 +1,13 @@
 -- How a run of the tool ends.
 use Rattle.std.specs.Prelude.{◌≡◌, ℕ, Bool, List, [], ◌∷◌, ◌++◌, ◌⊎◌, Option, codes, take}
+use Rattle.std.specs.Fmt.{decimal}
 use Rattle.std.specs.Io.KnownBytes.{Appends}
 use Rattle.disk_core.specs.declared.log_disk.LogDisk as logs
 use Rattle.disk_core.specs.declared.page_disk.PageDisk as disks
 use Rattle.disk_core.specs.declared.media.Crash.{Crash}
 use Rattle.disk_core.specs.declared.media.Volumes.{Volumes}
 use Rattle.tx_model.specs.declared.report.LifeReport.{LifeReport}
+use Rattle.report_text.specs.Words.{line_text}
 use Rattle.session_lang.specs.declared.script.Script.{Script}
 use Rattle.run_law.specs.Lives.{AreLivesBefore, RunStart, text_so_far}
 use Rattle.run_law.specs.Tool.{IsAnswer, IsNoScript}
@@ -21,9 +23,10 @@ use Rattle.script_source.specs.Sources.{HasScript}
 use Rattle.recoverable.specs.Fit.{KeptLog}
 use Rattle.engine_life.specs.declared.refusal.NoLife.{NoLife}
 use Rattle.engine_life.specs.declared.refusal.NoLife.TheVariants as no_lives
-use Rattle.engine_life.specs.declared.run_ends.Ending.{Ending}
-use Rattle.engine_life.specs.declared.run_ends.Ending.TheVariants as endings
-use Rattle.engine_life.specs.RunEnds.{damage_text, text_of}
+use Rattle.session_run.specs.declared.ending.Ending.{Ending}
+use Rattle.session_run.specs.declared.ending.Ending.TheVariants as endings
+use Rattle.session_run.specs.declared.stop.Stopped.{Stopped}
+use Rattle.session_run.specs.declared.stop.Stopped.TheVariants as stops
 use Rattle.session_run.specs.Leaves.{LeavesVolumes}
 use Rattle.session_run.specs.Starts.{BeginsOver}
 use Rattle.session_run.specs.Stops.{IsUnwritten, Stops}
@@ -36,6 +39,10 @@ IsScriptOf tasks.Run left left' s = HasScript left left' s
 IsScriptOf (tasks.Gen seed size) left left' s = (s ≡ generated seed size) × (left' ≡ left)
 
 -- ---- how it ends
+
+-- the line that tells at which place the log is damaged
+abbrev pub damage_text : ℕ → List ℕ
+damage_text at = line_text (codes "damaged" ∷ decimal at ∷ [])
 
 module _ {L P : Type 0} (l : logs.Ghosts L) (p : disks.Ghosts P) where
   -- There was a script to run, but behind these lives, of which the text is written, the run stopped over the media: it
@@ -110,6 +117,23 @@ unread_by (no_scripts.Refused text) = endings.NoScript text
 unread_by no_scripts.ReadFault = endings.ReadFault
 unread_by no_scripts.Memory = endings.Memory
 
+-- the ending tells why no life was opened, or that memory was wanting for that
+abbrev pub TellsRefusal : NoLife → Ending → Type 0
+TellsRefusal refusal endings.Report = ⊥
+TellsRefusal refusal (endings.Summary text) = ⊥
+TellsRefusal refusal (endings.NoScript text) = ⊥
+TellsRefusal refusal endings.ReadFault = ⊥
+TellsRefusal refusal endings.WriteFault = ⊥
+TellsRefusal refusal endings.Memory = Unit {0}
+TellsRefusal refusal endings.Device = refusal ≡ no_lives.Device
+TellsRefusal refusal (endings.Damaged text) = (at : ℕ) × (text.items ≡ damage_text at) × (refusal ≡ no_lives.Damaged at)
+TellsRefusal refusal endings.Full = refusal ≡ no_lives.Full
+
+-- so why a run stopped
+abbrev pub TellsStop : Stopped → Ending → Type 0
+TellsStop stops.Sink ending = ending ≡ endings.WriteFault
+TellsStop (stops.NoLife refusal) ending = TellsRefusal refusal ending
+
 -- the source gave no script
 abbrev pub IsUnread : Ending → Type 0
 IsUnread (endings.NoScript text) = Unit {0}
@@ -123,6 +147,30 @@ HasMounted (endings.Summary text) = Unit {0}
 HasMounted (endings.Damaged text) = Unit {0}
 HasMounted endings.Full = Unit {0}
 HasMounted ending = ⊥
+
+-- the status that the tool answers
+abbrev pub status_of : Ending → ℕ
+status_of endings.Report = 0
+status_of (endings.Summary text) = 0
+status_of (endings.NoScript text) = 1
+status_of endings.ReadFault = 3
+status_of endings.WriteFault = 4
+status_of endings.Device = 5
+status_of endings.Memory = 6
+status_of (endings.Damaged text) = 7
+status_of endings.Full = 9
+
+-- the text that it writes last
+abbrev pub text_of : Ending → List ℕ
+text_of endings.Report = []
+text_of (endings.Summary text) = text.items
+text_of (endings.NoScript text) = text.items
+text_of endings.ReadFault = codes "read-fault" ++ 10 ∷ []
+text_of endings.WriteFault = []
+text_of endings.Device = codes "device" ++ 10 ∷ []
+text_of endings.Memory = codes "memory" ++ 10 ∷ []
+text_of (endings.Damaged text) = text.items
+text_of endings.Full = codes "log-full" ++ 10 ∷ []
 
 -- The sink holds the summary of a run of this script more.
 pub record IsWholeSummary (tells : Bool) (seed size : ℕ) (held held' : Option (List ℕ)) : Type 0 where

@@ -3,12 +3,15 @@
 #![tactic(auto)]
 
 mod commands;
+mod ended;
+mod ending;
 pub mod laws;
 mod life;
 mod member;
 mod round;
 mod rounds;
 mod run;
+mod stop;
 mod tool;
 
 pub use tool::{run_tool, run_tool_behind};

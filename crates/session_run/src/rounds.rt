@@ -7,7 +7,6 @@ ghost use Rattle.tx_model.specs.Asked as asked;
 ghost use Rattle.tx_model.specs.Asked.{rounds_in};
 ghost use Rattle.session_lang.specs.Rounds.{asked_at, asked_of, asked_round};
 ghost use Rattle.run_law.specs.Turns.{MayRun, MayShow, is_command, turns_in};
-ghost use Rattle.script_gen.specs.Rounds.{rest_of};
 ghost use Rattle.script_rounds.specs.Plans.{IsBlank};
 ghost use Rattle.session_run.specs.Rounds.{MayAdd};
 ghost use Rattle.session_run.specs.GoesOn.{AreHome, GoesOn};
@@ -22,7 +21,6 @@ use engine_life::new_sessions;
 use engine_parts::{EngineLaw, Gate, Session};
 use hall::Hall;
 use host_calls::{checkpoint, show};
-use script_gen::DrawnRounds;
 use script_rounds::{
     LineKeeper, Plan, RoundThreads, SparePlan, keep_checkpoint, keep_dump, next_round,
 };
@@ -253,77 +251,5 @@ pub fn run_rounds<K: LineKeeper + Send + Drop, L: LogDisk + Send + Sync, P: Page
     let all = sessions.as_mut_slice();
     run_each(
         rt, alloc, hall, host, all, spare, part, names, kept, threads, gate,
-    )
-}
-
-/// Runs the rounds of a script that is drawn, each before the next one is, its sessions being these.
-fn draw_each<K: LineKeeper + Send + Drop, L: LogDisk + Send + Sync, P: PageDisk + Send + Sync>(
-    rt: &(impl Threads + Wait + Sync),
-    alloc: Global,
-    hall: &Hall<EngineLaw<L, P>>,
-    host: &mut Host<L, P>,
-    sessions: &mut [Session],
-    drawn: DrawnRounds,
-    names: &NameList,
-    kept: &mut K,
-    threads: RoundThreads,
-    gate: &(impl Gate + Sync),
-) -> Result<(), Memory>
-    requires begins { GoesOn hall.now host.old sessions.old [] }
-    requires unseen { HasSeenNothing host.old }
-    requires items { All (MayRun (length sessions.old)) (rest_of drawn) }
-    requires few { length (rest_of drawn) ≤ 2 ^ 24 }
-    requires told { AreToldBy P.tells (start_of hall.now) }
-    ensures home { AreHome hall.now host.new sessions.new }
-    ensures cluster { host.new.cluster ≡ host.old.cluster }
-    ensures ran { OnOk result (HasRun K.LineKeeper hall.now host.new sessions.new names.now (asked_of (rest_of drawn))
-        kept.old kept.new) }
-{
-    let mut plan = Plan::new(alloc, sessions.len())?;
-    let mut rest = drawn;
-    let mut rounds = 0;
-    while !rest.is_done() {
-        let commands = rest.next_round(alloc)?;
-        let round = commands.items();
-        rounds = run_next(
-            rt, alloc, hall, host, sessions, &mut plan, rounds, &round, names, kept, threads, gate,
-        )?;
-    }
-    Ok(())
-}
-
-/// Runs the rounds of a life whose script is drawn, the sessions of a round on such threads.
-pub fn draw_rounds<
-    K: LineKeeper + Send + Drop,
-    L: LogDisk + Send + Sync,
-    P: PageDisk + Send + Sync,
->(
-    rt: &(impl Threads + Wait + Sync),
-    alloc: Global,
-    hall: &Hall<EngineLaw<L, P>>,
-    host: &mut Host<L, P>,
-    names: &NameList,
-    drawn: DrawnRounds,
-    kept: &mut K,
-    threads: RoundThreads,
-    gate: &(impl Gate + Sync),
-) -> Result<(), Memory>
-    requires host { IsHost hall.now host.old }
-    requires all { HoldsAllBut host.old [] }
-    requires unseen { HasSeenNothing host.old }
-    requires parked { (n : ℕ) (s : Session) → n < host.old.cluster.sessions → IsNewSession s → IsParked hall.now host.old n s }
-    requires items { All (MayRun host.old.cluster.sessions) (rest_of drawn) }
-    requires few { length (rest_of drawn) ≤ 2 ^ 24 }
-    requires told { AreToldBy P.tells (start_of hall.now) }
-    ensures host { IsHost hall.now host.new }
-    ensures all { HoldsAllBut host.new [] }
-    ensures ran { OnOk result ((sessions : List Session) × HasRun K.LineKeeper hall.now host.new sessions names.now
-        (asked_of (rest_of drawn)) kept.old kept.new) }
-{
-    let mut sessions = new_sessions(alloc, host.cluster.sessions)?;
-    life_begins(hall);
-    let all = sessions.as_mut_slice();
-    draw_each(
-        rt, alloc, hall, host, all, drawn, names, kept, threads, gate,
     )
 }

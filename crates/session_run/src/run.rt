@@ -1,39 +1,46 @@
-//! Runs a script over a media, life by life, and writes the text of its report.
+//! Runs a script over a media, life by life, and writes the text of its report; or tells the counts of what it did.
 ghost use Rattle.std.specs.Prelude.{◌≡◌, ◌≤◌, ℕ, List, None, Some, IfErr, IfOk, IsTrue, OnErr, OnOk, false, length};
 ghost use Rattle.std.specs.Io.KnownBytes.{Appends};
 ghost use Rattle.disk_core.specs.Media.{HasBanks};
 ghost use Rattle.disk_core.specs.declared.media.Volumes.{Volumes as Mounted};
+ghost use Rattle.tx_model.specs.declared.report.LifeReport.{LifeReport};
 ghost use Rattle.tx_model.specs.declared.report.Report.{Report};
 ghost use Rattle.report_text.specs.ReportText.{report_text};
 ghost use Rattle.recoverable.specs.Fit.{KeptLog};
 ghost use Rattle.session_lang.specs.declared.script.Item.{Item};
 ghost use Rattle.run_law.specs.Lives.{RunStart};
 ghost use Rattle.run_law.specs.Tool.{IsReportOf};
+ghost use Rattle.script_gen.specs.Summaries.{IsSummaryOf};
 ghost use Rattle.engine_host.specs.declared.cluster.Cluster.{Cluster as Clustered};
 ghost use Rattle.engine_host.specs.Opening.{Beginning, IsCluster};
 ghost use Rattle.engine_life.specs.FirstLives.{MayBeginOver, MayMount};
-ghost use Rattle.engine_life.specs.Lives.{FitsLog, life_over, volumes_left};
-ghost use Rattle.engine_life.specs.Left.{FitWhereTold};
-ghost use Rattle.session_run.specs.OneLife.{IsOpened, MayRunIn};
+ghost use Rattle.engine_life.specs.Lives.{FitsLog, volumes_left};
+ghost use Rattle.engine_life.specs.Refusals.{IsOfVolumes};
+ghost use Rattle.session_run.specs.Fits.{FitWhereTold};
+ghost use Rattle.session_run.specs.OneLife.{IsOpened, MayRunIn, life_over};
 ghost use Rattle.session_run.specs.Parts.{IsTakenPart};
 ghost use Rattle.session_run.specs.Going.{HasGoneOn, HasRunPart, IsCrashed, IsLived, IsWritten, LastWent, NextWent, StopsPart};
 ghost use Rattle.session_run.specs.Lives.{HasFallen};
 ghost use Rattle.session_run.specs.Leaves.{LeavesVolumes};
-ghost use Rattle.session_run.specs.Runs.{IsTaken, cluster_of};
+ghost use Rattle.session_run.specs.Runs.{IsTaken, IsTakenAlone, cluster_of};
 ghost use Rattle.session_run.specs.Starts.{BeginsOver};
-ghost use Rattle.session_run.specs.Stops.{IsStopped, MountsFirst, StayFitBehind};
+ghost use Rattle.session_run.specs.Stops.{IsStopped, IsUnopenedFirst, MountsFirst, StayFitBehind};
 
+use crate::ended::{Ended, FittedLog, crash_of, log_left};
 use crate::life::run_life;
+use crate::stop::Stopped;
 use disk_core::{LogDisk, Media, PageDisk, Volumes};
 use engine_host::{Cluster, LifeRooms};
 use engine_life::laws::crash_goes_on;
-use engine_life::{
-    EndText, Ended, FittedLog, NoLife, OpenLife, Stopped, crash_of, end_life, log_left, open_life,
-};
+use engine_life::{EndText, NoLife, OpenLife, end_life, open_life};
 use engine_parts::Gate;
 use host_calls::same_cluster;
 use notes::Note;
-use script_rounds::{LineKeeper, RoundThreads, SparePlan, Steps, next_part, put_life, whole_text};
+use script_gen::Summary;
+use script_rounds::{
+    LineKeeper, RoundThreads, SparePlan, Steps, Tally, have_full_multis, next_part, put_life,
+    whole_text,
+};
 use session_lang::{Items, Script};
 use std::alloc::Global;
 use std::sync::Wait;
@@ -324,5 +331,57 @@ where
         )?;
         items = behind;
         number += 1;
+    }
+}
+
+/// Runs a script without a crash over a media, in one life, and answers the line that tells the counts of what it did in
+/// place of the report.
+pub fn count_script<R: Threads + Wait + Sync, M: Media, G: Gate + Sync>(
+    rt: &R,
+    alloc: Global,
+    script: &Script,
+    media: &mut M,
+    threads: RoundThreads,
+    gate: &G,
+) -> Result<Vec<u8>, NoLife>
+where
+    M::Log: Sync,
+    M::Pages: Sync,
+    ghost kept: { KeptLog }
+    requires taken { IsTakenAlone script.now }
+    requires idle { IsTrue (M.is_idle media.old) }
+    requires may { (volumes : Mounted M.Log M.Pages)
+        → MayMount (M.is_new media.old) (M.begins media.old) (M.gives media.old) script.now.banks volumes
+        → MayBeginOver M.Log.LogDisk M.Pages.PageDisk kept volumes }
+    ensures counts { IfOk result (λ text. (counts : IsSummaryOf M.Pages.tells script.now text.items)
+        × LeavesVolumes M.Log.LogDisk M.Pages.PageDisk (BeginsOver M.Log.LogDisk M.Pages.PageDisk
+        (MayMount (M.is_new media.old) (M.begins media.old) (M.gives media.old)) kept script.now counts.banks counts.start)
+        M.falls (M.gives media.new) counts.report.lives) }
+    ensures idle { IsTrue (M.is_idle media.new) }
+    ensures count { M.faults media.old ≤ M.faults media.new }
+    ensures used { OnOk result (M.is_new media.new ≡ false) }
+    ensures used_so { IfErr result (λ refusal. IsOfVolumes refusal → M.is_new media.new ≡ false) }
+    ensures refused { IfErr result (IsUnopenedFirst M.Log.LogDisk M.Pages.PageDisk
+        (MayMount (M.is_new media.old) (M.begins media.old) (M.gives media.old)) kept (M.is_new media.old ≡ false) M.falls
+        (M.faults media.old) (M.faults media.new) (M.gives media.new) script.now) }
+{
+    let mut rooms = LifeRooms::new(alloc);
+    let mut spare = SparePlan::none(alloc);
+    let life = Box::into_inner(open_life(alloc, &mut rooms, media, cluster_of(script))?);
+    have_full_multis(&life.host.cluster.base);
+    let mut tally = Tally::none(alloc);
+    let names = &script.names;
+    let items = script.items.items();
+    let (closed, ran) = run_life(
+        rt, alloc, life, &mut rooms, &mut spare, names, items, &mut tally, threads, gate,
+    );
+    let summary = Summary::of(closed.events.items(), tally.commands(), tally.verdicts());
+    media.rest(closed.into_volumes());
+    match ran {
+        Ok(()) => match summary.text(alloc) {
+            Ok(text) => Ok(text),
+            Err(Memory) => Err(NoLife::Memory),
+        },
+        Err(Memory) => Err(NoLife::Memory),
     }
 }

@@ -9,34 +9,21 @@ ghost use Rattle.script_gen.specs.Laws.{most_transactions};
 ghost use Rattle.script_gen.specs.declared.task.Task.TheVariants as tasks;
 ghost use Rattle.session_run.specs.Guarantee.{MayRunOver, RunsTool};
 ghost use Rattle.session_run.specs.Unknown.{no_log};
-ghost use Rattle.engine_life.specs.RunEnds.{status_of, text_of};
-ghost use Rattle.session_run.specs.Tool.{Ends, HasMounted, HasWritten, IsSized, IsUnread, WritesLast, unread_by};
+ghost use Rattle.session_run.specs.Tool.{Ends, HasMounted, HasWritten, IsSized, IsUnread, WritesLast, status_of, text_of};
 
-use crate::life::count_script;
-use crate::run::run_script;
+use crate::ending::{Ending, stopped, unopened, unread};
+use crate::run::{count_script, run_script};
 use disk_core::Media;
-use engine_life::{Ending, ended_by, unopened};
 use engine_parts::Gate;
 use script_gen::laws::generated_scripts_run;
-use script_gen::{Task, draw_script, task_of};
+use script_gen::{Task, generate, task_of};
 use script_rounds::{RoundThreads, finish};
-use script_source::{NoScript, take_script};
+use script_source::take_script;
 use std::alloc::Global;
 use std::sync::Wait;
 use std::thread::Threads;
 use tx_io::{Sink, Source};
 use tx_model::Memory;
-
-/// The ending where the source gave no script.
-fn unread(refusal: NoScript) -> Ending
-    ensures { result ≡ unread_by refusal }
-{
-    match refusal {
-        NoScript::Refused(text) => Ending::NoScript(text),
-        NoScript::ReadFault => Ending::ReadFault,
-        NoScript::Memory => Ending::Memory,
-    }
-}
 
 /// Reads the source, runs its script over the media, and makes the report.
 fn run_source<R: Threads + Wait + Sync, S: Source, K: Sink, M: Media, G: Gate + Sync>(
@@ -73,7 +60,7 @@ where
     };
     match run_script(rt, alloc, script, sink, media, threads, gate) {
         Ok(()) => Ending::Report,
-        Err(stop) => ended_by(alloc, stop),
+        Err(stop) => stopped(alloc, stop),
     }
 }
 
@@ -103,11 +90,11 @@ where
     ensures used { HasMounted result → M.is_new media.new ≡ false }
 {
     generated_scripts_run();
-    let script = match draw_script(alloc, seed, size) {
+    let script = match generate(alloc, seed, size) {
         Ok(script) => script,
         Err(Memory) => return Ending::Memory,
     };
-    match count_script(rt, alloc, script, media, threads, gate) {
+    match count_script(rt, alloc, &script, media, threads, gate) {
         Ok(text) => Ending::Summary(text),
         Err(refusal) => unopened(alloc, refusal),
     }

@@ -6,7 +6,7 @@ use Rattle.tx_model.specs.declared.report.Life.{Life}
 use Rattle.engine_host.specs.declared.cluster.Cluster.{Cluster}
 use Rattle.engine_host.specs.Opening.{IsCluster}
 use Rattle.engine_life.specs.Lives.{FitsLog, volumes_left}
-use Rattle.engine_life.specs.Left.{FitsLife}
+use Rattle.session_run.specs.Fits.{FitsLife}
 use Rattle.session_run.specs.Going.{HasGoneOn, IsCrashed, part_of}
 use Rattle.session_run.specs.Lives.{HasFallen}
 use Rattle.session_run.specs.Stops.{StayFitBehind}

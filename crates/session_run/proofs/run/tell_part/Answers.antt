@@ -3,7 +3,7 @@ use Rattle.report_text.specs.ReportText.{rest_text}
 use Rattle.run_law.specs.Lives.{IsFrontOf, last_text}
 use Rattle.tx_model.specs.declared.report.Life.{Life}
 use Rattle.engine_life.specs.Lives.{life_told, volumes_left}
-use Rattle.engine_life.specs.Left.{FitLife}
+use Rattle.session_run.specs.Fits.{FitLife}
 use Rattle.session_run.specs.OneLife.{life_of}
 use Rattle.session_run.proofs.GoingOn.{life_over_is}
 use Rattle.session_run.proofs.Running.{pieces, told_life}

@@ -1,7 +1,7 @@
 use mir.Syntax.{of_param}
 use Rattle.std.proofs.Common.{List, subst, sym, ℕ, false, ◌≡◌, rules}
 use Rattle.engine_life.specs.FirstLives.{MayMount}
-use Rattle.engine_life.specs.declared.run_ends.Ending.{Ending}
+use Rattle.session_run.specs.declared.ending.Ending.{Ending}
 use Rattle.script_gen.specs.declared.task.Task.TheVariants as tasks
 use Rattle.session_run.specs.Tool.{Ends, HasMounted, HasWritten}
 use Rattle.session_run.proofs.Endings.{answers, stopped_ends, stopped_read, unread_ends}
@@ -50,14 +50,14 @@ returns-in-Err-run_script-clause-ends g c =
     let k = g.K.Sink in
     let m = g.M.Media in
     stopped_ends g.M.Log.LogDisk g.M.Pages.PageDisk (s.left c.args.source.now) (s.left c.take_script.new.source) (k.held c.args.sink.now) (k.held c.run_script.new.sink) (s.faults c.args.source.now) (s.faults c.take_script.new.source) (k.faults c.args.sink.now) (k.faults c.run_script.new.sink)
-    (MayMount (m.is_new c.args.media.now) (m.begins c.args.media.now) (m.gives c.args.media.now)) g.kept (m.is_new c.args.media.now ≡ false) m.falls (m.faults c.args.media.now) (m.faults c.run_script.new.media) (m.gives c.run_script.new.media) c.in-Ok.script c.in-Ok.ensures.script c.in-Err-run_script.stop c.ended_by.result c.ended_by.ensures c.in-Err-run_script.ensures.stopped
+    (MayMount (m.is_new c.args.media.now) (m.begins c.args.media.now) (m.gives c.args.media.now)) g.kept (m.is_new c.args.media.now ≡ false) m.falls (m.faults c.args.media.now) (m.faults c.run_script.new.media) (m.gives c.run_script.new.media) c.in-Ok.script c.in-Ok.ensures.script c.in-Err-run_script.stop c.stopped.result c.stopped.ensures c.in-Err-run_script.ensures.stopped
 
 pub returns-in-Err-clause-used : goal.returns-in-Err-clause-used
 returns-in-Err-clause-used g c = λ mounted. absurd (unread_unmounted c.in-Err.refusal (subst HasMounted c.unread.ensures mounted))
 
 pub returns-in-Err-run_script-clause-unmounted : goal.returns-in-Err-run_script-clause-unmounted
-returns-in-Err-run_script-clause-unmounted g c = λ unread. absurd (stopped_read c.in-Err-run_script.stop c.ended_by.result c.ended_by.ensures unread)
+returns-in-Err-run_script-clause-unmounted g c = λ unread. absurd (stopped_read c.in-Err-run_script.stop c.stopped.result c.stopped.ensures unread)
 
 pub returns-in-Err-run_script-clause-used : goal.returns-in-Err-run_script-clause-used
 returns-in-Err-run_script-clause-used g c = λ mounted.
-    c.in-Err-run_script.ensures.used_so (stopped_mounted c.in-Err-run_script.stop c.ended_by.result c.ended_by.ensures mounted)
+    c.in-Err-run_script.ensures.used_so (stopped_mounted c.in-Err-run_script.stop c.stopped.result c.stopped.ensures mounted)

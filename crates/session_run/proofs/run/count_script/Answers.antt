@@ -7,9 +7,9 @@ use Rattle.tx_events.specs.Base.{IsBase}
 use Rattle.tx_events.specs.Ids.{IsFullMulti}
 use Rattle.tx_model.specs.declared.report.LifeReport.{LifeReport}
 use Rattle.tx_model.specs.Rounds.{lines_in}
+use Rattle.session_lang.specs.declared.script.Item.{Item}
 use Rattle.session_lang.specs.declared.script.Script.{Script}
 use Rattle.run_law.specs.Lives.{BeginsWithBase, RunStart}
-use Rattle.script_gen.specs.Rounds.{script_of}
 use Rattle.script_gen.specs.Summaries.{IsSummaryOf}
 use Rattle.script_gen.specs.Counts.{summary_by, summary_text}
 use Rattle.script_rounds.specs.contracts.tally.TallyLineKeeper.TheImpl as tally_keeper
@@ -18,12 +18,12 @@ use Rattle.engine_host.specs.declared.cluster.Cluster.{Cluster}
 use Rattle.engine_life.specs.FirstLives.{MayMount}
 use Rattle.session_run.specs.Leaves.{LeavesVolumes}
 use Rattle.session_run.specs.OneLife.{IsOpened, life_of}
-use Rattle.session_run.specs.Parts.{report_of}
+use Rattle.session_run.specs.Parts.{HasLived, IsTakenPart, report_of}
 use Rattle.session_run.specs.Starts.{BeginsOver}
 use Rattle.session_run.proofs.Counted.{counts_told, left_alone, part_alone, verdicts_few}
 use Rattle.session_run.proofs.Opening.{is_first, may_over, start_so, unopened_first}
 use Rattle.session_run.proofs.RoundSteps.{kept_lines}
-use Rattle.session_run.proofs.life.count_script.Goals as goal
+use Rattle.session_run.proofs.run.count_script.Goals as goal
 
 -- With a ghost value the clauses of `requires` have no names: they stand in their order behind what is asked of lifetimes.
 
@@ -35,7 +35,7 @@ open_life-requires g c κs within =
     let pages = own.1.0 in
     let cluster = c.cluster_of.ensures.cluster in
     let asked = own.1.1.1.1.1.1.1 in
-    let may = may_over g.M.Log.LogDisk g.M.Pages.PageDisk (script_of c.args.script) (MayMount (m.is_new c.args.media.now) (m.begins c.args.media.now) (m.gives c.args.media.now)) g.kept c.cluster_of.result c.cluster_of.ensures.is asked.1 in
+    let may = may_over g.M.Log.LogDisk g.M.Pages.PageDisk c.args.script.now (MayMount (m.is_new c.args.media.now) (m.begins c.args.media.now) (m.gives c.args.media.now)) g.kept c.cluster_of.result c.cluster_of.ensures.is asked.1 in
     (search (rules, within), (search (rules, within), (search (rules, within), (record { owned = log.owned; leaving = λ k. log.leaving (λ a. k (of_param 1)) }, (record { owned = pages.owned; leaving = λ k. pages.leaving (λ a. k (of_param 2)) }, (cluster, (asked.0, may)))))))
 
 pub returns-in_err-open_life-clause-refused : goal.returns-in_err-open_life-clause-refused
@@ -43,17 +43,19 @@ returns-in_err-open_life-clause-refused g c =
     let m = g.M.Media in
     let old = c.args.media.now in
     let new = c.open_life.new.media in
-    let none = unopened_first g.M.Log.LogDisk g.M.Pages.PageDisk (script_of c.args.script) g.kept (m.is_new old) (m.begins old) (m.gives old) m.falls (m.faults old) (m.faults new) (m.gives new) c.cluster_of.result c.in_err-open_life.field-0.0 c.cluster_of.ensures.is
+    let none = unopened_first g.M.Log.LogDisk g.M.Pages.PageDisk c.args.script.now g.kept (m.is_new old) (m.begins old) (m.gives old) m.falls (m.faults old) (m.faults new) (m.gives new) c.cluster_of.result c.in_err-open_life.field-0.0 c.cluster_of.ensures.is
     c.in_err-open_life.ensures.refused (λ was told. c.in_err-open_life.ensures.again told was) in
     let err = err_from_is_err_and c.from_residual.result c.from_residual.ensures.1 in
     rw (err.1, err.2) none
 
-pub run_drawn-closed-requires-clause-taken : goal.run_drawn-closed-requires-clause-taken
-run_drawn-closed-requires-clause-taken g c κs within = part_alone (script_of c.args.script) (c.requires.1.1.1.1.1.1.1.1.1.1.1.0)
+pub run_life-closed-requires-clause-taken : goal.run_life-closed-requires-clause-taken
+run_life-closed-requires-clause-taken g c κs within =
+    let s = c.args.script.now in
+    subst (IsTakenPart (length s.names)) (sym c.items-items.ensures) (part_alone s (c.requires.1.1.1.1.1.1.1.1.1.1.1.0))
 
-pub run_drawn-closed-requires-clause-may : goal.run_drawn-closed-requires-clause-may
-run_drawn-closed-requires-clause-may g c κs within =
-    let s = script_of c.args.script in
+pub run_life-closed-requires-clause-may : goal.run_life-closed-requires-clause-may
+run_life-closed-requires-clause-may g c κs within =
+    let s = c.args.script.now in
     let m = g.M.Media in
     let first = MayMount (m.is_new c.args.media.now) (m.begins c.args.media.now) (m.gives c.args.media.now) in
     let life = c.in_ok-open_life.field-0.value in
@@ -78,22 +80,22 @@ with_counts tells s text banks start lives F k f = (
 
 pub returns-in-Ok-text-clause-counts : goal.returns-in-Ok-text-clause-counts
 returns-in-Ok-text-clause-counts g c =
-    let s = script_of c.args.script in
+    let s = c.args.script.now in
     let m = g.M.Media in
     let l = g.M.Log.LogDisk in
     let p = g.M.Pages.PageDisk in
     let first = MayMount (m.is_new c.args.media.now) (m.begins c.args.media.now) (m.gives c.args.media.now) in
     let life = c.in_ok-open_life.field-0.value in
-    let closed = c.run_drawn-closed.result.0 in
-    let tally = c.run_drawn-closed.new.kept in
+    let closed = c.run_life-closed.result.0 in
+    let tally = c.run_life-closed.new.kept in
     let gives = m.gives c.rest.new.self in
     let is = is_first l p s first g.kept c.cluster_of.result life c.cluster_of.ensures.is (c.requires.1.1.1.1.1.1.1.1.1.1.1.1.1) c.in_ok-open_life.ensures.life in
     let so = is.so in
     let opened = subst (IsOpened so.cluster so.begins so.faults is.volumes) (sym c.into_inner-life.ensures) so.opened in
     let start = start_so so.cluster so.begins in
     let told = life_of so.cluster so.begins closed in
-    let ran = rw c.in-Ok.is at (c.run_drawn-closed.ensures.ran so.cluster so.begins so.faults is.volumes opened) in
-    let lived = ran.lived in
+    let ran = rw c.in-Ok.is at (c.run_life-closed.ensures.ran so.cluster so.begins so.faults is.volumes opened) in
+    let lived = subst (λ (its : List Item). HasLived p.tells so.cluster.banks its told ran.steps) c.items-items.ensures ran.lived in
     let kept : tally ≡ flat_map lines_in ran.steps = kept_lines tally_keeper.ghosts s.names c.none-tally.result tally ran.steps ran.kept_is c.none-tally.ensures (λ kept n. refl) (λ kept lines. refl) (λ kept dump. refl) in
     let size = ap length kept in
     let few = lived.few in

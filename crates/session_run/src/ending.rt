@@ -1,19 +1,13 @@
 //! How a run of the tool ends, with the text that it writes then.
 ghost use Rattle.std.specs.Prelude.{◌≡◌, IfOk};
-ghost use Rattle.engine_life.specs.RunEnds.{TellsRefusal, TellsStop, damage_text, status_of, text_of};
+ghost use Rattle.session_run.specs.Tool.{TellsRefusal, TellsStop, damage_text, status_of, text_of, unread_by};
 
-use crate::refusal::NoLife;
+use crate::stop::Stopped;
+use engine_life::NoLife;
 use report_text::Text;
+use script_source::NoScript;
 use std::alloc::Global;
 use tx_model::Memory;
-
-/// Why a run stopped before its report was whole.
-pub enum Stopped {
-    /// The sink failed.
-    Sink,
-    /// The media failed at a crash, no life was opened, or memory was wanting.
-    NoLife(NoLife),
-}
 
 /// How a run ends.
 #[derive(Drop)]
@@ -82,8 +76,19 @@ fn damage_text(alloc: Global, at: u64) -> Result<Vec<u8>, Memory>
     Ok(text.into_bytes())
 }
 
+/// The ending where the source gave no script.
+pub fn unread(refusal: NoScript) -> Ending
+    ensures { result ≡ unread_by refusal }
+{
+    match refusal {
+        NoScript::Refused(text) => Ending::NoScript(text),
+        NoScript::ReadFault => Ending::ReadFault,
+        NoScript::Memory => Ending::Memory,
+    }
+}
+
 /// The ending where a run stopped.
-pub fn ended_by(alloc: Global, stop: Stopped) -> Ending
+pub fn stopped(alloc: Global, stop: Stopped) -> Ending
     ensures { TellsStop stop result }
 {
     match stop {

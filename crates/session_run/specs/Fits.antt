@@ -1,14 +1,10 @@
--- What a life leaves to the next one: the log that its volumes fit, and the crash between them.
+-- What a later life goes on from.
 use Rattle.std.specs.Prelude.{◌≡◌, ◌+◌, List, ◌∷◌, ◌++◌, IsTrue, length}
 use Rattle.disk_core.specs.declared.log_disk.LogDisk as logs
 use Rattle.disk_core.specs.declared.page_disk.PageDisk as disks
-use Rattle.disk_core.specs.declared.media.Crash.{Crash}
-use Rattle.disk_core.specs.declared.media.Crash.TheVariants as crashes
 use Rattle.disk_core.specs.declared.media.Volumes.{Volumes}
 use Rattle.tx_events.specs.declared.record.Rec.{Rec}
 use Rattle.tx_events.specs.declared.record.Rec.TheVariants as records
-use Rattle.tx_model.specs.declared.report.How.{How}
-use Rattle.tx_model.specs.declared.report.How.TheVariants as hows
 use Rattle.tx_model.specs.declared.report.Life.{Life}
 use Rattle.tx_events.specs.LifeBase.{base_after}
 use Rattle.report_law.specs.Lives.{base_of}
@@ -40,9 +36,3 @@ module _ {L P : Type 0} (l : logs.Ghosts L) (p : disks.Ghosts P) where
   -- where both tell what they hold
   abbrev pub FitWhereTold : Life → Volumes L P → KeptLog → Type 0
   FitWhereTold life volumes kept = IsTrue p.tells → IsTrue l.tells → FitsLife life volumes kept
-
--- the crash of a media that a script asks for
-abbrev pub crash_of : How → Crash
-crash_of hows.Lost = crashes.Lost
-crash_of hows.Kept = crashes.Kept
-crash_of hows.Torn = crashes.Torn

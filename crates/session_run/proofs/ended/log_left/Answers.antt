@@ -1,7 +1,8 @@
-use Rattle.engine_life.specs.Left.{FitsLife}
-use Rattle.engine_life.specs.Lives.{life_over, volumes_left}
-use Rattle.engine_life.proofs.LogFound.{found_where}
-use Rattle.engine_life.proofs.left.log_left.Goals as goal
+use Rattle.engine_life.specs.Lives.{volumes_left}
+use Rattle.session_run.specs.Fits.{FitsLife}
+use Rattle.session_run.specs.OneLife.{life_over}
+use Rattle.session_run.proofs.GoingOn.{found_where}
+use Rattle.session_run.proofs.ended.log_left.Goals as goal
 
 pub found-requires : goal.found-requires
 found-requires g c =

@@ -2,11 +2,13 @@
 ghost use base.Fml.{ftrue};
 ghost use Rattle.std.specs.Prelude.{◌≡◌, IsTrue};
 ghost use Rattle.recoverable.specs.Fit.{KeptLog};
-ghost use Rattle.engine_life.specs.Lives.{life_over, volumes_left};
-ghost use Rattle.engine_life.specs.Left.{FitLife, FitWhereTold, crash_of};
+ghost use Rattle.engine_life.specs.Lives.{volumes_left};
+ghost use Rattle.session_run.specs.Fits.{FitLife, FitWhereTold};
+ghost use Rattle.session_run.specs.Lives.{crash_of};
+ghost use Rattle.session_run.specs.OneLife.{life_over};
 
-use crate::closed::ClosedLife;
 use disk_core::{Crash, LogDisk, PageDisk};
+use engine_life::ClosedLife;
 use noted_facts::{Fact, found};
 use notes::Note;
 use std::marker::{Model, PhantomData};

@@ -1,8 +1,0 @@
-#!/bin/bash
-# nat3.sh DIR CLONE OUT
-T=/opt/rattle/toolchain/bin/clang; D=$1; cd $D
-$T -S -emit-llvm -x ir module.bc -o m.ll 2>/dev/null
-python3 /work/multi_x/hints.py $2 < m.ll > n.ll; rm m.ll
-nice -n 2 $T --target=x86_64-unknown-linux-gnu --sysroot=$D/tc -march=x86-64 -mllvm -no-trap-after-noreturn -ffunction-sections -fdata-sections --no-default-config -Wno-everything -c -x ir n.ll -o n.o -fPIE -O3
-gcc -pie -o $3 n.o /opt/rattle/c/libos_c.a /opt/rattle/c/liblibc_c.a -lpthread -lm -Wl,--gc-sections 2>&1 | head -5
-rm -f n.ll n.o; ls -la $3
